@@ -1,0 +1,9 @@
+pub mod Told
+pub mod Tests
+pub mod Table
+pub mod Parts
+pub mod Lines
+pub mod Moves
+pub mod Packed
+pub mod Octets
+pub mod OneOutcome

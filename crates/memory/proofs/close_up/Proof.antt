@@ -1,0 +1,103 @@
+-- `memory::close_up` meets its contract. The loop's invariant: i - at of the later bytes have moved down, and the rest is as it was.
+-- Assumes nothing.
+use mathlib.Core.Path.{_≡_, refl, sym, _∙_, ap}
+use mathlib.Core.List.{List}
+use Prim.Native.Nat.{ℕ, suc, _+_, _-_, _≤_, _<_}
+use native.Mathlib.Nat.{sub-self}
+use native.Mathlib.Omega.{arith}
+use lib.ListN.{length, take, getD, set, length-set}
+use lib.Seq.{take-all}
+use denote.Ref.{now}
+use Rattle.memory.specs.Parts.{splice}
+use Rattle.memory.specs.Moves.{later}
+use Rattle.memory.proofs.Parts.{splice-nil, length-part}
+use Rattle.memory.proofs.Moves.{close-more, closed-no, closed-yes}
+use Rattle.memory.proofs.close_up.Statement.{statement}
+use Rattle.memory.proofs.close_up.Tie as tie
+
+record Moved (area₀ : List ℕ) (at gap end last : ℕ) (area : List ℕ) (i : ℕ) : Type 0 where
+  fits : end ≤ length area₀
+  room : at + gap ≤ end
+  upto : last ≡ end - gap
+  low : at ≤ i
+  high : i ≤ last
+  same : area ≡ splice area₀ at (take (i - at) (later area₀ at gap end))
+  long : length area ≡ length area₀
+
+abbrev Inv-loop : tie.InvT-loop
+Inv-loop area₀ at gap end last i₀ area i = Moved area₀ at gap end last area i
+
+abbrev μ-loop : tie.MeasureT-loop
+μ-loop area₀ at gap end last i₀ area i = last - i
+
+returns : tie.Need-returns Inv-loop μ-loop
+returns c = let a = c .before .args in closed-no (now (a .area)) (a .at) (a .gap) (a .end) (λ h k. omega arith)
+
+returns-2 : tie.Need-returns-2 Inv-loop μ-loop
+returns-2 c = let a = c .before .before .args in closed-no (now (a .area)) (a .at) (a .gap) (a .end) (λ h k. omega arith)
+
+returns-3 : tie.Need-returns-3 Inv-loop μ-loop
+returns-3 c = let a = c .before .before .before .args in closed-no (now (a .area)) (a .at) (a .gap) (a .end) (λ h k. omega arith)
+
+loop-holds : tie.Need-loop-holds Inv-loop μ-loop
+loop-holds c =
+    let a = c .before .before .before .args in
+    record {
+      fits = omega arith;
+      room = omega arith;
+      upto = refl;
+      low = omega arith;
+      high = omega arith;
+      same = rw sub-self (sym (splice-nil (now (a .area)) (a .at)));
+      long = refl;
+    }
+
+loop-again : tie.Need-loop-again Inv-loop μ-loop
+loop-again c =
+    let l = c .before .before .loop in
+    let a = c .before .before .before .before .before .before .args in
+    let j : ℕ = l .i - a .at in
+    let here : l .i ≡ a .at + j = omega arith in
+    let next : l .i + 1 - a .at ≡ suc j = omega arith in
+    let from : l .i + a .gap ≡ a .at + j + a .gap = omega arith in
+    let within : a .at + a .gap + j < a .end = omega arith in
+    record {
+      fits = omega arith;
+      room = omega arith;
+      upto = omega arith;
+      low = omega arith;
+      high = omega arith;
+      same = ap (λ (n : ℕ). set (l .area) n (getD (l .area) (l .i + a .gap) 0)) here
+          ∙ rw (next, from, l .inv .same) (close-more (now (a .area)) (a .at) (a .gap) (a .end) j (omega arith) within);
+      long = simp length-set (omega arith);
+    }
+
+returns-4 : tie.Need-returns-4 Inv-loop μ-loop
+returns-4 c =
+    let l = c .before .loop in
+    let a = c .before .before .before .before .before .args in
+    let n : length (later (now (a .area)) (a .at) (a .gap) (a .end)) ≡ a .end - (a .at + a .gap) =
+    length-part (now (a .area)) (a .at + a .gap) (a .end - (a .at + a .gap)) (omega arith) in
+    let all : length (later (now (a .area)) (a .at) (a .gap) (a .end)) ≤ l .i - a .at = omega arith in
+    closed-yes (now (a .area)) (a .at) (a .gap) (a .end) (omega arith) (omega arith)
+    (l .inv .same ∙ ap (splice (now (a .area)) (a .at)) (take-all (l .i - a .at) (later (now (a .area)) (a .at) (a .gap) (a .end)) all))
+
+pub close-up-spec : {M : Type 1} → statement M
+close-up-spec =
+    tie.close
+    (tie.spec
+    Inv-loop
+    μ-loop
+    returns
+    returns-2
+    returns-3
+    (λ c. omega arith)
+    loop-holds
+    (λ c. omega arith)
+    (λ c. omega arith)
+    (λ c. omega arith)
+    (λ c. omega arith)
+    (λ c. omega arith)
+    loop-again
+    (λ c. omega arith)
+    returns-4)
