@@ -1,3 +1,4 @@
+pub mod Sizes
 pub mod Parts
 pub mod Moves
 pub mod Fields

@@ -5,6 +5,15 @@ ghost use lib.Dec.{leb};
 ghost use Rattle.memory.specs.Moves.{Copied, ClosedUp};
 ghost use Rattle.memory.specs.Fields.{octets, width, fieldAt, FieldWritten};
 
+// The sizes that document 01 fixes; specs/Sizes.antt says what each is.
+pub const LINES: usize = 8;
+
+pub const MESSAGE_LIMIT: usize = 4000;
+
+pub const FRAME_LIMIT: usize = 247;
+
+pub const JOURNAL_SIZE: usize = 32768;
+
 // A number read from a field, or no such field in the memory.
 pub enum Field {
     Value(u64),
