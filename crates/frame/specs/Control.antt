@@ -1,0 +1,18 @@
+-- The control bytes of E1381 that stand in a frame.
+-- Assumes nothing.
+use Prim.Native.Nat.{ℕ}
+
+abbrev pub stx : ℕ
+stx = 0x02
+
+abbrev pub etx : ℕ
+etx = 0x03
+
+abbrev pub lf : ℕ
+lf = 0x0a
+
+abbrev pub cr : ℕ
+cr = 0x0d
+
+abbrev pub etb : ℕ
+etb = 0x17
