@@ -1,2 +1,6 @@
 pub mod Control
 pub mod Allowed
+pub mod Check
+pub mod Number
+pub mod Shape
+pub mod Writing

@@ -13,19 +13,15 @@ use lib.Dec.{leb}
 use borrow.Author.Tests.{le-leb, lt-leb}
 use Rattle.memory.specs.Parts.{part, splice}
 use Rattle.memory.specs.Moves.{fitsAt, copied, hasGap, later, closedUp, Copied, ClosedUp}
-use Rattle.memory.proofs.Parts.{length-part, length-splice, splice-join, splice-from, set-splice, getD-part, getD-behind}
+use Rattle.memory.proofs.Parts.{length-part, splice-from, set-behind, getD-part, getD-behind}
 
 -- one byte more of s is copied to `at`
 pub copy-more : (d : List ℕ) (at : ℕ) (s : List ℕ) (i : ℕ) → at + length s ≤ length d → i < length s
     → set (splice d at (take i s)) (at + i) (getD s i 0) ≡ splice d at (take (suc i) s)
 copy-more d at s i h k =
     let n : length (take i s) ≡ i = length-take-le i s (omega arith) in
-    let long : length (splice d at (take i s)) ≡ length d = length-splice d at (take i s) (rw n (omega arith)) in
-    let here : at + i < length (splice d at (take i s)) = omega arith in
-    let room : at + length (take i s) + 1 ≤ length d = omega arith in
-    set-splice (splice d at (take i s)) (at + i) (getD s i 0) here
-    ∙ ap (λ (m : ℕ). splice (splice d at (take i s)) (at + m) (getD s i 0 ∷ [])) (sym n)
-    ∙ splice-join d at (take i s) (getD s i 0 ∷ []) room
+    ap (λ (m : ℕ). set (splice d at (take i s)) (at + m) (getD s i 0)) (sym n)
+    ∙ set-behind d at (take i s) (getD s i 0) (omega arith)
     ∙ ap (splice d at) (sym (take-suc s i 0 k))
 
 module _ (d : List ℕ) (at : ℕ) (s : List ℕ) where

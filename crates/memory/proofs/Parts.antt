@@ -209,6 +209,12 @@ module _ {A : Type 0} where
   unfolding splice
   set-splice d i v h = rw (set-split d i v h, add-one i)
 
+  -- a byte stored behind a write is one more written
+  pub set-behind : (d : List A) (at : ℕ) (s : List A) (v : A) → at + length s < length d → set (splice d at s) (at + length s) v ≡ splice d at (s ++ (v ∷ []))
+  set-behind d at s v h =
+      let long : length (splice d at s) ≡ length d = length-splice d at s (omega arith) in
+      set-splice (splice d at s) (at + length s) v (omega arith) ∙ splice-join d at s (v ∷ []) (omega arith)
+
   pub getD-part : (d : List A) (at n k : ℕ) (z : A) → k < n → getD (part d at n) k z ≡ getD d (at + k) z
   unfolding part
   getD-part d at n k z h = rw (getD-take n (drop at d) k z h, getD-drop at d k z)

@@ -1,0 +1,7 @@
+pub mod Check
+pub mod Collected
+pub mod Put
+pub mod ReadBack
+pub mod Accepted
+pub mod Laws
+pub mod OneOutcome

@@ -1,0 +1,66 @@
+-- The writing of one frame into lent memory.
+-- Assumes nothing.
+use Prim.Native.Nat.{ℕ, _+_}
+use mathlib.Core.Path.{_≡_}
+use mathlib.Core.Bool.{Bool, cond, _&&_}
+use mathlib.Core.List.{List, [], _∷_, _++_}
+use mathlib.Core.Option.{Option, none, some}
+use lib.ListN.{length}
+use lib.Dec.{leb}
+use Rattle.memory.specs.Parts.{splice}
+use Rattle.memory.specs.Tests.{unless, all}
+use Rattle.frame.specs.Control.{stx, etx, lf, cr, etb}
+use Rattle.frame.specs.Allowed.{allowed}
+use Rattle.frame.specs.Check.{checkOf, digitsOf}
+use Rattle.frame.specs.Number.{mostNumber, digitFor}
+use Rattle.frame.specs.Shape.{aroundText}
+use Rattle.frame.specs.declared.End.{End}
+use Rattle.frame.specs.declared.End.the-variants.{Etb, Etx}
+use Rattle.frame.specs.declared.Written.{Written}
+use Rattle.frame.specs.declared.Written.the-variants.{NoFrame, NoRoom, Length}
+
+abbrev pub endByte : End → ℕ
+endByte Etb = etb
+endByte Etx = etx
+
+-- from the number digit to ETB or ETX: what the check counts
+unfoldable pub bodyOf : ℕ → End → List ℕ → List ℕ
+bodyOf number end text = digitFor number ∷ (text ++ (endByte end ∷ []))
+
+-- the two check digits of a body, CR, LF
+unfoldable pub tailOf : List ℕ → List ℕ
+tailOf body = digitsOf (checkOf body) .high ∷ digitsOf (checkOf body) .low ∷ cr ∷ lf ∷ []
+
+-- what is collected of a frame, and the frame: STX in front of that
+unfoldable pub collectedOf : ℕ → End → List ℕ → List ℕ
+collectedOf number end text = bodyOf number end text ++ tailOf (bodyOf number end text)
+
+unfoldable pub frameOf : ℕ → End → List ℕ → List ℕ
+frameOf number end text = stx ∷ collectedOf number end text
+
+-- a frame of this number and text can be written within the limit
+unfoldable pub isFrame : ℕ → ℕ → List ℕ → Bool
+isFrame limit number text = leb number mostNumber && leb (length text + aroundText) limit && all allowed text
+
+abbrev pub hasRoom : List ℕ → List ℕ → Bool
+hasRoom text out = leb (length text + aroundText) (length out)
+
+-- the length of the frame written, or why there is none
+unfoldable pub writtenOf : ℕ → ℕ → List ℕ → List ℕ → Written
+writtenOf limit number text out =
+    unless (isFrame limit number text) NoFrame (unless (hasRoom text out) NoRoom (Length (length text + aroundText)))
+
+-- the memory after it: the frame over its start, and unchanged where none is written
+unfoldable pub frameIn : ℕ → ℕ → End → List ℕ → List ℕ → List ℕ
+frameIn limit number end text out = cond (isFrame limit number text && hasRoom text out) (splice out 0 (frameOf number end text)) out
+
+-- what writing a frame says: the answer, and the memory after it
+pub record FrameWritten (limit number : ℕ) (end : End) (text out : List ℕ) (r : Written) (out′ : List ℕ) : Type 0 where
+  pub answer : r ≡ writtenOf limit number text out
+  pub after : out′ ≡ frameIn limit number end text out
+
+-- the paper's number of each refusal
+abbrev pub refusedBy : Written → Option ℕ
+refusedBy NoFrame = some 46
+refusedBy NoRoom = some 47
+refusedBy (Length n) = none
