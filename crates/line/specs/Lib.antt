@@ -1,0 +1,4 @@
+pub mod Line
+pub mod Seconds
+pub mod Turn
+pub mod Paper

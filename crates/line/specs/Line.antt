@@ -1,0 +1,62 @@
+-- The record of a line: fresh, within its limits, and what each kind of event leaves of it.
+-- Assumes nothing.
+use Prim.Native.Nat.{ℕ, _-_}
+use mathlib.Core.Bool.{Bool, true, false, _&&_}
+use lib.Dec.{leb}
+use Rattle.memory.specs.Sizes.{messageLimit, frameLimit}
+use Rattle.frame.specs.Number.{mostNumber, nextNumber}
+use Rattle.line.specs.declared.Line.{Line}
+use Rattle.line.specs.declared.State.{State}
+use Rattle.line.specs.declared.State.the-variants.{Neutral, Waiting, Inside}
+use Rattle.line.specs.declared.Last.{Last}
+use Rattle.line.specs.declared.Last.the-variants.{NoneYet, Number}
+
+-- a frame is judged at the last byte of the limit at the latest, and STX is not collected
+abbrev pub mostCollected : ℕ
+mostCollected = frameLimit - 2
+
+-- at 30 seconds the line turns neutral
+abbrev pub mostSeconds : ℕ
+mostSeconds = 29
+
+-- neutral, counts 0, next number 1, no last number, not refusing
+abbrev pub freshLine : Line
+freshLine = record { state = Neutral; collected = 0; joined = 0; seconds = 0; next = 1; last = NoneYet; refusing = false }
+
+-- the same, waiting
+abbrev pub openedLine : Line
+openedLine = record { state = Waiting; collected = 0; joined = 0; seconds = 0; next = 1; last = NoneYet; refusing = false }
+
+abbrev pub lastWithin : Last → Bool
+lastWithin NoneYet = true
+lastWithin (Number n) = leb n mostNumber
+
+-- collected up to 245, joined up to 4,000, seconds up to 29, numbers up to 7
+unfoldable pub withinLimits : Line → Bool
+withinLimits l =
+    leb (l .collected) mostCollected && (leb (l .joined) messageLimit && (leb (l .seconds) mostSeconds && (leb (l .next) mostNumber && lastWithin (l .last))))
+
+-- STX: inside, and nothing else
+abbrev pub begunLine : Line → Line
+begunLine l =
+    record { state = Inside; collected = l .collected; joined = l .joined; seconds = l .seconds; next = l .next; last = l .last; refusing = l .refusing }
+
+-- another count of collected bytes
+abbrev pub collectedLine : Line → ℕ → Line
+collectedLine l count =
+    record { state = l .state; collected = count; joined = l .joined; seconds = l .seconds; next = l .next; last = l .last; refusing = l .refusing }
+
+-- a judged frame: collected and second counts 0, and the line waits
+abbrev pub waitingLine : Line → Line
+waitingLine l =
+    record { state = Waiting; collected = 0; joined = l .joined; seconds = 0; next = l .next; last = l .last; refusing = l .refusing }
+
+-- and the number advances, with so many bytes joined
+abbrev pub acceptedLine : Line → ℕ → Line
+acceptedLine l count =
+    record { state = Waiting; collected = 0; joined = count; seconds = 0; next = nextNumber (l .next); last = Number (l .next); refusing = l .refusing }
+
+-- or nothing is joined any more, and the line refuses
+abbrev pub refusingLine : Line → Line
+refusingLine l =
+    record { state = Waiting; collected = 0; joined = 0; seconds = 0; next = l .next; last = l .last; refusing = true }

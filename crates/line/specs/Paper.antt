@@ -1,0 +1,84 @@
+-- The numbers of document 01's table, the values that an answer carries, and the reply.
+-- Assumes nothing.
+use Prim.Native.Nat.{ℕ}
+use mathlib.Core.Bool.{Bool, cond}
+use mathlib.Core.List.{List, [], _∷_}
+use lib.Dec.{leb, ltb}
+use Rattle.line.specs.declared.Answer.{Answer}
+use Rattle.line.specs.declared.Answer.the-variants.{Nothing, Opened, Accepted, Repeated, Stored, Ended, Dropped, TimedOut, Taken, Busy, Unended, Torn, WrongCheck, BadText, BadNumber, Refusing, OutOfTurn, TooLong, NoCr, NoMessage, NoRoom, NoLine, WrongSize, BeyondLimits, Broken, NothingWaiting, BufferShort, Malformed, NotFitting}
+use Rattle.line.specs.declared.Reply.{Reply}
+use Rattle.line.specs.declared.Reply.the-variants.{Silence, Byte}
+
+-- the answer's number
+abbrev pub numberOf : Answer → ℕ
+numberOf Nothing = 0
+numberOf Opened = 1
+numberOf Accepted = 2
+numberOf Repeated = 3
+numberOf Stored = 4
+numberOf Ended = 5
+numberOf Dropped = 6
+numberOf TimedOut = 7
+numberOf (Taken length serial) = 8
+numberOf Busy = 20
+numberOf Unended = 21
+numberOf Torn = 22
+numberOf WrongCheck = 23
+numberOf BadText = 24
+numberOf BadNumber = 25
+numberOf Refusing = 26
+numberOf OutOfTurn = 27
+numberOf TooLong = 28
+numberOf NoCr = 29
+numberOf NoMessage = 30
+numberOf NoRoom = 31
+numberOf NoLine = 40
+numberOf WrongSize = 41
+numberOf BeyondLimits = 42
+numberOf Broken = 43
+numberOf NothingWaiting = 44
+numberOf BufferShort = 45
+numberOf Malformed = 46
+numberOf NotFitting = 47
+
+-- what it carries: an entry taken has its text's length and its serial
+abbrev pub valuesOf : Answer → List ℕ
+valuesOf Nothing = []
+valuesOf Opened = []
+valuesOf Accepted = []
+valuesOf Repeated = []
+valuesOf Stored = []
+valuesOf Ended = []
+valuesOf Dropped = []
+valuesOf TimedOut = []
+valuesOf (Taken length serial) = length ∷ serial ∷ []
+valuesOf Busy = []
+valuesOf Unended = []
+valuesOf Torn = []
+valuesOf WrongCheck = []
+valuesOf BadText = []
+valuesOf BadNumber = []
+valuesOf Refusing = []
+valuesOf OutOfTurn = []
+valuesOf TooLong = []
+valuesOf NoCr = []
+valuesOf NoMessage = []
+valuesOf NoRoom = []
+valuesOf NoLine = []
+valuesOf WrongSize = []
+valuesOf BeyondLimits = []
+valuesOf Broken = []
+valuesOf NothingWaiting = []
+valuesOf BufferShort = []
+valuesOf Malformed = []
+valuesOf NotFitting = []
+
+abbrev pub ack : ℕ
+ack = 0x06
+
+abbrev pub nak : ℕ
+nak = 0x15
+
+-- 1 to 4 are acknowledged, 20 to 31 are not, and the others get no reply
+unfoldable pub replyOf : ℕ → Reply
+replyOf n = cond (ltb n 1) Silence (cond (leb n 4) (Byte ack) (cond (ltb n 20) Silence (cond (leb n 31) (Byte nak) Silence)))
