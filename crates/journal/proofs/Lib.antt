@@ -1,0 +1,11 @@
+pub mod Heads
+pub mod Starts
+pub mod Chains
+pub mod Oldest
+pub mod Totals
+pub mod Inside
+pub mod Joined
+pub mod Wholes
+pub mod Judged
+pub mod Storings
+pub mod Takings
