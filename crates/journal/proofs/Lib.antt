@@ -9,3 +9,10 @@ pub mod Wholes
 pub mod Judged
 pub mod Storings
 pub mod Takings
+pub mod Keeps
+pub mod Cases
+pub mod Guarantees
+pub mod Queue
+pub mod AnyChain
+pub mod Papers
+pub mod OneOutcome

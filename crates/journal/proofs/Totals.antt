@@ -73,3 +73,25 @@ claims-own-share sh u l n h lb s =
           rw (e, raised-own u l n h lb, a, b)
       | no e ↦ rw (raised-other u l n h lb k e)
     ])
+
+-- a count that falls, but not below its share, frees as much
+pub claims-lowered : (sh u : List ℕ) (l n : ℕ) → length u ≡ lines → l < lines → getD sh l 0 + n ≤ getD u l 0
+    → claims sh (set u l (getD u l 0 - n)) + n ≡ claims sh u + 0
+unfolding claims
+claims-lowered sh u l n h lb s =
+    let own = lowered-own u l n h lb in
+    sum-swap lines (claim sh (set u l (getD u l 0 - n))) (claim sh u) l n 0 lb (rw own (omega arith))
+    (λ k q x. rw (lowered-other u l n h lb k x))
+
+max-more : (a n s : ℕ) → max (a + n) s ≤ max a s + n
+max-more a n s = omega arith
+
+-- a count that grows claims at most as much more
+pub claims-raised-le : (sh u : List ℕ) (l n : ℕ) → length u ≡ lines → l < lines → claims sh (raised u l n) ≤ claims sh u + n
+unfolding claims
+claims-raised-le sh u l n h lb =
+    let own = raised-own u l n h lb in
+    let s = sum-swap lines (claim sh (raised u l n)) (claim sh u) l (claim sh u l) (claim sh (raised u l n) l) lb (omega arith)
+    (λ k q x. rw (raised-other u l n h lb k x)) in
+    let m : claim sh (raised u l n) l ≤ claim sh u l + n = rw own (max-more (getD u l 0) n (getD sh l 0)) in
+    omega (arith, s, m)
