@@ -78,3 +78,8 @@ module _ (d : List ℕ) (at gap end : ℕ) where
   pub closed-yes : {d′ : List ℕ} → end ≤ length d → at + gap ≤ end → d′ ≡ splice d at (later d at gap end) → ClosedUp d at gap end true d′
   unfolding closedUp
   closed-yes h k e = record { answer = rw (le-leb end (length d) h, le-leb (at + gap) end k); after = rw (le-leb end (length d) h, le-leb (at + gap) end k) e }
+
+  -- what closing up did where there is a gap
+  pub closed-fits : {r : Bool} {d′ : List ℕ} → ClosedUp d at gap end r d′ → end ≤ length d → at + gap ≤ end → (r ≡ true) × (d′ ≡ splice d at (later d at gap end))
+  unfolding closedUp
+  closed-fits c h k = (c .answer ∙ rw (le-leb end (length d) h, le-leb (at + gap) end k), c .after ∙ rw (le-leb end (length d) h, le-leb (at + gap) end k))

@@ -12,11 +12,12 @@ use lib.ListN.{length, getD, take, drop, set, replicate, replicate-append-replic
 use lib.Seq.{drop-cons}
 use lib.Pow.{pow-pos, pow-mono, pow-add, shr-shr}
 use lib.Dec.{leb, ltb}
-use borrow.Author.Tests.{le-leb, lt-leb, lt-ltb, le-ltb}
+use borrow.Author.Tests.{le-leb, lt-leb, lt-ltb, le-ltb, leb-true}
 use Rattle.memory.specs.Parts.{part, splice}
 use Rattle.memory.specs.Fields.{width, pack, unpack, octets, longestField, isField, fieldAt, holds, withField, FieldWritten}
 use Rattle.memory.specs.declared.Field.the-variants.{Value, Outside}
 use Rattle.memory.proofs.Parts.{part-add, part-splice, length-part, set-splice, splice-join-front, length-splice}
+use Rattle.memory.proofs.Tests.{and-right}
 use Rattle.memory.proofs.Packed.{pack-append, pack-below, length-unpack, pack-unpack}
 
 pub width-octets : (n : ℕ) → width (octets n) ≡ n * 8
@@ -111,3 +112,32 @@ module _ (d : List ℕ) (at size : ℕ) where
       let there : part (splice d at (unpack (octets size) n)) at size ≡ unpack (octets size) n =
       ap (part (splice d at (unpack (octets size) n)) at) (sym bytes) ∙ part-splice d at (unpack (octets size) n) (omega arith) in
       rw (long, le-leb size longestField h, le-leb (at + size) (length d) k, there, pack-unpack (octets size) n, mod-eq-of-lt b)
+
+  -- what writing did where the field holds the number
+  pub written-fits : (n : ℕ) {r : Bool} {d′ : List ℕ} → FieldWritten d at size n r d′ → size ≤ longestField → at + size ≤ length d → n < 2 ^ width (octets size)
+      → (r ≡ true) × (d′ ≡ splice d at (unpack (octets size) n))
+  unfolding withField
+  written-fits n w h k b =
+      let yes : holds d at size n ≡ true = rw (is-field h k, lt-ltb n (2 ^ width (octets size)) b) in
+      (w .answer ∙ yes, w .after ∙ rw yes)
+
+  -- what a field that was read says, and one that was not
+  value-said : (b : Bool) (m n : ℕ) → cond b (Value m) Outside ≡ Value n → (b ≡ true) × (m ≡ n)
+  value-said true m n e = (refl, cc)
+  value-said false m n e = let z : _≡_ {A = ℕ} 0 1 = cc in absurd (omega arith)
+
+  pub field-value : (n : ℕ) → fieldAt d at size ≡ Value n → (at + size ≤ length d) × (pack (octets size) (part d at size) ≡ n)
+  unfolding fieldAt
+  field-value n e =
+      let (t, q) = value-said (isField d at size) (pack (octets size) (part d at size)) n e in
+      (leb-true (at + size) (length d) (and-right (leb size longestField) (leb (at + size) (length d)) t), q)
+
+  pub field-outside : size ≤ longestField → fieldAt d at size ≡ Outside → length d < at + size
+  unfolding fieldAt
+  field-outside h e = elim (decLe (at + size) (length d)) [
+    | yes k ↦
+        let v : Value (pack (octets size) (part d at size)) ≡ Outside = rw (le-leb size longestField h, le-leb (at + size) (length d) k) at e in
+        let z : _≡_ {A = ℕ} 0 1 = cc in
+        absurd (omega arith)
+    | no k ↦ omega arith
+  ]

@@ -128,6 +128,10 @@ module _ {A : Type 0} where
         rw (drop-at (take at d) (s ++ drop (at + length s) d) at front-long)
         (take-at s (drop (at + length s) d) (length s) refl)
 
+    -- the bytes up to its end
+    pub take-through : take (at + length s) (splice d at s) ≡ take at d ++ s
+    take-through = take-add at (length s) (splice d at s) ∙ rw (take-splice at (omega arith)) (ap (λ (l : List A). take at d ++ l) (part-spelt (splice d at s) at (length s) ∙ part-splice))
+
     -- a part that ends before it, and one that starts behind it, are unchanged
     pub part-before : (k m : ℕ) → k + m ≤ at → part (splice d at s) k m ≡ part d k m
     part-before k m g = sym (part-take (splice d at s) at k m g) ∙ ap (λ (l : List A). part l k m) (take-splice at (omega arith)) ∙ part-take d at k m g

@@ -1,0 +1,75 @@
+-- Storing: what the code did is what the definition says.
+-- Assumes nothing.
+use mathlib.Core.Path.{_≡_, refl, sym, ap, _∙_}
+use mathlib.Core.List.{List, _++_}
+use mathlib.Core.Bool.{Bool, true, false}
+use Prim.Native.Nat.{ℕ, _+_, _%_, _<_, _≤_}
+use native.Mathlib.Omega.{arith}
+use lib.ListN.{length, getD, set}
+use Rattle.memory.specs.Sizes.{lines, journalSize}
+use Rattle.memory.specs.Parts.{splice}
+use Rattle.memory.specs.Moves.{Copied}
+use Rattle.memory.specs.Fields.{unpack, octets, longestField, FieldWritten}
+use Rattle.memory.proofs.Parts.{length-splice, splice-join}
+use Rattle.memory.proofs.Moves.{copied-fits}
+use Rattle.memory.proofs.Octets.{written-fits}
+use Rattle.journal.specs.Header.{serialCount, headSize, entrySize, headNumber, header}
+use Rattle.journal.specs.Entries.{encode}
+use Rattle.journal.specs.Room.{raised}
+use Rattle.journal.specs.Answers.{isFits}
+use Rattle.journal.specs.Verdicts.{judgeOf}
+use Rattle.journal.specs.Storage.{newEntry, grown, appended, storeOf, Stored, Ready, Appended}
+use Rattle.journal.specs.declared.Ledger.{Ledger}
+use Rattle.journal.specs.declared.Verdict.{Verdict}
+use Rattle.journal.proofs.Heads.{head-size-high, head-number-below, length-header}
+use Rattle.journal.proofs.Wholes.{kept, used-below}
+use Rattle.journal.proofs.Judged.{fits-facts, fits-journal}
+
+-- ---- the entry written
+
+pub grown-is : (d : Ledger) (l n m k s : ℕ) → m ≡ d .in_use + k → k ≡ entrySize n → s ≡ (getD (d .serials) l 0 + 1) % serialCount
+    → record { in_use = m; used = set (d .used) l (getD (d .used) l 0 + k); serials = set (d .serials) l s } ≡ grown d l n
+unfolding grown
+grown-is d l n m k s e f q = rw (e, f, q)
+
+-- the header and the text behind it are the entry
+pub two-writes : (d : Ledger) (l : ℕ) (t j : List ℕ) (at h n : ℕ) (r₁ r₂ : Bool) (j₁ j₂ : List ℕ) → Ready d l t j → getD (d .serials) l 0 < serialCount
+    → h ≡ headSize (length t) → n ≡ headNumber l (length t) (getD (d .serials) l 0) → at ≡ d .in_use + h
+    → FieldWritten j (d .in_use) h n r₁ j₁ → Copied j₁ at t r₂ j₂ → j₂ ≡ appended d l t j
+unfolding appended encode header
+two-writes d l t j at h n r₁ r₂ j₁ j₂ y s hs ns bs w₁ w₂ =
+    let k = length t in
+    let head = unpack (octets h) n in
+    let long : length (unpack (octets h) n) ≡ h = rw (hs, ns) (length-header l k (getD (d .serials) l 0)) in
+    let high : h ≤ longestField = rw hs (head-size-high k) in
+    let below = rw (← hs, ← ns) at (head-number-below l k (getD (d .serials) l 0) (y .line) (y .most) s) in
+    let room : d .in_use + h + k ≤ length j = omega (arith, y .room) in
+    let is₁ : j₁ ≡ splice j (d .in_use) (unpack (octets h) n) = written-fits j (d .in_use) h n w₁ high (omega arith) below .1 in
+    let long₁ : length j₁ ≡ length j = ap length is₁ ∙ length-splice j (d .in_use) (unpack (octets h) n) (omega arith) in
+    let is₂ : j₂ ≡ splice j₁ at t = copied-fits j₁ at t w₂ (omega arith) .1 in
+    let behind : at ≡ d .in_use + length (unpack (octets h) n) = omega arith in
+    is₂ ∙ rw (is₁, behind, splice-join j (d .in_use) (unpack (octets h) n) t (omega arith), hs, ns)
+
+-- ---- the verdict and what follows it
+
+module _ (d : Ledger) (sh : List ℕ) (l : ℕ) (t j : List ℕ) where
+  pub ready : isFits (judgeOf d sh l (length t) j) ≡ true → length (d .used) ≡ lines → Ready d l t j
+  ready q u =
+      let f = fits-facts d sh l (length t) j q in
+      let k = kept d j (f .whole) in
+      record {
+        line = f .line;
+        most = f .high;
+        long = f .long;
+        room = omega (arith, fits-journal d sh j l (entrySize (length t)) k u (f .line) (f .room), f .long);
+        counted = used-below d j l k (f .line);
+      }
+
+  pub not-stored : (v : Verdict) → v ≡ judgeOf d sh l (length t) j → isFits v ≡ false → Stored d sh l t j (record { ledger = d; answer = v }) j
+  unfolding storeOf
+  not-stored v e f = record { result = rw (← e, f); after = rw (← e, f) }
+
+  pub is-stored : (v : Verdict) (d′ : Ledger) (j′ : List ℕ) → v ≡ judgeOf d sh l (length t) j → isFits v ≡ true → Appended d l t j d′ j′
+      → Stored d sh l t j (record { ledger = d′; answer = v }) j′
+  unfolding storeOf
+  is-stored v d′ j′ e f a = record { result = rw (← e, f, a .result); after = rw (← e, f) (a .after) }

@@ -1,0 +1,34 @@
+-- `chain::look` meets its contract.
+-- Assumes nothing.
+use mathlib.Core.Path.{_≡_, refl, sym, ap, _∙_}
+use native.Mathlib.Omega.{arith}
+use denote.Ref.{now}
+use borrow.Author.Tests.{not-true, not-false}
+use lib.ListN.{length-take}
+use Rattle.journal.proofs.Wholes.{beyond, unchained, chained}
+use Rattle.journal.proofs.chain.look.Statement.{statement}
+use Rattle.journal.proofs.chain.look.Tie as tie
+
+returns : tie.Need-returns
+returns c = let a = c .before .before .args in beyond (a .ledger) (a .line) (now (a .journal)) 0 (omega arith)
+
+returns-2 : tie.Need-returns-2
+returns-2 c =
+    let a = c .before .before .before .before .before .before .args in
+    unchained (a .ledger) (a .line) (now (a .journal)) 0 (omega arith) (sym (not-true _ (c .if2 .taken)) ∙ c .before .before .walk .ensures .is-whole)
+
+returns-3 : tie.Need-returns-3
+returns-3 c =
+    let a = c .before .before .before .before .before .before .before .before .before .args in
+    chained (a .ledger) (a .line) (now (a .journal)) _ _ _ _ (omega arith) (not-false _ (c .before .before .before .if2 .left)) (c .before .before .before .before .before .walk .ensures) (c .agrees .ensures)
+
+pub look-spec : {M : Type 1} → statement M
+look-spec =
+    tie.close
+    (tie.spec
+    returns
+    (λ c. rw length-take (omega arith))
+    (λ c κs. rw length-take (omega arith))
+    returns-2
+    (λ c κs. tt)
+    returns-3)

@@ -1,0 +1,17 @@
+-- `header::head_size` meets its contract.
+-- Assumes nothing.
+use native.Mathlib.Omega.{arith}
+use Rattle.journal.specs.Header.{headSize}
+use mathlib.Core.Path.{refl}
+use Rattle.journal.proofs.header.head_size.Statement.{statement}
+use Rattle.journal.proofs.header.head_size.Tie as tie
+
+returns : tie.Need-returns
+unfolding headSize
+returns c = (refl, omega arith)
+
+pub head-size-spec : {M : Type 1} → statement M
+head-size-spec =
+    tie.close
+    (tie.spec
+    returns)

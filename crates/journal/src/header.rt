@@ -1,0 +1,99 @@
+// The header of an entry, read and spelt; and the room that an entry takes.
+ghost use mathlib.Core.Path.{_≡_};
+ghost use Prim.Native.Nat.{_+_, _≤_, _<_};
+ghost use lib.ListN.{length};
+ghost use Rattle.memory.specs.Sizes.{lines, messageLimit};
+ghost use Rattle.memory.specs.Fields.{unpack, longestField};
+ghost use Rattle.journal.specs.Header.{headWidths, serialCount, headSize, entrySize, headNumber, fieldsOf};
+ghost use Rattle.journal.specs.Entries.{wholeHead, firstHead};
+
+pub struct Header {
+    pub line: usize,
+    pub spare: u64,
+    pub count: usize,
+    pub serial: u16,
+}
+
+// No header is shorter.
+const LEAST_HEAD: usize = 4;
+
+// What one weighs in the number that a header spells: of the text's length, of the spare bit, of the line.
+const LENGTH_AT: u64 = 65536;
+
+const SPARE_AT: u64 = 268435456;
+
+const LINE_AT: u64 = 536870912;
+
+// The bytes of a header, and of an entry, by the length of the text.
+pub fn head_size(count: usize) -> usize
+    ensures { λ r. ⌜ (r ≡ headSize count) × (r ≤ longestField) ⌝ }
+{
+    LEAST_HEAD
+}
+
+pub fn entry_size(count: usize) -> usize
+    requires { ⌜ count ≤ messageLimit ⌝ }
+    ensures { λ r. ⌜ (r ≡ entrySize count) × (r ≤ longestField + messageLimit) ⌝ }
+{
+    head_size(count) + count
+}
+
+// The number that the bytes of a header spell: its spare bit is 0.
+pub fn number(line: usize, count: usize, serial: u16) -> u64
+    requires { ⌜ (line < lines) × (count ≤ messageLimit) ⌝ }
+    ensures { λ r. ⌜ (r ≡ headNumber line count serial) × (serial < serialCount) ⌝ }
+{
+    line as u64 * LINE_AT + count as u64 * LENGTH_AT + serial as u64
+}
+
+fn fields(n: u64) -> Header
+    ensures { λ r. ⌜ r ≡ fieldsOf (unpack headWidths n) ⌝ }
+{
+    Header {
+        line: (n / LINE_AT % 8) as usize,
+        spare: n / SPARE_AT % 2,
+        count: (n / LENGTH_AT % 4096) as usize,
+        serial: (n % 65536) as u16,
+    }
+}
+
+// The header, or one with text length 0 where no entry with this header lies within `room` bytes.
+fn whole(h: Header, room: usize) -> Header
+    ensures { λ r. ⌜ r ≡ wholeHead h room ⌝ }
+{
+    let none = Header {
+        line: 0,
+        spare: 0,
+        count: 0,
+        serial: 0,
+    };
+    if h.spare != 0 {
+        return none;
+    }
+    if h.count < 1 {
+        return none;
+    }
+    if memory::MESSAGE_LIMIT < h.count {
+        return none;
+    }
+    let count = h.count;
+    if room < entry_size(count) {
+        return none;
+    }
+    h
+}
+
+// The header of the entry that s starts with, with text length 0 where s starts with no whole entry. No byte of the text is read.
+pub fn entry_at(s: &[u8]) -> Header
+    ensures { λ r. ⌜ r ≡ firstHead (now (s .entry)) ⌝ }
+{
+    match memory::read_field(s, 0, LEAST_HEAD) {
+        memory::Field::Value(n) => whole(fields(n), s.len()),
+        memory::Field::Outside => Header {
+            line: 0,
+            spare: 0,
+            count: 0,
+            serial: 0,
+        },
+    }
+}
