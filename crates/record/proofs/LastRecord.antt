@@ -9,7 +9,7 @@ use native.Mathlib.Omega.{arith}
 use native.Mathlib.Decide.{decLt}
 use native.Mathlib.Numerals.{add-one}
 use lib.Dec.{eqb}
-use lib.ListN.{length, getD, take, drop, length-append, length-take, length-drop, take-append-drop, drop-of-length-le}
+use lib.ListN.{length, getD, take, drop, length-append, length-take, length-drop, take-append-drop, drop-of-length-le, List·getD-eq-default}
 use lib.Seq.{drop-cons, getD-drop, getD-take, length-take-le, take-append-add, getD-append-add, take-at, drop-at}
 use borrow.Author.Tests.{eq-eqb, ne-eqb}
 use Rattle.memory.specs.Tests.{is, all}
@@ -118,15 +118,10 @@ first-byte s last start h e k =
       | yes q ↦ rw (there, getD-take last s start 0 q)
       | no q ↦
           let same : start ≡ last = omega arith in
-          let past : getD (take last s) start 0 ≡ 0 = getD-past (take last s) start (omega arith) in
+          let le : length (take last s) ≤ start = omega arith in
+          let past : getD (take last s) start 0 ≡ 0 = List·getD-eq-default (take last s) 0 le in
           rw (there, past, same, e)
     ]
-  where
-    getD-past : (l : List ℕ) (i : ℕ) → length l ≤ i → getD l i 0 ≡ 0
-    getD-past [] zero p = refl
-    getD-past [] (suc i) p = refl
-    getD-past (x ∷ l) zero p = absurd (omega arith)
-    getD-past (x ∷ l) (suc i) p = getD-past l i (omega arith)
 
 -- the answers for a text in one piece
 pub ends-empty : (s : List ℕ) → length s ≡ 0 → endsWithL s ≡ false

@@ -6,25 +6,16 @@ use Rattle.record.specs.Faults.{fault, isFaultless}
 use Rattle.record.specs.declared.Delimiters.{Delimiters}
 use Rattle.record.proofs.is_message.Statement.{statement}
 use Rattle.record.proofs.is_message.Tie as tie
-use Rattle.record.proofs.is_message.Reads as reads
-use Rattle.record.proofs.is_message.Lts as lts
-use Rattle.record.proofs.Delimiters.standard.Reads as standard-reads
-use Rattle.record.proofs.check.Reads as check-reads
-use Rattle.record.proofs.is_faultless.Reads as is-faultless-reads
 
--- src/lib.rt:447:23
 standard-requires : tie.Need-standard-requires
 standard-requires c κs = search needs
 
--- src/lib.rt:447:9
 check-requires : tie.Need-check-requires
 check-requires c κs = search needs
 
--- src/lib.rt:448:5
 is-faultless-requires : tie.Need-is-faultless-requires
 is-faultless-requires c κs = search needs
 
--- src/lib.rt:444:1
 returns : tie.Need-returns
 returns c =
     let text = c .before .before .before .before .args .text .now in
