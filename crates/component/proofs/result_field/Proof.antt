@@ -15,7 +15,7 @@ field-of-requires c κs = search needs
 
 returns : tie.Need-returns
 returns c =
-    let a = c .before .before .args in
+    let a = c .before .before .before .args in
     c .field-of .ensures ∙ ap (λ (n : ℕ). fieldOf (a .d .field) n (a .rec .now)) (c .before .result-number .ensures)
 
 pub result-field-spec : {M : Type 1} → statement M
