@@ -7,7 +7,7 @@ use native.Mathlib.Nat.{add-assoc, add-zero, zero-add, sub-zero, zero-sub}
 use native.Mathlib.Numerals.{add-one}
 use native.Mathlib.Omega.{arith}
 use lib.ListN.{length, take, drop, getD, set, length-append, length-take, length-drop, take-append-drop}
-use lib.Seq.{take-append-le, drop-append-le, take-append-add, drop-append-add, take-at, drop-at, take-take, drop-drop, take-add, take-all, take-nil, length-take-le, set-split, getD-take, getD-drop}
+use lib.Seq.{take-append-le, drop-append-le, take-append-add, drop-append-add, take-at, drop-at, take-take, drop-drop, take-add, take-all, take-nil, length-take-le, set-split, getD-take, getD-drop, sets, sets-eq}
 use Rattle.memory.specs.Parts.{part, splice}
 
 -- a take and then a drop, the other way round
@@ -222,3 +222,8 @@ module _ {A : Type 0} where
   pub getD-part : (d : List A) (at n k : ℕ) (z : A) → k < n → getD (part d at n) k z ≡ getD d (at + k) z
   unfolding part
   getD-part d at n k z h = rw (getD-take n (drop at d) k z h, getD-drop at d k z)
+
+  -- single stores one behind the other are one write
+  pub sets-splice : (d : List A) (at : ℕ) (s : List A) → at + length s ≤ length d → sets d at s ≡ splice d at s
+  unfolding splice
+  sets-splice d at s h = sets-eq s d at h ∙ append-assoc (take at d) s (drop (at + length s) d)

@@ -1,0 +1,39 @@
+use mathlib.Core.Path.{_≡_, sym, _∙_, refl}
+use mathlib.Core.Bool.{true}
+use native.Mathlib.Omega.{arith}
+use lib.Dec.{leb}
+use lib.ListN.{length}
+use borrow.Author.Tests.{not-true, not-false, leb-true}
+use Rattle.component.specs.Escape.{escaped}
+use Rattle.component.proofs.Escapes.{escape-short, escape-done}
+use borrow.Author.Needs.{needs}
+use Rattle.component.proofs.escape.Statement.{statement}
+use Rattle.component.proofs.escape.Tie as tie
+
+-- past the test
+room : (c : tie.Else1) → leb (length (escaped (c .before .before .before .before .args .d) (c .before .before .before .before .args .text .now))) (length (c .before .before .before .before .args .out .now)) ≡ true
+room c = sym (c .before .fits2 .ensures) ∙ not-false _ (c .if1 .left)
+
+fits-requires : tie.Need-fits-requires
+fits-requires c κs = search needs
+
+returns : tie.Need-returns
+returns c =
+    let a = c .before .before .before .before .args in
+    escape-short (a .d) (a .text .now) (a .out .now) (sym (c .before .fits2 .ensures) ∙ not-true _ (c .if1 .taken))
+
+write-requires : tie.Need-write-requires
+write-requires c κs = leb-true _ _ (room (c .before))
+
+same-length : tie.Need-same-length
+same-length c = search needs
+
+returns-2 : tie.Need-returns-2
+returns-2 c =
+    let e = c .before .before .before .before in
+    let a = e .before .before .before .before .args in
+    escape-done (a .d) (a .text .now) (a .out .now) (room e) (c .before .before .write .ensures .0) (c .before .before .write .ensures .1)
+
+pub escape-spec : {M : Type 1} → statement M
+escape-spec =
+    tie.close (tie.spec fits-requires returns write-requires same-length returns-2)

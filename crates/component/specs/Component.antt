@@ -1,0 +1,24 @@
+-- Where a component ends.
+-- Assumes nothing.
+use Prim.Native.Nat.{ℕ, _+_}
+use mathlib.Core.List.{List, [], _∷_}
+use mathlib.Core.Bool.{Bool, false, true, _||_}
+use lib.Dec.{eqb}
+use lib.ListN.{drop}
+use Rattle.memory.specs.Tests.{find}
+use Rattle.frame.specs.Control.{cr}
+use Rattle.record.specs.declared.Delimiters.{Delimiters}
+
+-- b is one of these bytes
+abbrev pub isOneOf : List ℕ → ℕ → Bool
+isOneOf [] b = false
+isOneOf (x ∷ xs) b = eqb b x || isOneOf xs b
+
+-- a component ends at | \ ^ or CR; & goes on
+abbrev pub stopsOf : Delimiters → List ℕ
+stopsOf d = d .field ∷ d .repeat ∷ d .component ∷ cr ∷ []
+
+-- the end of the component that starts at `start`: the first such byte from there on, or the end of the text.
+-- A start past the end is its own end.
+abbrev pub componentEnd : Delimiters → List ℕ → ℕ → ℕ
+componentEnd d text start = start + find (isOneOf (stopsOf d)) (drop start text)

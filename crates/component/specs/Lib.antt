@@ -1,0 +1,4 @@
+pub mod Component
+pub mod ResultFields
+pub mod Escape
+pub mod Unescape

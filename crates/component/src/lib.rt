@@ -1,0 +1,146 @@
+// Fields and components of a record, and field text with escapes and without.
+ghost use mathlib.Core.Path.{_≡_};
+ghost use Rattle.record.specs.Fields.{fieldOf};
+ghost use Rattle.component.specs.Component.{componentEnd};
+ghost use Rattle.component.specs.ResultFields.{resultNumber};
+ghost use Rattle.component.specs.Escape.{Escaping};
+ghost use Rattle.component.specs.Unescape.{Unescaping};
+use record::Delimiters;
+
+mod escaping; // escaping.rt: delimiters into escapes
+mod unescaping; // unescaping.rt: escapes into delimiters
+
+// The fields of a result record (R): test, value, units, flag, status and completion time.
+pub enum ResultField {
+    Test,
+    Value,
+    Units,
+    Flag,
+    Status,
+    Completion,
+}
+
+// What becomes of a text that is escaped or unescaped: it is put out, with this length; it has a wrong escape; the memory is too short.
+pub enum Put {
+    Done(usize),
+    Malformed,
+    Short,
+}
+
+// Where an unescaping stands: outside an escape, behind its &, or behind its letter, which stands for this byte.
+pub enum Place {
+    Plain,
+    Open,
+    Held(u8),
+}
+
+// What a byte does to it: the place changes, a byte is put out, or the text is refused.
+pub enum Turn {
+    Keep(Place),
+    Give(u8),
+    Bad,
+}
+
+// The length of a component without its escapes, if they are right.
+pub enum Measured {
+    Of(usize),
+    Wrong,
+}
+
+// The end of the component that starts at `start`: the first | \ ^ or CR from there on, or the end of the text.
+pub fn component_end(d: Delimiters, text: &[u8], start: usize) -> usize
+    ensures { λ r. ⌜ r ≡ componentEnd d (now (text .entry)) start ⌝ }
+{
+    let stops = [d.field, d.repeat, d.component, record::CR];
+    let mut i = start;
+    let end = 'scan: loop {
+        if text.len() <= i {
+            break 'scan i;
+        }
+        let b = text[i];
+        let mut k: usize = 0;
+        while k < 4 {
+            if b == stops[k] {
+                break 'scan i;
+            }
+            k += 1;
+        }
+        i += 1;
+    };
+    end
+}
+
+// A record's field, counted from 1: a part of the record, empty where the field is absent.
+pub fn field_of<'a>(d: Delimiters, rec: &'a [u8], n: usize) -> &'a [u8]
+    ensures { λ r. ⌜ now r ≡ fieldOf (d .field) n (now (rec .entry)) ⌝ }
+{
+    if n == 0 {
+        return &rec[0..0];
+    }
+    let b = d.field;
+    let mut at: usize = 0;
+    let mut left = n;
+    while 1 < left {
+        if rec.len() <= at {
+            return &rec[0..0];
+        }
+        let e = record::index_of(&rec[at..], b);
+        at = at + (e + 1);
+        left = left - 1;
+    }
+    if rec.len() <= at {
+        return &rec[0..0];
+    }
+    let rest = &rec[at..];
+    let e = record::index_of(rest, b);
+    &rest[..e]
+}
+
+// A named field of a result record.
+pub fn result_field<'a>(d: Delimiters, rec: &'a [u8], f: ResultField) -> &'a [u8]
+    ensures { λ r. ⌜ now r ≡ fieldOf (d .field) (resultNumber f) (now (rec .entry)) ⌝ }
+{
+    let n = result_number(f);
+    field_of(d, rec, n)
+}
+
+fn result_number(f: ResultField) -> usize
+    ensures { λ r. ⌜ r ≡ resultNumber f ⌝ }
+{
+    match f {
+        ResultField::Test => 3,
+        ResultField::Value => 4,
+        ResultField::Units => 5,
+        ResultField::Flag => 7,
+        ResultField::Status => 9,
+        ResultField::Completion => 13,
+    }
+}
+
+// Escapes a text: | ^ \ & become &F& &S& &R& &E&.
+pub fn escape(d: Delimiters, text: &[u8], out: &mut [u8]) -> Put
+    ensures { λ r. ⌜ Escaping d (now (text .entry)) (now (out .entry)) r (now (out .exit)) ⌝ }
+{
+    if !escaping::fits(d, text, out.len()) {
+        return Put::Short;
+    }
+    let n = escaping::write(d, text, out);
+    Put::Done(n)
+}
+
+// Takes the escapes out of a component.
+pub fn unescape(d: Delimiters, text: &[u8], out: &mut [u8]) -> Put
+    ensures { λ r. ⌜ Unescaping d (now (text .entry)) (now (out .entry)) r (now (out .exit)) ⌝ }
+{
+    let m = unescaping::measure(d, text);
+    match m {
+        Measured::Of(n) => {
+            if out.len() < n {
+                return Put::Short;
+            }
+            unescaping::write(d, text, out);
+            Put::Done(n)
+        }
+        Measured::Wrong => Put::Malformed,
+    }
+}

@@ -1,0 +1,34 @@
+use mathlib.Core.Path.{_≡_, sym, _∙_}
+use Prim.Native.Nat.{ℕ}
+use native.Mathlib.Omega.{arith}
+use borrow.Author.Tests.{eq-eqb, ne-eqb}
+use Rattle.memory.specs.Tests.{is, find}
+use Rattle.memory.proofs.Tests.{find-le}
+use Rattle.record.specs.Kinds.{typeOf}
+use Rattle.record.proofs.Scans.{before-length, before-first}
+use borrow.Author.Needs.{needs}
+use Rattle.record.proofs.type_of.Statement.{statement}
+use Rattle.record.proofs.type_of.Tie as tie
+
+index-of-requires : tie.Need-index-of-requires
+index-of-requires c κs = search needs
+
+returns : tie.Need-returns
+unfolding typeOf
+returns c = let a = c .before .before .before .args in rw (before-length (a .b) (a .rec .now), ← c .before .index-of .ensures, ne-eqb _ _ (c .if1 .taken))
+
+shared-slice-read-first : tie.Need-shared-slice-read-first
+shared-slice-read-first c = let a = c .before .before .before .before .args in omega (arith, find-le (is (a .b)) (a .rec .now), c .before .before .index-of .ensures, c .before .if1 .left)
+
+kind-of-requires : tie.Need-kind-of-requires
+kind-of-requires c κs = search needs
+
+returns-2 : tie.Need-returns-2
+unfolding typeOf
+returns-2 c = let a = c .before .before .before .before .before .args in
+    let one : find (is (a .b)) (a .rec .now) ≡ 1 = sym (c .before .before .before .index-of .ensures) ∙ c .before .before .if1 .left in
+    rw (before-length (a .b) (a .rec .now), before-first (a .b) (a .rec .now) one, one) (c .kind-of .ensures)
+
+pub type-of-spec : {M : Type 1} → statement M
+type-of-spec =
+    tie.close (tie.spec index-of-requires returns shared-slice-read-first kind-of-requires returns-2)

@@ -1,0 +1,6 @@
+pub mod Delimiters
+pub mod Kinds
+pub mod Fields
+pub mod Records
+pub mod Numbers
+pub mod Faults

@@ -1,0 +1,501 @@
+// E1394 records: types, what may follow what, sequence numbers, and whether a text is a message.
+ghost use mathlib.Core.Path.{_≡_};
+ghost use mathlib.Core.List.{_++_};
+ghost use lib.ListN.{length};
+ghost use Rattle.memory.specs.Tests.{is, find};
+ghost use Rattle.record.specs.Delimiters.{standard};
+ghost use Rattle.record.specs.Kinds.{kindOf, typeOf, mayFollow, rowOf, isTerminator};
+ghost use Rattle.record.specs.Fields.{fieldOf};
+ghost use Rattle.record.specs.Records.{records, lastStart, endsWithL};
+ghost use Rattle.record.specs.Numbers.{numberOf, countOf, restarted, counted};
+ghost use Rattle.record.specs.Faults.{placed, kindStep, recordStep, isHeader, headerStep, fault, isFaultless, isMessage};
+
+mod walk; // walk.rt: the records of a text, front to back
+
+// The byte that ends a record.
+pub const CR: u8 = 0x0d;
+
+// The delimiters of a message: between fields, between repeats, between components, and around an escape.
+pub struct Delimiters {
+    pub field: u8,
+    pub repeat: u8,
+    pub component: u8,
+    pub escape: u8,
+}
+
+impl Delimiters {
+    // | \ ^ &
+    pub fn standard() -> Delimiters
+        ensures { λ r. ⌜ r ≡ standard ⌝ }
+    {
+        Delimiters {
+            field: b'|',
+            repeat: 0x5c,
+            component: b'^',
+            escape: b'&',
+        }
+    }
+}
+
+// The record types, in the order of their rows: H P O R Q L C M.
+pub enum Kind {
+    Header,
+    Patient,
+    Order,
+    Result,
+    Query,
+    Terminator,
+    Comment,
+    Manufacturer,
+}
+
+// What a letter names.
+pub enum Letter {
+    Known(Kind),
+    Unknown,
+}
+
+// The last record that is neither C nor M, and the number that each type has reached.
+pub struct Counts {
+    pub other: Kind,
+    pub patients: u32,
+    pub queries: u32,
+    pub orders: u32,
+    pub results: u32,
+    pub comments: u32,
+    pub manufacturers: u32,
+}
+
+// What can be wrong with the records of a text.
+pub enum Fault {
+    NoHeader,
+    UnknownType,
+    Misplaced,
+    WrongNumber,
+    Unended,
+}
+
+// What one record leads to.
+pub enum Step {
+    Fine(Counts),
+    Wrong(Fault),
+}
+
+// What the check of a text finds: a message; no text at all, since it is too long or has a byte that is not allowed; or its first
+// fault and the place of that record, counted from 1.
+pub enum Checked {
+    Message,
+    NotText,
+    Faulty(Fault, usize),
+}
+
+// The type that a letter names.
+pub fn kind_of(b: u8) -> Letter
+    ensures { λ r. ⌜ r ≡ kindOf b ⌝ }
+{
+    match b {
+        b'H' => Letter::Known(Kind::Header),
+        b'P' => Letter::Known(Kind::Patient),
+        b'O' => Letter::Known(Kind::Order),
+        b'R' => Letter::Known(Kind::Result),
+        b'Q' => Letter::Known(Kind::Query),
+        b'L' => Letter::Known(Kind::Terminator),
+        b'C' => Letter::Known(Kind::Comment),
+        b'M' => Letter::Known(Kind::Manufacturer),
+        _ => Letter::Unknown,
+    }
+}
+
+// A row for each type, H P O R Q L C M: the types that may follow it. C and M are passed over, so their own rows are not asked.
+const FOLLOWERS: [[bool; 8]; 8] = [
+    [false, true, true, false, true, true, true, true],
+    [false, true, true, false, true, true, true, true],
+    [false, true, true, true, true, true, true, true],
+    [false, true, true, true, true, true, true, true],
+    [false, true, false, false, true, true, true, true],
+    [false, false, false, false, false, false, false, false],
+    [false, false, false, false, false, false, false, false],
+    [false, false, false, false, false, false, false, false],
+];
+
+fn row_of(k: Kind) -> usize
+    ensures { λ r. ⌜ r ≡ rowOf k ⌝ }
+{
+    match k {
+        Kind::Header => 0,
+        Kind::Patient => 1,
+        Kind::Order => 2,
+        Kind::Result => 3,
+        Kind::Query => 4,
+        Kind::Terminator => 5,
+        Kind::Comment => 6,
+        Kind::Manufacturer => 7,
+    }
+}
+
+// Whether a record of type k may stand where `other` is the last record that is neither C nor M.
+pub fn may_follow(other: Kind, k: Kind) -> bool
+    ensures { λ r. ⌜ r ≡ mayFollow other k ⌝ }
+{
+    let i = row_of(other);
+    let j = row_of(k);
+    FOLLOWERS[i][j]
+}
+
+// The index of the first byte b, or the length where there is none.
+pub fn index_of(text: &[u8], b: u8) -> usize
+    ensures { λ r. ⌜ r ≡ find (is b) (now (text .entry)) ⌝ }
+{
+    let mut i: usize = 0;
+    while i < text.len() {
+        if text[i] == b {
+            return i;
+        }
+        i += 1;
+    }
+    i
+}
+
+// A decimal number from 1 to 999999 with no leading zero, or 0 for any other field.
+fn number(f: &[u8]) -> u32
+    ensures { λ r. ⌜ r ≡ numberOf (now (f .entry)) ⌝ }
+{
+    if f.len() == 0 {
+        return 0;
+    }
+    if 6 < f.len() {
+        return 0;
+    }
+    if f[0] == b'0' {
+        return 0;
+    }
+    let mut n: u32 = 0;
+    let mut i: usize = 0;
+    while i < f.len() {
+        let b = f[i];
+        if b < b'0' {
+            return 0;
+        }
+        if b'9' < b {
+            return 0;
+        }
+        n = n * 10 + wide(b - b'0');
+        i += 1;
+    }
+    n
+}
+
+fn wide(x: u8) -> u32
+    ensures { λ r. ⌜ r ≡ x ⌝ }
+{
+    x as u32
+}
+
+// The number that a type has reached; L always has 1.
+fn count_of(s: Counts, k: Kind) -> u32
+    ensures { λ r. ⌜ r ≡ countOf s k ⌝ }
+{
+    match k {
+        Kind::Header => 0,
+        Kind::Patient => s.patients,
+        Kind::Order => s.orders,
+        Kind::Result => s.results,
+        Kind::Query => s.queries,
+        Kind::Terminator => 0,
+        Kind::Comment => s.comments,
+        Kind::Manufacturer => s.manufacturers,
+    }
+}
+
+// The counts behind a record of type k that is neither C nor M: C and M restart.
+fn restart(s: Counts, k: Kind) -> Counts
+    ensures { λ r. ⌜ r ≡ restarted s k ⌝ }
+{
+    Counts {
+        other: k,
+        patients: s.patients,
+        queries: s.queries,
+        orders: s.orders,
+        results: s.results,
+        comments: 0,
+        manufacturers: 0,
+    }
+}
+
+// The counts after a record of a type with number n.
+fn count_on(s: Counts, k: Kind, n: u32) -> Counts
+    ensures { λ r. ⌜ r ≡ counted s k n ⌝ }
+{
+    let mut t = restart(s, k);
+    match k {
+        Kind::Header => s,
+        Kind::Patient => {
+            t.patients = n;
+            t.orders = 0;
+            t
+        }
+        Kind::Order => {
+            t.orders = n;
+            t.results = 0;
+            t
+        }
+        Kind::Result => {
+            t.results = n;
+            t
+        }
+        Kind::Query => {
+            t.queries = n;
+            t
+        }
+        Kind::Terminator => t,
+        Kind::Comment => with_comments(s, n),
+        Kind::Manufacturer => with_manufacturers(s, n),
+    }
+}
+
+fn with_comments(s: Counts, n: u32) -> Counts
+    ensures { λ r. ⌜ r ≡ counted s Kind.Comment n ⌝ }
+{
+    let mut t = s;
+    t.comments = n;
+    t
+}
+
+fn with_manufacturers(s: Counts, n: u32) -> Counts
+    ensures { λ r. ⌜ r ≡ counted s Kind.Manufacturer n ⌝ }
+{
+    let mut t = s;
+    t.manufacturers = n;
+    t
+}
+
+fn is_terminator(k: Kind) -> bool
+    ensures { λ r. ⌜ r ≡ isTerminator k ⌝ }
+{
+    match k {
+        Kind::Header => false,
+        Kind::Patient => false,
+        Kind::Order => false,
+        Kind::Result => false,
+        Kind::Query => false,
+        Kind::Terminator => true,
+        Kind::Comment => false,
+        Kind::Manufacturer => false,
+    }
+}
+
+// L stands last, and nothing else does.
+fn is_placed(last: bool, k: Kind) -> bool
+    ensures { λ r. ⌜ r ≡ placed last k ⌝ }
+{
+    if last { is_terminator(k) } else { true }
+}
+
+// The type that field 1 names.
+fn type_of(b: u8, rec: &[u8]) -> Letter
+    ensures { λ r. ⌜ r ≡ typeOf (fieldOf b 1 (now (rec .entry))) ⌝ }
+{
+    let e = index_of(rec, b);
+    if e != 1 {
+        return Letter::Unknown;
+    }
+    let first = rec[0];
+    kind_of(first)
+}
+
+// The number in field 2, or 0.
+fn sequence_of(b: u8, rec: &[u8]) -> u32
+    ensures { λ r. ⌜ r ≡ numberOf (fieldOf b 2 (now (rec .entry))) ⌝ }
+{
+    let e = index_of(rec, b);
+    if rec.len() <= e {
+        return 0;
+    }
+    let from = e + 1;
+    let rest = &rec[from..];
+    let to = index_of(rest, b);
+    number(&rest[..to])
+}
+
+// What a record of a known type with number n leads to.
+fn check_kind(s: Counts, last: bool, k: Kind, n: u32) -> Step
+    ensures { λ r. ⌜ r ≡ kindStep s last (Letter.Known k) n ⌝ }
+{
+    let other = s.other;
+    if !may_follow(other, k) {
+        return Step::Wrong(Fault::Misplaced);
+    }
+    if !is_placed(last, k) {
+        return Step::Wrong(Fault::Misplaced);
+    }
+    if n == 0 {
+        return Step::Wrong(Fault::WrongNumber);
+    }
+    if n - 1 != count_of(s, k) {
+        return Step::Wrong(Fault::WrongNumber);
+    }
+    Step::Fine(count_on(s, k, n))
+}
+
+// A record behind the first.
+fn check_record(d: Delimiters, s: Counts, last: bool, rec: &[u8]) -> Step
+    ensures { λ r. ⌜ r ≡ recordStep d s last (now (rec .entry)) ⌝ }
+{
+    let b = d.field;
+    let t = type_of(b, rec);
+    let n = sequence_of(b, rec);
+    match t {
+        Letter::Known(k) => check_kind(s, last, k, n),
+        Letter::Unknown => Step::Wrong(Fault::UnknownType),
+    }
+}
+
+// Whether the record begins with H and the four delimiters.
+fn is_header(d: Delimiters, rec: &[u8]) -> bool
+    ensures { λ r. ⌜ r ≡ isHeader d (now (rec .entry)) ⌝ }
+{
+    if rec.len() < 5 {
+        return false;
+    }
+    if rec[0] != b'H' {
+        return false;
+    }
+    if rec[1] != d.field {
+        return false;
+    }
+    if rec[2] != d.repeat {
+        return false;
+    }
+    if rec[3] != d.component {
+        return false;
+    }
+    rec[4] == d.escape
+}
+
+// The first record.
+fn check_header(d: Delimiters, last: bool, rec: &[u8]) -> Step
+    ensures { λ r. ⌜ r ≡ headerStep d last (now (rec .entry)) ⌝ }
+{
+    if !is_header(d, rec) {
+        return Step::Wrong(Fault::NoHeader);
+    }
+    if last {
+        return Step::Wrong(Fault::Misplaced);
+    }
+    Step::Fine(Counts {
+        other: Kind::Header,
+        patients: 0,
+        queries: 0,
+        orders: 0,
+        results: 0,
+        comments: 0,
+        manufacturers: 0,
+    })
+}
+
+// The number of records; bytes behind the last CR count as one.
+pub fn count_records(text: &[u8]) -> usize
+    ensures { λ r. ⌜ r ≡ length (records (now (text .entry))) ⌝ }
+{
+    let mut at: usize = 0;
+    let mut n: usize = 0;
+    while at < text.len() {
+        let tail = &text[at..];
+        let e = index_of(tail, CR);
+        at = at + (e + 1);
+        n += 1;
+    }
+    n
+}
+
+// Whether a text is a message by these delimiters, and the first fault of one that is not.
+pub fn check(d: Delimiters, text: &[u8]) -> Checked
+    ensures { λ r. ⌜ r ≡ fault d (now (text .entry)) ⌝ }
+{
+    let n = text.len();
+    if memory::MESSAGE_LIMIT < n {
+        return Checked::NotText;
+    }
+    if !frame::all_allowed(text) {
+        return Checked::NotText;
+    }
+    if n == 0 {
+        return Checked::Faulty(Fault::NoHeader, 1);
+    }
+    if text[n - 1] != CR {
+        let place = count_records(text);
+        return Checked::Faulty(Fault::Unended, place);
+    }
+    walk::check_all(d, text)
+}
+
+fn is_faultless(c: Checked) -> bool
+    ensures { λ r. ⌜ r ≡ isFaultless c ⌝ }
+{
+    match c {
+        Checked::Message => true,
+        Checked::NotText => false,
+        Checked::Faulty(_, _) => false,
+    }
+}
+
+// Whether a text is a message, by the delimiters | \ ^ &.
+pub fn is_message(text: &[u8]) -> bool
+    ensures { λ r. ⌜ r ≡ isMessage standard (now (text .entry)) ⌝ }
+{
+    let found = check(Delimiters::standard(), text);
+    is_faultless(found)
+}
+
+// Where the bytes behind the last CR start: 0 where there is no CR.
+fn last_start(text: &[u8]) -> usize
+    ensures { λ r. ⌜ r ≡ lastStart (now (text .entry)) ⌝ }
+{
+    let mut i = text.len();
+    while 0 < i {
+        if text[i - 1] == CR {
+            return i;
+        }
+        i -= 1;
+    }
+    0
+}
+
+// Whether a text ends with CR and its last record begins with L.
+pub fn ends_with_l(text: &[u8]) -> bool
+    ensures { λ r. ⌜ r ≡ endsWithL (now (text .entry)) ⌝ }
+{
+    let n = text.len();
+    if n == 0 {
+        return false;
+    }
+    let last = n - 1;
+    if text[last] != CR {
+        return false;
+    }
+    let start = last_start(&text[..last]);
+    text[start] == b'L'
+}
+
+// The same of a text that lies in two pieces: what came before, and what is joined to it.
+pub fn joined_ends_with_l(old: &[u8], new: &[u8]) -> bool
+    ensures { λ r. ⌜ r ≡ endsWithL (now (old .entry) ++ now (new .entry)) ⌝ }
+{
+    let n = new.len();
+    if n == 0 {
+        return ends_with_l(old);
+    }
+    let last = n - 1;
+    if new[last] != CR {
+        return false;
+    }
+    let start = last_start(&new[..last]);
+    if 0 < start {
+        return new[start] == b'L';
+    }
+    let begin = last_start(old);
+    if begin < old.len() {
+        return old[begin] == b'L';
+    }
+    new[0] == b'L'
+}
