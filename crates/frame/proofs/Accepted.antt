@@ -18,6 +18,7 @@ use Rattle.frame.specs.Check.{digitsOf, checkOf}
 use Rattle.frame.specs.Number.{mostNumber, digitFor, isNumber, numberFrom}
 use Rattle.frame.specs.Shape.{fromEnd, digitIn, textIn, countedIn, isEnd, endFrom, isEnded, isBuilt, isChecked, innerOf, shapeOf}
 use Rattle.frame.specs.Writing.{endByte, bodyOf, tailOf, collectedOf}
+use Rattle.frame.proofs.Put.{length-collected}
 use Rattle.frame.specs.declared.End.{End}
 use Rattle.frame.specs.declared.End.the-variants.{Etb, Etx}
 use Rattle.frame.specs.declared.Shape.{Shape}
@@ -148,3 +149,9 @@ accepted limit bs n end k h =
       size = sym size;
       within = within;
     }
+
+-- and so the bytes collected are its text and six more
+pub accepted-size : (limit : ℕ) (bs : List ℕ) (n : ℕ) (end : End) (k : ℕ) → shapeOf limit bs ≡ Whole n end k → length bs ≡ k + 6
+accepted-size limit bs n end k h =
+    let a = accepted limit bs n end k h in
+    ap length (a .same) ∙ length-collected n end (textIn bs) ∙ ap (λ (m : ℕ). m + 6) (sym (a .size))

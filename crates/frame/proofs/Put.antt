@@ -61,6 +61,10 @@ pub length-tail : (body : List ℕ) → length (tailOf body) ≡ 4
 unfolding tailOf
 length-tail body = refl
 
+pub length-collected : (number : ℕ) (end : End) (text : List ℕ) → length (collectedOf number end text) ≡ length text + 6
+unfolding collectedOf
+length-collected number end text = rw (length-append, length-body number end text, length-tail (bodyOf number end text)) (omega arith)
+
 frame-is : (number : ℕ) (end : End) (text : List ℕ) → frameOf number end text ≡ stx ∷ (bodyOf number end text ++ tailOf (bodyOf number end text))
 unfolding frameOf collectedOf
 frame-is number end text = refl

@@ -9,8 +9,7 @@ use lib.Dec.{leb}
 use Rattle.memory.specs.Sizes.{messageLimit}
 use Rattle.memory.proofs.Tests.{and-left, and-right}
 use Rattle.frame.specs.Number.{mostNumber, nextNumber}
-use Rattle.line.specs.Line.{mostCollected, mostSeconds, lastWithin, freshLine, openedLine, withinLimits, begunLine, collectedLine, waitingLine, acceptedLine, refusingLine}
-use Rattle.line.specs.Seconds.{countedLine}
+use Rattle.line.specs.Line.{mostCollected, mostSeconds, lastWithin, freshLine, openedLine, withinLimits, begunLine, collectedLine, countedLine, waitingLine, acceptedLine, refusingLine}
 use Rattle.line.specs.declared.Line.{Line}
 
 pub record Within (l : Line) : Type 0 where

@@ -46,6 +46,11 @@ abbrev pub collectedLine : Line → ℕ → Line
 collectedLine l count =
     record { state = l .state; collected = count; joined = l .joined; seconds = l .seconds; next = l .next; last = l .last; refusing = l .refusing }
 
+-- another count of seconds
+abbrev pub countedLine : Line → ℕ → Line
+countedLine l count =
+    record { state = l .state; collected = l .collected; joined = l .joined; seconds = count; next = l .next; last = l .last; refusing = l .refusing }
+
 -- a judged frame: collected and second counts 0, and the line waits
 abbrev pub waitingLine : Line → Line
 waitingLine l =

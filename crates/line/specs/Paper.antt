@@ -73,6 +73,13 @@ valuesOf BufferShort = []
 valuesOf Malformed = []
 valuesOf NotFitting = []
 
+-- the control bytes between frames
+abbrev pub eot : ℕ
+eot = 0x04
+
+abbrev pub enq : ℕ
+enq = 0x05
+
 abbrev pub ack : ℕ
 ack = 0x06
 

@@ -8,10 +8,6 @@ use Rattle.line.specs.declared.Line.{Line}
 use Rattle.line.specs.declared.Passed.{Passed}
 use Rattle.line.specs.declared.Passed.the-variants.{Counted, RanOut}
 
-abbrev pub countedLine : Line → ℕ → Line
-countedLine l count =
-    record { state = l .state; collected = l .collected; joined = l .joined; seconds = count; next = l .next; last = l .last; refusing = l .refusing }
-
 -- they add up, and at 30 or more the time has run out
 unfoldable pub passedOf : Line → ℕ → Passed
-passedOf l s = cond (leb (l .seconds + s) mostSeconds) (Counted (countedLine l (l .seconds + s))) RanOut
+passedOf l s = cond (leb (l .seconds + s) mostSeconds) (Counted (l .seconds + s)) RanOut

@@ -1,6 +1,6 @@
 // The record of a serial line, what an event makes of it by value, and the answers of document 01.
 ghost use mathlib.Core.Path.{_≡_};
-ghost use Rattle.line.specs.Line.{freshLine, openedLine, withinLimits, begunLine, collectedLine, waitingLine, acceptedLine, refusingLine};
+ghost use Rattle.line.specs.Line.{freshLine, openedLine, withinLimits, begunLine, collectedLine, countedLine, waitingLine, acceptedLine, refusingLine};
 ghost use Rattle.line.specs.Seconds.{passedOf};
 ghost use Rattle.line.specs.Turn.{isLast, turnOf};
 ghost use Rattle.line.specs.Paper.{numberOf, replyOf};
@@ -76,9 +76,9 @@ pub enum Reply {
     Byte(u8),
 }
 
-// What some seconds make of a line.
+// What a line's seconds come to: a count below 30, or the time has run out.
 pub enum Passed {
-    Counted(Line),
+    Counted(u8),
     RanOut,
 }
 
@@ -223,14 +223,21 @@ impl Line {
         }
     }
 
-    // Counts seconds on an open line, in a wider number than the record's.
-    pub fn pass(mut self, seconds: u8) -> Passed
+    // The line with another count of seconds.
+    pub fn with_seconds(mut self, count: u8) -> Line
+        ensures { λ r. ⌜ r ≡ countedLine self count ⌝ }
+    {
+        self.seconds = count;
+        self
+    }
+
+    // What the line's seconds come to with these, in a wider number than the record's.
+    pub fn pass(self, seconds: u8) -> Passed
         ensures { λ r. ⌜ r ≡ passedOf self seconds ⌝ }
     {
         let total = self.seconds as u16 + seconds as u16;
         if total <= Line::MOST_SECONDS as u16 {
-            self.seconds = total as u8;
-            return Passed::Counted(self);
+            return Passed::Counted(total as u8);
         }
         Passed::RanOut
     }

@@ -51,6 +51,11 @@ module _ {A : Type 0} where
   unfolding part
   part-rest d at = take-all (length d - at) (drop at d) (rw length-drop (omega arith))
 
+  -- a part that is lent from `at` to `at + n`
+  pub part-lent : (d : List A) (at n : ℕ) → take (at + n - at) (drop at d) ≡ part d at n
+  unfolding part
+  part-lent d at n = let e : at + n - at ≡ n = omega arith in rw e
+
   -- a part of a part, and of the first n
   pub part-part : (d : List A) (at n k m : ℕ) → k + m ≤ n → part (part d at n) k m ≡ part d (at + k) m
   unfolding part

@@ -1,6 +1,6 @@
 -- The sizes that document 01 fixes, each named once.
 -- Assumes nothing.
-use Prim.Native.Nat.{ℕ}
+use Prim.Native.Nat.{ℕ, _*_, _-_}
 
 -- the serial lines, numbered from 0
 abbrev pub lines : ℕ
@@ -17,3 +17,14 @@ frameLimit = 247
 -- the bytes of the journal
 abbrev pub journalSize : ℕ
 journalSize = 32768
+
+-- a line's part of the frames: a frame without its STX
+abbrev pub framePart : ℕ
+framePart = frameLimit - 1
+
+-- the frames and the unfinished texts of all lines
+abbrev pub framesSize : ℕ
+framesSize = lines * framePart
+
+abbrev pub unfinishedSize : ℕ
+unfinishedSize = lines * messageLimit

@@ -14,6 +14,12 @@ pub const FRAME_LIMIT: usize = 247;
 
 pub const JOURNAL_SIZE: usize = 32768;
 
+pub const FRAME_PART: usize = FRAME_LIMIT - 1;
+
+pub const FRAMES_SIZE: usize = LINES * FRAME_PART;
+
+pub const UNFINISHED_SIZE: usize = LINES * MESSAGE_LIMIT;
+
 // A number read from a field, or no such field in the memory.
 pub enum Field {
     Value(u64),

@@ -1,0 +1,17 @@
+-- `gateway::looking::look_neutral` meets its contract.
+-- Assumes nothing.
+use Rattle.memory.proofs.Told.{told}
+use Rattle.gateway.specs.Looks.{neutralLook}
+use Rattle.gateway.proofs.looking.look_neutral.Statement.{statement}
+use Rattle.gateway.proofs.looking.look_neutral.Tie as tie
+
+returns : tie.Need-returns
+unfolding neutralLook
+returns c = search told
+
+returns-2 : tie.Need-returns-2
+unfolding neutralLook
+returns-2 c = search told
+
+pub look-neutral-spec : {M : Type 1} → statement M
+look-neutral-spec = tie.close (tie.spec returns returns-2)

@@ -1,0 +1,6 @@
+pub mod Views
+pub mod Looks
+pub mod Verdicts
+pub mod Settled
+pub mod Decided
+pub mod Events

@@ -1,0 +1,72 @@
+-- The verdict on an event: 40, 41, 42, then the work; a complete message is decided by the records and the journal: 30, 43, 31, 4.
+-- Assumes nothing.
+use Prim.Native.Nat.{ℕ}
+use mathlib.Core.Bool.{Bool, _&&_}
+use mathlib.Core.List.{List}
+use lib.ListN.{length}
+use lib.Dec.{ltb, eqb}
+use Rattle.memory.specs.Sizes.{lines, journalSize, unfinishedSize, framesSize}
+use Rattle.memory.specs.Tests.{unless}
+use Rattle.record.specs.Delimiters.{standard}
+use Rattle.record.specs.Faults.{isMessage}
+use Rattle.journal.specs.Verdicts.{judgeOf}
+use Rattle.journal.specs.declared.Ledger.{Ledger}
+use Rattle.journal.specs.declared.Verdict.{Verdict as Judgement}
+use Rattle.journal.specs.declared.Verdict.the-variants.{Fits, NoRoom as Full, Broken as Damaged, NoLine as Nowhere, OtherSize, NoText}
+use Rattle.line.specs.Line.{withinLimits}
+use Rattle.line.specs.declared.Line.{Line}
+use Rattle.line.specs.declared.Answer.{Answer}
+use Rattle.line.specs.declared.Answer.the-variants.{Nothing, Opened, Accepted, Stored, NoMessage, NoRoom, NoLine, WrongSize, BeyondLimits, Broken}
+use Rattle.gateway.specs.Views.{joinedText}
+use Rattle.gateway.specs.Looks.{lookOf}
+use Rattle.gateway.specs.declared.Event.{Event}
+use Rattle.gateway.specs.declared.Look.{Look}
+use Rattle.gateway.specs.declared.Look.the-variants.{Done, Decides}
+use Rattle.gateway.specs.declared.Verdict.{Verdict}
+use Rattle.gateway.specs.declared.Verdict.the-variants.{Left, Opens, Closes, Begins, Counts, Collects, Refuses, Accepts, Stores, Against}
+
+-- what the journal says of a message: 43, 31, or it is stored. That it has no line, no right size or no text is never asked here.
+abbrev pub roomVerdict : Judgement → ℕ → Verdict
+roomVerdict Fits n = Stores n
+roomVerdict Full n = Against NoRoom n
+roomVerdict Damaged n = Left Broken
+roomVerdict Nowhere n = Left NoLine
+roomVerdict OtherSize n = Left WrongSize
+roomVerdict NoText n = Against NoMessage n
+
+-- a complete text: 30, then the journal
+unfoldable pub decisionOf : List ℕ → Ledger → ℕ → ℕ → List ℕ → List ℕ → Verdict
+decisionOf shares d i n text journal =
+    unless (isMessage standard text) (Against NoMessage n) (roomVerdict (judgeOf d shares i (length text) journal) n)
+
+abbrev pub decided : Look → List ℕ → Line → Ledger → ℕ → List ℕ → List ℕ → List ℕ → Verdict
+decided (Done v) shares l d i journal unfinished frames = v
+decided (Decides n) shares l d i journal unfinished frames = decisionOf shares d i n (joinedText l i n unfinished frames) journal
+
+-- the work: the look, and the decision where the look comes to one
+unfoldable pub workOf : List ℕ → Line → Ledger → Event → List ℕ → List ℕ → List ℕ → Verdict
+workOf shares l d e journal unfinished frames =
+    decided (lookOf l (e .line) (e .kind) unfinished frames) shares l d (e .line) journal unfinished frames
+
+abbrev pub rightSizes : List ℕ → List ℕ → List ℕ → Bool
+rightSizes journal unfinished frames = eqb (length journal) journalSize && (eqb (length unfinished) unfinishedSize && eqb (length frames) framesSize)
+
+unfoldable pub verdictOf : List ℕ → Line → Ledger → Event → List ℕ → List ℕ → List ℕ → Verdict
+verdictOf shares l d e journal unfinished frames =
+    unless (ltb (e .line) lines) (Left NoLine)
+    (unless (rightSizes journal unfinished frames) (Left WrongSize)
+    (unless (withinLimits l) (Left BeyondLimits)
+    (workOf shares l d e journal unfinished frames)))
+
+-- the answer that a verdict gives
+abbrev pub answerOf : Verdict → Answer
+answerOf (Left a) = a
+answerOf Opens = Opened
+answerOf (Closes a) = a
+answerOf Begins = Nothing
+answerOf (Counts n) = Nothing
+answerOf Collects = Nothing
+answerOf (Refuses a) = a
+answerOf (Accepts n) = Accepted
+answerOf (Stores n) = Stored
+answerOf (Against a n) = a

@@ -1,0 +1,184 @@
+// What an event comes to, read off its own line alone: the journal is not lent.
+ghost use mathlib.Core.Path.{_≡_};
+ghost use mathlib.Core.List.{_++_};
+ghost use Prim.Native.Nat.{_+_, _≤_};
+ghost use Rattle.record.specs.Records.{endsWithCr};
+ghost use Rattle.line.specs.Turn.{turnOf};
+ghost use Rattle.gateway.specs.Views.{Ready, joinedText};
+ghost use Rattle.gateway.specs.Looks.{neutralLook, waitingLook, insideLook, frameLook, turnLook, endLook, passedLook, byteLook, secondsLook, lookOf};
+use super::Kind;
+use super::Look;
+use super::Verdict;
+use frame::CR;
+use frame::End;
+use frame::LF;
+use frame::STX;
+use frame::Shape;
+use line::Answer;
+use line::ENQ;
+use line::EOT;
+use line::Line;
+use line::Passed;
+use line::State;
+use line::Turn;
+
+pub fn look(line: Line, i: usize, kind: Kind, unfinished: &[u8], frames: &[u8]) -> Look
+    requires { ⌜ Ready line i (now unfinished) (now frames) ⌝ }
+    ensures { λ r. ⌜ r ≡ lookOf line i kind (now (unfinished .entry)) (now (frames .entry)) ⌝ }
+{
+    match kind {
+        Kind::Byte(b) => look_byte(line, i, b, unfinished, frames),
+        Kind::Seconds(s) => look_seconds(line, s),
+    }
+}
+
+fn look_byte(line: Line, i: usize, b: u8, unfinished: &[u8], frames: &[u8]) -> Look
+    requires { ⌜ Ready line i (now unfinished) (now frames) ⌝ }
+    ensures { λ r. ⌜ r ≡ byteLook line i b (now (unfinished .entry)) (now (frames .entry)) ⌝ }
+{
+    let state = line.state;
+    match state {
+        State::Neutral => look_neutral(b),
+        State::Waiting => look_waiting(line, b),
+        State::Inside => look_inside(line, i, b, unfinished, frames),
+    }
+}
+
+fn look_neutral(b: u8) -> Look
+    ensures { λ r. ⌜ r ≡ neutralLook b ⌝ }
+{
+    if b == ENQ {
+        return Look::Done(Verdict::Opens);
+    }
+    Look::Done(Verdict::Left(Answer::Nothing))
+}
+
+fn look_waiting(line: Line, b: u8) -> Look
+    ensures { λ r. ⌜ r ≡ waitingLook line b ⌝ }
+{
+    if b == STX {
+        return Look::Done(Verdict::Begins);
+    }
+    if b == EOT {
+        if line.joined == 0 {
+            return Look::Done(Verdict::Closes(Answer::Ended));
+        }
+        return Look::Done(Verdict::Closes(Answer::Dropped));
+    }
+    if b == ENQ {
+        return Look::Done(Verdict::Left(Answer::Busy));
+    }
+    Look::Done(Verdict::Left(Answer::Nothing))
+}
+
+fn look_inside(line: Line, i: usize, b: u8, unfinished: &[u8], frames: &[u8]) -> Look
+    requires { ⌜ Ready line i (now unfinished) (now frames) ⌝ }
+    ensures { λ r. ⌜ r ≡ insideLook line i b (now (unfinished .entry)) (now (frames .entry)) ⌝ }
+{
+    if b == LF {
+        return look_frame(line, i, b, unfinished, frames);
+    }
+    if line.collected == Line::MOST_COLLECTED {
+        return look_frame(line, i, b, unfinished, frames);
+    }
+    Look::Done(Verdict::Collects)
+}
+
+fn look_seconds(line: Line, s: u8) -> Look
+    ensures { λ r. ⌜ r ≡ secondsLook line s ⌝ }
+{
+    let state = line.state;
+    match state {
+        State::Neutral => Look::Done(Verdict::Left(Answer::Nothing)),
+        State::Waiting => look_passed(line.pass(s)),
+        State::Inside => look_passed(line.pass(s)),
+    }
+}
+
+fn look_passed(passed: Passed) -> Look
+    ensures { λ r. ⌜ r ≡ passedLook passed ⌝ }
+{
+    match passed {
+        Passed::Counted(n) => Look::Done(Verdict::Counts(n)),
+        Passed::RanOut => Look::Done(Verdict::Closes(Answer::TimedOut)),
+    }
+}
+
+// The frame that the byte ends: its shape, then its turn.
+fn look_frame(line: Line, i: usize, b: u8, unfinished: &[u8], frames: &[u8]) -> Look
+    requires { ⌜ Ready line i (now unfinished) (now frames) ⌝ }
+    ensures { λ r. ⌜ r ≡ frameLook line i b (now (unfinished .entry)) (now (frames .entry)) ⌝ }
+{
+    let start = i * memory::FRAME_PART;
+    let end = start + line.collected as usize;
+    match frame::shape_of(memory::FRAME_LIMIT, &frames[start..end], b) {
+        Shape::Unended => Look::Done(Verdict::Refuses(Answer::Unended)),
+        Shape::Torn => Look::Done(Verdict::Refuses(Answer::Torn)),
+        Shape::WrongCheck => Look::Done(Verdict::Refuses(Answer::WrongCheck)),
+        Shape::BadText => Look::Done(Verdict::Refuses(Answer::BadText)),
+        Shape::BadNumber => Look::Done(Verdict::Refuses(Answer::BadNumber)),
+        Shape::Whole(number, end, n) => look_turn(line, i, number, end, n, unfinished, frames),
+    }
+}
+
+// A whole frame: how it stands to the line, then what the line's text would be.
+fn look_turn(
+    line: Line,
+    i: usize,
+    number: u8,
+    end: End,
+    n: usize,
+    unfinished: &[u8],
+    frames: &[u8],
+) -> Look
+    requires { ⌜ Ready line i (now unfinished) (now frames) × (n + 5 ≤ line .collected) ⌝ }
+    ensures { λ r. ⌜ r ≡ turnLook (turnOf line number n) end n (joinedText line i n (now (unfinished .entry)) (now (frames .entry))) ⌝ }
+{
+    match line.in_turn(number, n) {
+        Turn::Refused => Look::Done(Verdict::Refuses(Answer::Refusing)),
+        Turn::Again => Look::Done(Verdict::Refuses(Answer::Repeated)),
+        Turn::Missed => Look::Done(Verdict::Refuses(Answer::OutOfTurn)),
+        Turn::Overlong => Look::Done(Verdict::Refuses(Answer::TooLong)),
+        Turn::InTurn => {
+            let text = i * memory::MESSAGE_LIMIT;
+            let text_end = text + line.joined as usize;
+            let start = i * memory::FRAME_PART + 1;
+            let stop = start + n;
+            look_end(end, n, &unfinished[text..text_end], &frames[start..stop])
+        }
+    }
+}
+
+// A frame in turn, by its end and the text in its two pieces.
+fn look_end(end: End, n: usize, old: &[u8], new: &[u8]) -> Look
+    ensures { λ r. ⌜ r ≡ endLook end n (now (old .entry) ++ now (new .entry)) ⌝ }
+{
+    match end {
+        End::Etb => Look::Done(Verdict::Accepts(n)),
+        End::Etx => look_text(n, old, new),
+    }
+}
+
+fn look_text(n: usize, old: &[u8], new: &[u8]) -> Look
+    ensures { λ r. ⌜ r ≡ endLook End.Etx n (now (old .entry) ++ now (new .entry)) ⌝ }
+{
+    if !ends_with_cr(old, new) {
+        return Look::Done(Verdict::Refuses(Answer::NoCr));
+    }
+    if record::joined_ends_with_l(old, new) {
+        return Look::Decides(n);
+    }
+    Look::Done(Verdict::Accepts(n))
+}
+
+fn ends_with_cr(old: &[u8], new: &[u8]) -> bool
+    ensures { λ r. ⌜ r ≡ endsWithCr (now (old .entry) ++ now (new .entry)) ⌝ }
+{
+    if 0 < new.len() {
+        return new[new.len() - 1] == CR;
+    }
+    if 0 < old.len() {
+        return old[old.len() - 1] == CR;
+    }
+    false
+}
