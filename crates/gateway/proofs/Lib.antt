@@ -1,3 +1,6 @@
 pub mod Joined
 pub mod Views
 pub mod Looks
+pub mod Rows
+pub mod Pieces
+pub mod Decisions

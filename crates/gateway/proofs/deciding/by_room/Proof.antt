@@ -1,67 +1,38 @@
+-- `gateway::deciding::by_room` meets its contract.
+-- Assumes nothing.
 use borrow.Author.Needs.{needs}
+use mathlib.Core.Path.{sym, ap}
 use Rattle.gateway.proofs.deciding.by_room.Statement.{statement}
 use Rattle.gateway.proofs.deciding.by_room.Tie as tie
-use Rattle.gateway.proofs.deciding.by_room.Reads as reads
-use Rattle.gateway.proofs.deciding.by_room.Lts as lts
 
--- src/deciding.rt:69:35
-enum-told : tie.Need-enum-told
-enum-told c = search needs
-
--- src/deciding.rt:70:54
-enum-told-2 : tie.Need-enum-told-2
-enum-told-2 c = search needs
-
--- src/deciding.rt:71:51
-enum-told-3 : tie.Need-enum-told-3
-enum-told-3 c = search needs
-
--- src/deciding.rt:72:51
-enum-told-4 : tie.Need-enum-told-4
-enum-told-4 c = search needs
-
--- src/deciding.rt:73:54
-enum-told-5 : tie.Need-enum-told-5
-enum-told-5 c = search needs
-
--- src/deciding.rt:74:54
-enum-told-6 : tie.Need-enum-told-6
-enum-told-6 c = search needs
-
--- src/deciding.rt:65:1
 returns : tie.Need-returns
-returns c = ?
+returns c = rw (c .enum-told .given .1)
 
--- src/deciding.rt:65:1
 returns-2 : tie.Need-returns-2
-returns-2 c = ?
+returns-2 c = rw (c .enum-told2 .given .1)
 
--- src/deciding.rt:65:1
 returns-3 : tie.Need-returns-3
-returns-3 c = ?
+returns-3 c = rw (c .enum-told3 .given .1)
 
--- src/deciding.rt:65:1
 returns-4 : tie.Need-returns-4
-returns-4 c = ?
+returns-4 c = rw (c .enum-told4 .given .1)
 
--- src/deciding.rt:65:1
 returns-5 : tie.Need-returns-5
-returns-5 c = ?
+returns-5 c = rw (c .enum-told5 .given .1)
 
--- src/deciding.rt:65:1
 returns-6 : tie.Need-returns-6
-returns-6 c = ?
+returns-6 c = rw (c .enum-told6 .given .1)
 
 pub by-room-spec : {M : Type 1} → statement M
 by-room-spec =
     tie.close
     (tie.spec
-    enum-told
-    enum-told-2
-    enum-told-3
-    enum-told-4
-    enum-told-5
-    enum-told-6
+    (λ c. search needs)
+    (λ c. search needs)
+    (λ c. search needs)
+    (λ c. search needs)
+    (λ c. search needs)
+    (λ c. search needs)
     returns
     returns-2
     returns-3

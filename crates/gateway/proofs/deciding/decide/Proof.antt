@@ -1,54 +1,31 @@
+-- `gateway::deciding::decide` meets its contract: the storing judges and stores in one.
+-- Assumes nothing.
 use borrow.Author.Needs.{needs}
+use mathlib.Core.Path.{_≡_, sym, _∙_}
+use native.Mathlib.Omega.{arith}
+use denote.Ref.{now}
+use borrow.Author.Tests.{not-true, not-false}
+use Rattle.gateway.proofs.Decisions.{no-message, by-store}
 use Rattle.gateway.proofs.deciding.decide.Statement.{statement}
 use Rattle.gateway.proofs.deciding.decide.Tie as tie
-use Rattle.gateway.proofs.deciding.decide.Reads as reads
-use Rattle.gateway.proofs.deciding.decide.Lts as lts
-use Rattle.gateway.proofs.deciding.by_room.Reads as by-room-reads
-use Rattle.journal.proofs.shares.Reads as shares-reads
-use Rattle.journal.proofs.store.Reads as store-reads
-use Rattle.record.proofs.is_message.Reads as is-message-reads
 
--- src/deciding.rt:49:9
-is-message-requires : tie.Need-is-message-requires
-is-message-requires c κs = search needs
-
--- src/deciding.rt:50:9
 returns : tie.Need-returns
-returns c = ?
+returns c = let a = c .before .before .before .before .args in no-message (a .ledger) (a .i) (a .n) (now (a .text)) (now (a .journal)) (sym (c .before .is-message .ensures) ∙ not-true _ (c .if1 .taken))
 
--- src/deciding.rt:55:41
-shares-requires : tie.Need-shares-requires
-shares-requires c κs = search needs
-
--- src/deciding.rt:55:60
-cast-store : tie.Need-cast-store
-cast-store c = search needs
-
--- src/deciding.rt:55:9
-store-requires : tie.Need-store-requires
-store-requires c κs = search needs
-
--- src/deciding.rt:59:18
-by-room-requires : tie.Need-by-room-requires
-by-room-requires c κs = search needs
-
--- src/deciding.rt:45:1
-same-length : tie.Need-same-length
-same-length c = search needs
-
--- src/deciding.rt:45:1
 returns-2 : tie.Need-returns-2
-returns-2 c = ?
+returns-2 c = let a = c .before .before .before .before .before .before .before .before .before .before .before .args in
+    by-store (a .ledger) (a .i) (a .n) (now (a .text)) (now (a .journal)) _ _ _ (sym (c .before .before .before .before .before .before .before .before .is-message .ensures) ∙ not-false _ (c .before .before .before .before .before .before .before .if1 .left))
+    (rw (c .before .before .before .before .before .before .shares .ensures) at (c .before .before .before .before .store .ensures)) (c .by-room .ensures)
 
 pub decide-spec : {M : Type 1} → statement M
 decide-spec =
     tie.close
     (tie.spec
-    is-message-requires
+    (λ c κs. search needs)
     returns
-    shares-requires
-    cast-store
-    store-requires
-    by-room-requires
-    same-length
+    (λ c κs. search needs)
+    (λ c. search needs)
+    (λ c κs. search needs)
+    (λ c κs. search needs)
+    (λ c. search needs)
     returns-2)
