@@ -4,3 +4,5 @@ pub mod Looks
 pub mod Rows
 pub mod Pieces
 pub mod Decisions
+pub mod Fits
+pub mod Steps

@@ -44,9 +44,10 @@ both-copied z old new x y q r h c d =
     let second : y ≡ splice x (length old) new = copied-fits x (length old) new d (omega arith) .1 in
     let joined : y ≡ splice z 0 (old ++ new) =
     second ∙ ap (λ (l : List ℕ). splice l (length old) new) first ∙ ap (λ (k : ℕ). splice (splice z 0 old) k new) (sym (zero-add (length old))) ∙ splice-join z 0 old new (omega arith) in
-    let fits : 0 + length (old ++ new) ≤ length z = rw length-append (omega arith) in
-    (ap length joined ∙ length-splice z 0 (old ++ new) fits,
-    rw (← length-append old new, joined, ← part-start (splice z 0 (old ++ new)) (length (old ++ new))) (part-splice z 0 (old ++ new) fits))
+    let fits : 0 + length (old ++ new) ≤ length z = rw length-append (omega arith) in (
+      ap length joined ∙ length-splice z 0 (old ++ new) fits,
+      rw (← length-append old new, joined, ← part-start (splice z 0 (old ++ new)) (length (old ++ new))) (part-splice z 0 (old ++ new) fits),
+    )
 
 -- the line's two pieces, lent and copied so
 module _ (l : Line) (i n : ℕ) (u f : List ℕ) (ready : Ready l i u f) (fits : TextFits l n) where

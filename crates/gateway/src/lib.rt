@@ -1,14 +1,16 @@
 // Events and takings on eight lines: look, then act.
 ghost use mathlib.Core.Path.{_≡_};
-ghost use Rattle.gateway.specs.Events.{freshGateway};
+ghost use Rattle.gateway.specs.Events.{freshGateway, Stepping, Handling, Taking, tookAnswer};
 ghost use Rattle.gateway.specs.Verdicts.{answerOf};
 use journal::Ledger;
+use journal::Took;
 use line::Answer;
 use line::Line;
 
 mod deciding; // deciding.rt: a message that is complete
 mod looking; // looking.rt: what an event comes to, read off its own line alone
 mod settling; // settling.rt: what is left after it
+mod working; // working.rt: the two together
 
 // A byte that has come, or seconds that have passed.
 pub enum Kind {
@@ -89,5 +91,107 @@ impl Verdict {
             Verdict::Stores(_) => Answer::Stored,
             Verdict::Against(a, _) => a,
         }
+    }
+}
+
+// One event on the line whose record this is, by value.
+pub fn step(
+    line: Line,
+    ledger: Ledger,
+    e: Event,
+    journal: &mut [u8],
+    unfinished: &mut [u8],
+    frames: &mut [u8],
+) -> Stepped
+    ensures { λ r. ⌜ Stepping line ledger e (now (journal .entry)) (now (unfinished .entry)) (now (frames .entry)) r (now (journal .exit)) (now (unfinished .exit)) (now (frames .exit)) ⌝ }
+{
+    if memory::LINES <= e.line as usize {
+        return left(line, ledger, Answer::NoLine);
+    }
+    if journal.len() != memory::JOURNAL_SIZE {
+        return left(line, ledger, Answer::WrongSize);
+    }
+    if unfinished.len() != memory::UNFINISHED_SIZE {
+        return left(line, ledger, Answer::WrongSize);
+    }
+    if frames.len() != memory::FRAMES_SIZE {
+        return left(line, ledger, Answer::WrongSize);
+    }
+    if !line.is_within_limits() {
+        return left(line, ledger, Answer::BeyondLimits);
+    }
+    working::work(line, ledger, e, journal, unfinished, frames)
+}
+
+// Nothing changed.
+fn left(line: Line, ledger: Ledger, answer: Answer) -> Stepped
+    ensures { λ r. ⌜ r ≡ record { line = line; ledger = ledger; answer = answer } ⌝ }
+{
+    Stepped {
+        line,
+        ledger,
+        answer,
+    }
+}
+
+// One event on the gateway.
+pub fn handle(
+    g: Gateway,
+    e: Event,
+    journal: &mut [u8],
+    unfinished: &mut [u8],
+    frames: &mut [u8],
+) -> Handled
+    ensures { λ r. ⌜ Handling g e (now (journal .entry)) (now (unfinished .entry)) (now (frames .entry)) r (now (journal .exit)) (now (unfinished .exit)) (now (frames .exit)) ⌝ }
+{
+    let i = e.line as usize;
+    if memory::LINES <= i {
+        return Handled {
+            gateway: g,
+            answer: Answer::NoLine,
+        };
+    }
+    let line = g.lines[i];
+    let ledger = g.ledger;
+    let stepped = step(line, ledger, e, journal, unfinished, frames);
+    let after = stepped.line;
+    let booked = stepped.ledger;
+    let answer = stepped.answer;
+    let mut next = g;
+    next.lines[i] = after;
+    next.ledger = booked;
+    Handled {
+        gateway: next,
+        answer,
+    }
+}
+
+// One taking: the line's oldest entry into the buffer.
+pub fn take(g: Gateway, line: u8, journal: &mut [u8], buffer: &mut [u8]) -> Handled
+    ensures { λ r. ⌜ Taking g line (now (journal .entry)) (now (buffer .entry)) r (now (journal .exit)) (now (buffer .exit)) ⌝ }
+{
+    let ledger = g.ledger;
+    let taking = journal::take(ledger, line, journal, buffer);
+    let booked = taking.ledger;
+    let took = taking.answer;
+    let mut next = g;
+    next.ledger = booked;
+    Handled {
+        gateway: next,
+        answer: answer_to(took),
+    }
+}
+
+// The answer to a taking.
+fn answer_to(took: Took) -> Answer
+    ensures { λ r. ⌜ r ≡ tookAnswer took ⌝ }
+{
+    match took {
+        Took::Taken(n, serial) => Answer::Taken(n, serial),
+        Took::NothingWaiting => Answer::NothingWaiting,
+        Took::BufferShort => Answer::BufferShort,
+        Took::BrokenJournal => Answer::Broken,
+        Took::NoSuchLine => Answer::NoLine,
+        Took::WrongSize => Answer::WrongSize,
     }
 }

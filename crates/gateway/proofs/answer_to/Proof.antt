@@ -1,0 +1,27 @@
+-- `gateway::answer_to` meets its contract.
+-- Assumes nothing.
+use borrow.Author.Needs.{needs}
+use mathlib.Core.Path.{sym, ap}
+use Rattle.gateway.specs.Events.{tookAnswer}
+use Rattle.gateway.proofs.answer_to.Statement.{statement}
+use Rattle.gateway.proofs.answer_to.Tie as tie
+
+returns : tie.Need-returns
+returns c = sym (ap tookAnswer (c .before .took .given .1))
+
+pub answer-to-spec : {M : Type 1} → statement M
+answer-to-spec =
+    tie.close
+    (tie.spec
+    (λ c. search needs)
+    (λ c. search needs)
+    (λ c. search needs)
+    (λ c. search needs)
+    (λ c. search needs)
+    (λ c. search needs)
+    returns
+    (λ c. search needs)
+    (λ c. search needs)
+    (λ c. search needs)
+    (λ c. search needs)
+    (λ c. search needs))
