@@ -2,7 +2,7 @@
 -- Assumes nothing.
 use mathlib.Core.Path.{_≡_, refl, sym, ap, _∙_}
 use mathlib.Core.List.{List, _++_}
-use mathlib.Core.Bool.{Bool, true, false}
+use mathlib.Core.Bool.{Bool, true, false, cond}
 use Prim.Native.Nat.{ℕ, _+_, _%_, _<_, _≤_}
 use native.Mathlib.Omega.{arith}
 use lib.ListN.{length, getD, set}
@@ -18,7 +18,7 @@ use Rattle.journal.specs.Entries.{encode}
 use Rattle.journal.specs.Room.{raised}
 use Rattle.journal.specs.Answers.{isFits}
 use Rattle.journal.specs.Verdicts.{judgeOf}
-use Rattle.journal.specs.Storage.{newEntry, grown, appended, storeOf, Stored, Ready, Appended}
+use Rattle.journal.specs.Storage.{newEntry, grown, appended, afterStoring, storeOf, Stored, Ready, Appended}
 use Rattle.journal.specs.declared.Ledger.{Ledger}
 use Rattle.journal.specs.declared.Verdict.{Verdict}
 use Rattle.journal.proofs.Heads.{head-size-high, head-number-below, length-header}
@@ -64,6 +64,15 @@ module _ (d : Ledger) (sh : List ℕ) (l : ℕ) (t j : List ℕ) where
         room = omega (arith, fits-journal d sh j l (entrySize (length t)) k u (f .line) (f .room), f .long);
         counted = used-below d j l k (f .line);
       }
+
+  -- a storing answers what `judge` would
+  pub answer-is-verdict : storeOf d sh l t j .storing .answer ≡ judgeOf d sh l (length t) j
+  unfolding storeOf
+  answer-is-verdict = either (judgeOf d sh l (length t) j) (isFits (judgeOf d sh l (length t) j))
+    where
+      either : (v : Verdict) (b : Bool) → cond b (afterStoring (grown d l (length t)) v (appended d l t j)) (afterStoring d v j) .storing .answer ≡ v
+      either v true = refl
+      either v false = refl
 
   pub not-stored : (v : Verdict) → v ≡ judgeOf d sh l (length t) j → isFits v ≡ false → Stored d sh l t j (record { ledger = d; answer = v }) j
   unfolding storeOf

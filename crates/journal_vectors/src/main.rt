@@ -213,7 +213,7 @@ fn with_in_use(ledger: journal::Ledger, n: usize) -> journal::Ledger {
     }
 }
 
-// What no caller does, to break the journal: a byte, the end in use, a used count, a serial, the bytes lent; and a fresh start.
+// What no caller does, to break the journal: a byte, the end in use, a used count, a serial.
 fn change(state: State, letter: u8, line: u32, n: u32, bytes: &mut [u8]) -> State {
     let ledger = state.ledger;
     let lent = state.lent;
@@ -239,24 +239,27 @@ fn change(state: State, letter: u8, line: u32, n: u32, bytes: &mut [u8]) -> Stat
             lent,
         };
     }
-    if letter == b'L' {
-        heading(b'L', line as u64, n as u64);
-        end();
-        return State {
-            ledger,
-            lent: n as usize,
-        };
-    }
-    if letter == b'F' {
-        return State {
-            ledger: journal::Ledger::fresh(),
-            lent,
-        };
-    }
     state
 }
 
-// A storing, a judging or a taking on a line with so many bytes.
+fn lend(state: State, n: u32) -> State {
+    heading(b'L', 0, n as u64);
+    end();
+    let ledger = state.ledger;
+    State {
+        ledger,
+        lent: n as usize,
+    }
+}
+
+fn fresh(state: State) -> State {
+    State {
+        ledger: journal::Ledger::fresh(),
+        lent: state.lent,
+    }
+}
+
+// A storing, a judging or a taking on a line with so many bytes; how many of the journal's bytes are lent; a fresh start.
 fn act(
     state: State,
     words: Words,
@@ -283,6 +286,12 @@ fn act(
     }
     if letter == b'T' {
         return take(state, (line % 256) as u8, n as usize, bytes, buffer);
+    }
+    if letter == b'L' {
+        return lend(state, n);
+    }
+    if letter == b'F' {
+        return fresh(state);
     }
     change(state, letter, line, n, bytes)
 }
