@@ -1,20 +1,20 @@
 -- What a storing and a taking do to a journal that is held: its entries afterwards, and the answer. 41 and 43 never come.
 -- Assumes nothing.
-use mathlib.Core.Path.{_≡_, refl, sym, ap, _∙_}
+use mathlib.Core.Path.{_≡_, refl, ap, _∙_}
 use mathlib.Core.Logic.{_⊎_, inl, inr}
 use mathlib.Core.List.{List, [], _∷_, _++_}
 use mathlib.Core.Bool.{Bool, true, false, cond}
-use Prim.Native.Nat.{ℕ, _+_, _<_, _≤_}
+use Prim.Native.Nat.{ℕ, _<_, _≤_}
 use native.Mathlib.Omega.{arith}
 use native.Mathlib.Decide.{decLt, decLe}
 use lib.ListN.{length, getD}
-use lib.Dec.{leb, ltb, eqb}
+use lib.Dec.{eqb}
 use borrow.Author.Tests.{le-leb, lt-leb, lt-ltb, le-ltb, eq-eqb}
 use Rattle.memory.specs.Sizes.{lines, messageLimit, journalSize}
 use Rattle.memory.specs.Parts.{splice}
 use Rattle.journal.specs.Header.{entrySize}
-use Rattle.journal.specs.Entries.{Entry, size, sizes, before, from}
-use Rattle.journal.specs.Chain.{chain, isSome}
+use Rattle.journal.specs.Entries.{Entry, sizes, before, from}
+use Rattle.journal.specs.Chain.{isSome}
 use Rattle.journal.specs.Room.{fits, raised}
 use Rattle.journal.specs.Answers.{isFits, verdictNumber, tookPaper}
 use Rattle.journal.specs.Verdicts.{judgeOf}
@@ -24,9 +24,9 @@ use Rattle.journal.specs.Held.{Held}
 use Rattle.journal.specs.Runs.{given}
 use Rattle.journal.specs.declared.Ledger.{Ledger}
 use Rattle.journal.specs.declared.Verdict.{Verdict}
-use Rattle.journal.specs.declared.Verdict.the-variants.{Fits, NoRoom, Broken, NoLine, OtherSize, NoText}
+use Rattle.journal.specs.declared.Verdict.the-variants.{Fits, NoRoom, NoLine, NoText}
 use Rattle.journal.specs.declared.Took.{Took}
-use Rattle.journal.specs.declared.Took.the-variants.{Taken, NothingWaiting, BufferShort, BrokenJournal, NoSuchLine, WrongSize}
+use Rattle.journal.specs.declared.Took.the-variants.{Taken, NothingWaiting, BufferShort, NoSuchLine}
 use Rattle.journal.proofs.Judged.{judged-line, judged-text, judged-room}
 use Rattle.journal.proofs.Keeps.{store-held, take-held}
 

@@ -1,9 +1,9 @@
 -- What the room rule gives: a line's own share is guaranteed, one line alone reaches all but the others' shares, and what is freed can be stored again.
 -- Assumes nothing.
-use mathlib.Core.Path.{_≡_, refl, sym, ap, _∙_}
+use mathlib.Core.Path.{_≡_, sym, _∙_}
 use mathlib.Core.List.{List, [], _∷_, _++_}
-use mathlib.Core.Bool.{Bool, true, false}
-use Prim.Native.Nat.{ℕ, zero, suc, _+_, _-_, _<_, _≤_, max}
+use mathlib.Core.Bool.{true, false}
+use Prim.Native.Nat.{ℕ, _+_, _-_, _<_, _≤_, max}
 use native.Mathlib.Nat.{le-trans}
 use native.Mathlib.Omega.{arith}
 use native.Mathlib.Decide.{ℕ-discrete}
@@ -11,7 +11,7 @@ use lib.ListN.{length, getD, getD-replicate, set, length-set}
 use borrow.Author.Tests.{le-leb, lt-leb}
 use Rattle.memory.specs.Sizes.{lines, messageLimit, journalSize}
 use Rattle.journal.specs.Header.{entrySize}
-use Rattle.journal.specs.Entries.{Entry, size, sizes, total, before, from}
+use Rattle.journal.specs.Entries.{Entry, size, sizes, before, from}
 use Rattle.journal.specs.Chain.{freshLedger}
 use Rattle.journal.specs.Room.{share, todaysShares, sumTo, claim, claims, fits, raised}
 use Rattle.journal.specs.Verdicts.{judgeOf}

@@ -1,12 +1,12 @@
 -- Storing: what the code did is what the definition says.
 -- Assumes nothing.
-use mathlib.Core.Path.{_≡_, refl, sym, ap, _∙_}
-use mathlib.Core.List.{List, _++_}
+use mathlib.Core.Path.{_≡_, refl, ap, _∙_}
+use mathlib.Core.List.{List}
 use mathlib.Core.Bool.{Bool, true, false, cond}
 use Prim.Native.Nat.{ℕ, _+_, _%_, _<_, _≤_}
 use native.Mathlib.Omega.{arith}
 use lib.ListN.{length, getD, set}
-use Rattle.memory.specs.Sizes.{lines, journalSize}
+use Rattle.memory.specs.Sizes.{lines}
 use Rattle.memory.specs.Parts.{splice}
 use Rattle.memory.specs.Moves.{Copied}
 use Rattle.memory.specs.Fields.{unpack, octets, longestField, FieldWritten}
@@ -15,10 +15,9 @@ use Rattle.memory.proofs.Moves.{copied-fits}
 use Rattle.memory.proofs.Octets.{written-fits}
 use Rattle.journal.specs.Header.{serialCount, headSize, entrySize, headNumber, header}
 use Rattle.journal.specs.Entries.{encode}
-use Rattle.journal.specs.Room.{raised}
 use Rattle.journal.specs.Answers.{isFits}
 use Rattle.journal.specs.Verdicts.{judgeOf}
-use Rattle.journal.specs.Storage.{newEntry, grown, appended, afterStoring, storeOf, Stored, Ready, Appended}
+use Rattle.journal.specs.Storage.{grown, appended, afterStoring, storeOf, Stored, Ready, Appended}
 use Rattle.journal.specs.declared.Ledger.{Ledger}
 use Rattle.journal.specs.declared.Verdict.{Verdict}
 use Rattle.journal.proofs.Heads.{head-size-high, head-number-below, length-header}
