@@ -1,10 +1,10 @@
 -- A whole chain, whatever the lines claim: it is held over no shares, and so storing and taking give a whole chain again.
 -- Assumes nothing.
-use mathlib.Core.Path.{_≡_, refl, sym, ap, _∙_}
+use mathlib.Core.Path.{_≡_}
 use mathlib.Core.List.{List, [], _∷_, _++_}
 use mathlib.Core.Bool.{true}
 use mathlib.Core.Option.{some}
-use Prim.Native.Nat.{ℕ, _+_, _<_, _≤_, max}
+use Prim.Native.Nat.{ℕ, _<_, _≤_, max}
 use native.Mathlib.Nat.{le-trans}
 use native.Mathlib.Omega.{arith}
 use lib.ListN.{length, getD}
@@ -13,7 +13,7 @@ use Rattle.memory.specs.Sizes.{lines, journalSize}
 use Rattle.journal.specs.Header.{serialCount, entrySize}
 use Rattle.journal.specs.Entries.{Entry, sizes, total, before, from}
 use Rattle.journal.specs.Chain.{chain}
-use Rattle.journal.specs.Room.{sumTo, claim, claims, fits, raised}
+use Rattle.journal.specs.Room.{sumTo, claim, claims, raised}
 use Rattle.journal.specs.Answers.{isFits}
 use Rattle.journal.specs.Verdicts.{judgeOf}
 use Rattle.journal.specs.Storage.{newEntry, grown, appended}

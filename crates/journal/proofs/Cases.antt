@@ -1,22 +1,22 @@
--- What a storing and a taking do to a journal that is held: its entries afterwards, and the answer. 43 never comes.
+-- What a storing and a taking do to a journal that is held: its entries afterwards, and the answer. 41 and 43 never come.
 -- Assumes nothing.
-use mathlib.Core.Path.{_≡_, refl, sym, ap, _∙_}
+use mathlib.Core.Path.{_≡_, refl, ap, _∙_}
 use mathlib.Core.Logic.{_⊎_, inl, inr}
 use mathlib.Core.List.{List, [], _∷_, _++_}
 use mathlib.Core.Bool.{Bool, true, false, cond}
-use Prim.Native.Nat.{ℕ, _+_, _<_, _≤_}
+use Prim.Native.Nat.{ℕ, _<_, _≤_}
 use native.Mathlib.Omega.{arith}
 use native.Mathlib.Decide.{decLt, decLe}
-use lib.ListN.{length}
-use lib.Dec.{leb, ltb, eqb}
+use lib.ListN.{length, getD}
+use lib.Dec.{eqb}
 use borrow.Author.Tests.{le-leb, lt-leb, lt-ltb, le-ltb, eq-eqb}
 use Rattle.memory.specs.Sizes.{lines, messageLimit, journalSize}
 use Rattle.memory.specs.Parts.{splice}
 use Rattle.journal.specs.Header.{entrySize}
-use Rattle.journal.specs.Entries.{Entry, size, sizes, before, from}
-use Rattle.journal.specs.Chain.{chain, isSome}
+use Rattle.journal.specs.Entries.{Entry, sizes, before, from}
+use Rattle.journal.specs.Chain.{isSome}
 use Rattle.journal.specs.Room.{fits, raised}
-use Rattle.journal.specs.Answers.{isFits}
+use Rattle.journal.specs.Answers.{isFits, verdictNumber, tookPaper}
 use Rattle.journal.specs.Verdicts.{judgeOf}
 use Rattle.journal.specs.Storage.{newEntry, grown, appended, afterStoring, storeOf}
 use Rattle.journal.specs.Removal.{shrunk, without, afterTaking, takeAt, takeOf}
@@ -24,9 +24,9 @@ use Rattle.journal.specs.Held.{Held}
 use Rattle.journal.specs.Runs.{given}
 use Rattle.journal.specs.declared.Ledger.{Ledger}
 use Rattle.journal.specs.declared.Verdict.{Verdict}
-use Rattle.journal.specs.declared.Verdict.the-variants.{Fits, NoRoom, Broken, NoLine, OtherSize, NoText}
+use Rattle.journal.specs.declared.Verdict.the-variants.{Fits, NoRoom, NoLine, NoText}
 use Rattle.journal.specs.declared.Took.{Took}
-use Rattle.journal.specs.declared.Took.the-variants.{Taken, NothingWaiting, BufferShort, BrokenJournal, NoSuchLine, WrongSize}
+use Rattle.journal.specs.declared.Took.the-variants.{Taken, NothingWaiting, BufferShort, NoSuchLine}
 use Rattle.journal.proofs.Judged.{judged-line, judged-text, judged-room}
 use Rattle.journal.proofs.Keeps.{store-held, take-held}
 
@@ -41,11 +41,13 @@ pub record Stays (sh : List ℕ) (d : Ledger) (l : ℕ) (t j : List ℕ) : Type 
   pub verdict : Verdict
   pub is : storeOf d sh l t j ≡ afterStoring d verdict j
   pub no : isFits verdict ≡ false
+  pub sized : eqb (verdictNumber verdict) 41 ≡ false
+  pub whole : eqb (verdictNumber verdict) 43 ≡ false
 
 module _ (sh : List ℕ) (d : Ledger) (l : ℕ) (t j : List ℕ) (es : List Entry) (h : Held sh d j es) where
-  stays : (v : Verdict) → v ≡ judgeOf d sh l (length t) j → isFits v ≡ false → Stays sh d l t j
+  stays : (v : Verdict) → v ≡ judgeOf d sh l (length t) j → isFits v ≡ false → eqb (verdictNumber v) 41 ≡ false → eqb (verdictNumber v) 43 ≡ false → Stays sh d l t j
   unfolding storeOf
-  stays v e f = record { verdict = v; is = rw (← e, f); no = f }
+  stays v e f a b = record { verdict = v; is = rw (← e, f); no = f; sized = a; whole = b }
 
   module _ (line : l < lines) (low : 1 ≤ length t) (high : length t ≤ messageLimit) where
     -- the verdict is room's alone
@@ -63,18 +65,18 @@ module _ (sh : List ℕ) (d : Ledger) (l : ℕ) (t j : List ℕ) (es : List Entr
 
     decided : (b : Bool) → fits sh (raised (d .used) l (entrySize (length t))) ≡ b → Stores sh d l t j es ⊎ Stays sh d l t j
     decided true f = inl (store-fits f)
-    decided false f = inr (stays NoRoom (held-judged false f) refl)
+    decided false f = inr (stays NoRoom (held-judged false f) refl refl refl)
 
   pub store-cases : Stores sh d l t j es ⊎ Stays sh d l t j
   store-cases = elim (decLt l lines) [
     | yes line ↦ elim (decLe 1 (length t)) [
       | yes low ↦ elim (decLe (length t) messageLimit) [
         | yes high ↦ decided line low high (fits sh (raised (d .used) l (entrySize (length t)))) refl
-        | no high ↦ inr (stays NoText (judged-text d sh l (length t) j line (h .long) (λ p q. high q)) refl)
+        | no high ↦ inr (stays NoText (judged-text d sh l (length t) j line (h .long) (λ p q. high q)) refl refl refl)
       ]
-      | no low ↦ inr (stays NoText (judged-text d sh l (length t) j line (h .long) (λ p q. low p)) refl)
+      | no low ↦ inr (stays NoText (judged-text d sh l (length t) j line (h .long) (λ p q. low p)) refl refl refl)
     ]
-    | no line ↦ inr (stays NoLine (judged-line d sh l (length t) j (omega arith)) refl)
+    | no line ↦ inr (stays NoLine (judged-line d sh l (length t) j (omega arith)) refl refl refl)
   ]
 
 -- ---- a taking: the line's oldest entry, or nothing changes
@@ -91,11 +93,13 @@ pub record Keeps (d : Ledger) (l : ℕ) (j b : List ℕ) : Type 0 where
   pub answer : Took
   pub is : takeOf d l j b ≡ afterTaking d answer j b
   pub no : (c : List ℕ) → given answer c ≡ []
+  pub sized : eqb (getD (tookPaper answer) 0 0) 41 ≡ false
+  pub whole : eqb (getD (tookPaper answer) 0 0) 43 ≡ false
 
 module _ (sh : List ℕ) (d : Ledger) (l : ℕ) (j b : List ℕ) (es : List Entry) (h : Held sh d j es) where
   no-line : lines ≤ l → Keeps d l j b
   unfolding takeOf
-  no-line n = record { answer = NoSuchLine; is = rw (le-ltb l lines n); no = λ c. refl }
+  no-line n = record { answer = NoSuchLine; is = rw (le-ltb l lines n); no = λ c. refl; sized = refl; whole = refl }
 
   pub take-empty : l < lines → from l es ≡ [] → takeOf d l j b ≡ afterTaking d NothingWaiting j b
   unfolding takeOf
@@ -118,11 +122,11 @@ module _ (sh : List ℕ) (d : Ledger) (l : ℕ) (j b : List ℕ) (es : List Entr
     by-length : Gives sh d l j b es ⊎ Keeps d l j b
     by-length = elim (decLe (length (e .text)) (length b)) [
       | yes n ↦ inl (take-gives n)
-      | no n ↦ inr (record { answer = BufferShort; is = take-short (omega arith); no = λ c. refl })
+      | no n ↦ inr (record { answer = BufferShort; is = take-short (omega arith); no = λ c. refl; sized = refl; whole = refl })
     ]
 
   by-oldest : (line : l < lines) (fs : List Entry) → from l es ≡ fs → Gives sh d l j b es ⊎ Keeps d l j b
-  by-oldest line [] q = inr (record { answer = NothingWaiting; is = take-empty line q; no = λ c. refl })
+  by-oldest line [] q = inr (record { answer = NothingWaiting; is = take-empty line q; no = λ c. refl; sized = refl; whole = refl })
   by-oldest line (e ∷ fs) q = by-length line e fs q
 
   pub take-cases : Gives sh d l j b es ⊎ Keeps d l j b

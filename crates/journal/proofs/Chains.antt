@@ -8,14 +8,14 @@ use Prim.Native.Nat.{ℕ, zero, suc, _+_, _-_, _<_, _≤_}
 use native.Mathlib.Nat.{not-suc-le-zero}
 use native.Mathlib.Omega.{arith}
 use native.Mathlib.Decide.{ℕ-discrete}
-use lib.ListN.{length, take, drop, getD, set, length-drop, drop-of-length-le}
+use lib.ListN.{length, take, drop, getD, length-drop, drop-of-length-le}
 use lib.Dec.{eqb}
 use lib.Seq.{take-all, drop-drop, getD-set-same, getD-set-other}
 use borrow.Author.Tests.{eq-eqb, ne-eqb}
 use Rattle.memory.specs.Sizes.{lines, messageLimit}
 use Rattle.memory.proofs.Parts.{length-part}
 use Rattle.journal.specs.Header.{leastHead, headSize, entrySize, headOf}
-use Rattle.journal.specs.Entries.{Entry, size, sizes, total, starts, first, noHeader, firstHead, behind, chainIn, entries}
+use Rattle.journal.specs.Entries.{Entry, size, sizes, total, starts, first, firstHead, behind, chainIn, entries}
 use Rattle.journal.specs.Room.{raised}
 use Rattle.journal.specs.declared.header.Header.{Header}
 use Rattle.journal.proofs.Heads.{head-size-low, line-below}

@@ -1,9 +1,9 @@
 -- What the room rule gives: a line's own share is guaranteed, one line alone reaches all but the others' shares, and what is freed can be stored again.
 -- Assumes nothing.
-use mathlib.Core.Path.{_≡_, refl, sym, ap, _∙_}
+use mathlib.Core.Path.{_≡_, sym, _∙_}
 use mathlib.Core.List.{List, [], _∷_, _++_}
-use mathlib.Core.Bool.{Bool, true, false}
-use Prim.Native.Nat.{ℕ, zero, suc, _+_, _-_, _<_, _≤_, max}
+use mathlib.Core.Bool.{true, false}
+use Prim.Native.Nat.{ℕ, _+_, _-_, _<_, _≤_, max}
 use native.Mathlib.Nat.{le-trans}
 use native.Mathlib.Omega.{arith}
 use native.Mathlib.Decide.{ℕ-discrete}
@@ -11,7 +11,8 @@ use lib.ListN.{length, getD, getD-replicate, set, length-set}
 use borrow.Author.Tests.{le-leb, lt-leb}
 use Rattle.memory.specs.Sizes.{lines, messageLimit, journalSize}
 use Rattle.journal.specs.Header.{entrySize}
-use Rattle.journal.specs.Entries.{Entry, size, sizes, total, before, from}
+use Rattle.journal.specs.Entries.{Entry, size, sizes, before, from}
+use Rattle.journal.specs.Chain.{freshLedger}
 use Rattle.journal.specs.Room.{share, todaysShares, sumTo, claim, claims, fits, raised}
 use Rattle.journal.specs.Verdicts.{judgeOf}
 use Rattle.journal.specs.Removal.{shrunk, without}
@@ -22,7 +23,7 @@ use Rattle.journal.proofs.Oldest.{total-oldest}
 use Rattle.journal.proofs.Totals.{sum-swap, raised-own, raised-other, lowered-own, lowered-other, claims-le, claims-own-share, claims-lowered, claims-raised-le}
 use Rattle.journal.proofs.Wholes.{whole-facts}
 use Rattle.journal.proofs.Judged.{judged-room}
-use Rattle.journal.proofs.Keeps.{take-held}
+use Rattle.journal.proofs.Keeps.{fresh-held, take-held}
 
 -- the verdict of a journal that is held, on an entry that fits
 judged-fits : (sh : List ℕ) (d : Ledger) (l n : ℕ) (j : List ℕ) (es : List Entry) → Held sh d j es → l < lines → 1 ≤ n → n ≤ messageLimit
@@ -56,6 +57,9 @@ module _ (sh u : List ℕ) (l : ℕ) (line : l < lines) (others : (k : ℕ) → 
 
 today : (l : ℕ) → l < lines → getD todaysShares l 0 ≡ share
 today l q = getD-replicate lines l share 0 q
+
+pub fresh-today : (j : List ℕ) → length j ≡ journalSize → Held todaysShares freshLedger j []
+fresh-today j n = fresh-held todaysShares j n (omega arith)
 
 -- at today's shares: 18,432 and not 18,433
 pub today-reaches : (u : List ℕ) (l : ℕ) → l < lines → ((k : ℕ) → k < lines → (k ≡ l → ⊥) → getD u k 0 ≡ 0) → getD u l 0 ≤ 18432 → fits todaysShares u ≡ true

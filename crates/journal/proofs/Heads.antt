@@ -2,10 +2,10 @@
 -- Assumes nothing.
 use mathlib.Core.Path.{_≡_, refl, sym, ap, _∙_}
 use mathlib.Core.List.{List, [], _∷_, _++_}
-use Prim.Native.Nat.{ℕ, zero, suc, _+_, _*_, _/_, _%_, _^_, _<_, _≤_}
+use Prim.Native.Nat.{ℕ, _/_, _%_, _^_, _<_, _≤_}
 use native.Mathlib.Nat.{div-one, mod-eq-of-lt}
 use native.Mathlib.Omega.{arith}
-use lib.ListN.{length, take, drop, getD, length-replicate}
+use lib.ListN.{length, take, length-replicate}
 use Rattle.memory.specs.Sizes.{lines, messageLimit}
 use Rattle.memory.specs.Parts.{part}
 use Rattle.memory.specs.Fields.{width, pack, unpack, octets, longestField}
@@ -13,7 +13,6 @@ use Rattle.memory.proofs.Parts.{part-append-left}
 use Rattle.memory.proofs.Packed.{pack-below, unpack-pack, pack-unpack, length-unpack}
 use Rattle.journal.specs.Header.{headWidths, serialCount, leastHead, headSize, headNumber, header, fieldsOf, headOf}
 use Rattle.journal.specs.Entries.{Bytes}
-use Rattle.journal.specs.declared.header.Header.{Header}
 
 pub head-size-low : (n : ℕ) → leastHead ≤ headSize n
 unfolding headSize

@@ -4,9 +4,9 @@ use mathlib.Core.Path.{_≡_, refl, sym, ap, _∙_}
 use mathlib.Core.List.{List, [], _∷_, _++_}
 use mathlib.Core.Bool.{Bool, true, false}
 use mathlib.Core.Option.{Option, none, some}
-use Prim.Native.Nat.{ℕ, zero, suc, _+_, _<_, _≤_}
+use Prim.Native.Nat.{ℕ, _+_, _<_, _≤_}
 use native.Mathlib.Omega.{arith}
-use lib.ListN.{length, drop, getD, length-drop}
+use lib.ListN.{length, drop, length-drop}
 use lib.Seq.{drop-drop}
 use borrow.Author.Tests.{eq-eqb, ne-eqb}
 use Rattle.memory.specs.Sizes.{lines, messageLimit}
@@ -14,7 +14,7 @@ use Rattle.journal.specs.Header.{serialCount}
 use Rattle.journal.specs.Entries.{Entry, size, sizes, total, starts, first, behind, entries}
 use Rattle.journal.specs.Room.{sumTo}
 use Rattle.journal.proofs.Heads.{line-below, serial-below}
-use Rattle.journal.proofs.Starts.{Starts, starts-facts}
+use Rattle.journal.proofs.Starts.{starts-facts}
 use Rattle.journal.proofs.Chains.{some-inj, no-some, size-first, text-first, entries-nil, entries-go, entries-stop}
 use Rattle.journal.proofs.Oldest.{cons-inj, nil-cons}
 use Rattle.journal.proofs.Totals.{sum-swap}

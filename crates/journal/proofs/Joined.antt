@@ -2,18 +2,17 @@
 -- Assumes nothing.
 use mathlib.Core.Path.{_≡_, refl, sym, ap, _∙_}
 use mathlib.Core.List.{List, [], _∷_, _++_}
-use mathlib.Core.Bool.{Bool, true, false}
+use mathlib.Core.Bool.{true}
 use mathlib.Core.Option.{Option, none, some}
-use Prim.Native.Nat.{ℕ, zero, suc, _+_, _-_, _<_, _≤_}
+use Prim.Native.Nat.{ℕ, zero, suc, _+_, _≤_}
 use native.Mathlib.Nat.{add-zero}
 use native.Mathlib.Omega.{arith}
 use lib.ListN.{length, take, drop, length-append, take-append-drop, drop-of-length-le}
 use lib.Seq.{drop-append-le, length-take-le, take-add, take-length}
 use Rattle.memory.specs.Parts.{part}
 use Rattle.memory.proofs.Parts.{part-append-left, part-append-right, part-start}
-use Rattle.journal.specs.Header.{leastHead, headSize, entrySize, header, headOf}
+use Rattle.journal.specs.Header.{headSize, entrySize, header, headOf}
 use Rattle.journal.specs.Entries.{Entry, encode, size, sizes, starts, first, behind, entries, flatten, Bytes}
-use Rattle.journal.specs.declared.header.Header.{Header}
 use Rattle.journal.proofs.Heads.{head-size-low, head-header, head-append, length-header, respelt}
 use Rattle.journal.proofs.Starts.{Starts, starts-facts, starts-of}
 use Rattle.journal.proofs.Chains.{size-first, text-first, entries-nil, entries-go, prepend, prepend-nil}

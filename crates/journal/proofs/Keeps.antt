@@ -2,14 +2,14 @@
 -- Assumes nothing.
 use mathlib.Core.Path.{_≡_, refl, sym, ap, _∙_}
 use mathlib.Core.List.{List, [], _∷_, _++_, append-assoc}
-use mathlib.Core.Bool.{Bool, true, false, cond}
-use mathlib.Core.Option.{Option, none, some}
-use Prim.Native.Nat.{ℕ, zero, suc, _+_, _-_, _%_, _<_, _≤_, max}
+use mathlib.Core.Bool.{true}
+use mathlib.Core.Option.{some}
+use Prim.Native.Nat.{ℕ, _+_, _-_, _%_, _<_, _≤_}
 use native.Mathlib.Nat.{le-trans}
 use native.Mathlib.Omega.{arith}
 use native.Mathlib.Decide.{ℕ-discrete, decLt}
-use lib.ListN.{length, take, drop, getD, set, getD-replicate, length-append, length-set, length-drop}
-use lib.Seq.{take-take, set-out, length-take-le, getD-set-same, getD-set-other}
+use lib.ListN.{length, take, getD, set, getD-replicate, length-set}
+use lib.Seq.{take-take, set-out, getD-set-same, getD-set-other}
 use borrow.Author.Tests.{eq-eqb, ne-eqb, leb-true}
 use Rattle.memory.specs.Sizes.{lines, messageLimit, journalSize}
 use Rattle.memory.specs.Parts.{part, splice}
@@ -17,7 +17,7 @@ use Rattle.memory.specs.Moves.{later}
 use Rattle.memory.proofs.Parts.{drop-take, length-part, length-splice, take-through}
 use Rattle.journal.specs.Header.{serialCount, entrySize}
 use Rattle.journal.specs.Entries.{Entry, encode, size, sizes, total, entries, before, from}
-use Rattle.journal.specs.Chain.{freshLedger, chain}
+use Rattle.journal.specs.Chain.{freshLedger}
 use Rattle.journal.specs.Room.{sumTo, claim, claims, fits, raised}
 use Rattle.journal.specs.Storage.{newEntry, grown, appended}
 use Rattle.journal.specs.Removal.{shrunk, without}
@@ -28,7 +28,7 @@ use Rattle.journal.proofs.Oldest.{before-from, from-line}
 use Rattle.journal.proofs.Totals.{sum-same, lowered-own, lowered-other, claims-le}
 use Rattle.journal.proofs.Inside.{Sound, entries-drop}
 use Rattle.journal.proofs.Joined.{encode-long, entries-append, entries-encode, entries-take}
-use Rattle.journal.proofs.Wholes.{Whole, whole-of, whole-facts, in-use-is, kept-some}
+use Rattle.journal.proofs.Wholes.{whole-of, whole-facts, in-use-is, kept-some}
 use Rattle.journal.proofs.Judged.{fits-journal}
 
 -- ---- fresh

@@ -3,13 +3,12 @@
 use mathlib.Core.Path.{_≡_, refl, sym, ap, _∙_}
 use mathlib.Core.List.{List, [], _∷_, _++_}
 use mathlib.Core.Bool.{Bool, true, false, cond}
-use Prim.Native.Nat.{ℕ, zero, suc, _+_, _<_, _≤_}
+use Prim.Native.Nat.{ℕ, _+_, _≤_}
 use native.Mathlib.Omega.{arith}
-use lib.ListN.{length}
 use lib.Dec.{eqb}
 use borrow.Author.Tests.{eq-eqb, ne-eqb, eqb-true}
 use Rattle.journal.specs.Entries.{Entry, size, sizes, total, before, from}
-use Rattle.journal.proofs.Chains.{size-pos, sizes-append, total-append}
+use Rattle.journal.proofs.Chains.{size-pos, total-append}
 
 pub cons-inj : (e f : Entry) (es fs : List Entry) → e ∷ es ≡ f ∷ fs → (e ≡ f) × (es ≡ fs)
 cons-inj e f es fs q = (cc, cc)

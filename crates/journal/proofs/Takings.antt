@@ -1,13 +1,13 @@
 -- Taking: what the code did is what the definition says.
 -- Assumes nothing.
 use mathlib.Core.Path.{_≡_, refl, sym, ap, _∙_}
-use mathlib.Core.List.{List, [], _∷_, _++_, append-nil}
-use mathlib.Core.Bool.{Bool, true, false, cond, true≢false}
+use mathlib.Core.List.{List, [], _∷_, _++_}
+use mathlib.Core.Bool.{Bool, true, false, true≢false}
 use mathlib.Core.Option.{Option, none, some}
-use Prim.Native.Nat.{ℕ, zero, suc, _+_, _-_, _<_, _≤_}
+use Prim.Native.Nat.{ℕ, _+_, _-_, _<_, _≤_}
 use native.Mathlib.Omega.{arith}
 use lib.ListN.{length, take, drop, getD, set, length-drop}
-use lib.Dec.{leb, ltb, eqb}
+use lib.Dec.{leb}
 use lib.Seq.{length-take-le, take-take, drop-drop}
 use borrow.Author.Tests.{le-leb, lt-leb, lt-ltb, le-ltb, eq-eqb, ne-eqb}
 use Rattle.memory.specs.Sizes.{lines, messageLimit, journalSize}
@@ -16,14 +16,14 @@ use Rattle.memory.specs.Moves.{Copied, ClosedUp}
 use Rattle.memory.proofs.Parts.{drop-take}
 use Rattle.memory.proofs.Moves.{copied-fits, closed-fits}
 use Rattle.journal.specs.Header.{headSize, entrySize, headOf}
-use Rattle.journal.specs.Entries.{Entry, size, sizes, starts, first, firstHead, entries, before, from}
+use Rattle.journal.specs.Entries.{Entry, size, sizes, first, firstHead, entries, before, from}
 use Rattle.journal.specs.Chain.{chain, isSome}
 use Rattle.journal.specs.Removal.{shrunk, without, takeAt, takeOf, rest, Stands, TakenAt, TakenFrom}
 use Rattle.journal.specs.declared.header.Header.{Header}
 use Rattle.journal.specs.declared.Ledger.{Ledger}
 use Rattle.journal.specs.declared.Taking.{Taking}
 use Rattle.journal.specs.declared.Took.the-variants.{Taken, NothingWaiting, BufferShort, BrokenJournal, NoSuchLine, WrongSize}
-use Rattle.journal.proofs.Starts.{Starts, starts-facts}
+use Rattle.journal.proofs.Starts.{starts-facts}
 use Rattle.journal.proofs.Chains.{size-pos, size-first, text-first, first-is, sizes-append}
 use Rattle.journal.proofs.Oldest.{before-from, total-oldest}
 use Rattle.journal.proofs.Inside.{entries-cons, entries-drop}

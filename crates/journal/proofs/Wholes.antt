@@ -1,19 +1,19 @@
 -- The journal is whole exactly as document 01 says: the test of the chain, as facts.
 -- Assumes nothing.
 use mathlib.Core.Path.{_≡_, refl, sym, ap, _∙_}
-use mathlib.Core.List.{List, [], _∷_, _++_}
+use mathlib.Core.List.{List}
 use mathlib.Core.Bool.{Bool, true, false, cond, _&&_, true≢false}
 use mathlib.Core.Option.{Option, none, some}
-use Prim.Native.Nat.{ℕ, zero, suc, _+_, _-_, _<_, _≤_}
+use Prim.Native.Nat.{ℕ, zero, suc, _-_, _<_, _≤_}
 use native.Mathlib.Omega.{arith}
 use native.Mathlib.Decide.{ℕ-discrete}
 use lib.ListN.{length, take, getD}
 use lib.Dec.{leb, eqb}
 use lib.Seq.{length-take-le}
-use borrow.Author.Tests.{le-leb, lt-leb, leb-true, eq-eqb, ne-eqb, eqb-true}
+use borrow.Author.Tests.{le-leb, lt-leb, leb-true, eq-eqb, eqb-true}
 use Rattle.memory.specs.Sizes.{lines}
 use Rattle.memory.proofs.Tests.{and-left, and-right}
-use Rattle.journal.specs.Entries.{Entry, entries, sizes, total, before}
+use Rattle.journal.specs.Entries.{Entry, entries, sizes, total}
 use Rattle.journal.specs.Chain.{every, agree, counted, chain, isSome, Walked, Seen}
 use Rattle.journal.specs.declared.Ledger.{Ledger}
 use Rattle.journal.proofs.Chains.{some-inj, no-some, total-le}

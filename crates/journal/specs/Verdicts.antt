@@ -1,7 +1,6 @@
 -- Whether an entry may be stored, and if not, why: the first ground that applies.
 -- Assumes nothing.
 use Prim.Native.Nat.{ℕ}
-use mathlib.Core.Bool.{Bool}
 use mathlib.Core.List.{List}
 use lib.ListN.{length}
 use lib.Dec.{ltb, eqb}

@@ -46,6 +46,7 @@ pub fn number(line: usize, count: usize, serial: u16) -> u64
     line as u64 * LINE_AT + count as u64 * LENGTH_AT + serial as u64
 }
 
+// The header that a number spells: line 3 bits, spare 1, text length 12, serial 16.
 fn fields(n: u64) -> Header
     ensures { λ r. ⌜ r ≡ fieldsOf (unpack headWidths n) ⌝ }
 {

@@ -124,8 +124,9 @@ pub fn store(ledger: Ledger, shares: [u16; 8], line: u8, text: &[u8], journal: &
             answer: verdict,
         };
     }
+    let after = entry::append(ledger, line as usize, text, journal);
     Storing {
-        ledger: entry::append(ledger, line as usize, text, journal),
+        ledger: after,
         answer: verdict,
     }
 }

@@ -1,6 +1,6 @@
 -- `store` meets its contract: the verdict is `judge`'s, and only where it fits is the entry written.
 -- Assumes nothing.
-use mathlib.Core.Path.{_≡_, refl, sym, ap, _∙_}
+use mathlib.Core.Path.{_≡_, sym, ap, _∙_}
 use mathlib.Core.Bool.{true}
 use borrow.Author.Needs.{needs}
 use denote.Ref.{now}
@@ -8,7 +8,6 @@ use lib.ListN.{length}
 use borrow.Author.Tests.{not-true, not-false}
 use Rattle.memory.specs.Sizes.{lines}
 use Rattle.journal.specs.Answers.{isFits}
-use Rattle.journal.specs.Verdicts.{judgeOf}
 use Rattle.journal.proofs.Storings.{ready, not-stored, is-stored}
 use Rattle.journal.proofs.store.Statement.{statement}
 use Rattle.journal.proofs.store.Tie as tie

@@ -1,6 +1,6 @@
 -- `take` meets its contract: the place that the walk found is the line's oldest entry's, or the end in use where the line has none.
 -- Assumes nothing.
-use mathlib.Core.Path.{_≡_, refl, sym, ap, _∙_}
+use mathlib.Core.Path.{sym, _∙_}
 use native.Mathlib.Omega.{arith}
 use borrow.Author.Needs.{needs}
 use denote.Ref.{now}

@@ -1,9 +1,9 @@
 -- `chain::agrees` meets its contract. The loop's invariant: the lines from i on agree.
 -- Assumes nothing.
-use mathlib.Core.Path.{_≡_, refl, sym, ap, _∙_}
+use mathlib.Core.Path.{_≡_, refl, sym, _∙_}
 use mathlib.Core.List.{List}
 use mathlib.Core.Bool.{Bool}
-use Prim.Native.Nat.{ℕ, _≤_}
+use Prim.Native.Nat.{ℕ, _-_, _≤_}
 use native.Mathlib.Omega.{arith}
 use lib.ListN.{getD}
 use lib.Dec.{eqb}
@@ -30,13 +30,13 @@ returns : tie.Need-returns Inv-loop μ-loop
 returns c =
     let a = c .before .before .before .args in
     let l = c .before .before .loop in
-    sym (l .inv .1 ∙ every-no (l .i) (same (a .t1) (a .t2)) (omega arith) (ne-eqb _ _ (c .if1 .taken)))
+    sym (l .inv .1 ∙ every-no (l .i) (same (a .t1) (a .t2)) (omega arith) (ne-eqb (getD (a .t1) (l .i - 1) 0) (getD (a .t2) (l .i - 1) 0) (λ q. omega arith)))
 
 loop-again : tie.Need-loop-again Inv-loop μ-loop
 loop-again c =
     let a = c .before .before .before .args in
     let l = c .before .before .loop in
-    (omega arith, l .inv .1 ∙ every-yes (l .i) (same (a .t1) (a .t2)) (omega arith) (eq-eqb _ _ (c .if1 .left)))
+    (omega arith, l .inv .1 ∙ every-yes (l .i) (same (a .t1) (a .t2)) (omega arith) (eq-eqb (getD (a .t1) (l .i - 1) 0) (getD (a .t2) (l .i - 1) 0) (omega arith)))
 
 returns-2 : tie.Need-returns-2 Inv-loop μ-loop
 returns-2 c =

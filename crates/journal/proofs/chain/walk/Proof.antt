@@ -4,7 +4,7 @@
 use mathlib.Core.Path.{_≡_, refl, sym, ap, _∙_}
 use mathlib.Core.List.{List, [], _∷_, _++_}
 use mathlib.Core.Option.{none, some}
-use Prim.Native.Nat.{ℕ, _+_, _-_, _≤_, _<_}
+use Prim.Native.Nat.{ℕ, _+_, _-_, _<_}
 use native.Mathlib.Omega.{arith}
 use borrow.Author.Needs.{needs}
 use denote.Ref.{now}
@@ -72,14 +72,14 @@ loop-again c =
     let l = c .before .before .before .before .before .before .before .loop in
     let t = stepped (c .before .before .before) in
     counted (c .before .before) _
-    (omega (arith, c .before .before .entry-size .ensures .0, t .long, l .inv .walked .passed, stands-here (c .before .before .before .before .before .before .before .before .before .args .line) (l .inv .done) (first (drop (l .at) (now (c .before .before .before .before .before .before .before .before .before .args .s)))) (λ q. c .before .if2 .taken (sym (t .line) ∙ q)) (sym (l .inv .stands) ∙ c .if3 .taken ∙ l .inv .walked .passed)))
+    (omega (arith, c .before .before .entry-size .ensures .0, t .long, l .inv .walked .passed, stands-here (c .before .before .before .before .before .before .before .before .before .args .line) (l .inv .done) (first (drop (l .at) (now (c .before .before .before .before .before .before .before .before .before .args .s)))) (λ q. c .before .if2 .taken (sym (t .line) ∙ q)) (omega (arith, l .inv .stands, l .inv .walked .passed))))
 
 loop-again-2 : tie.Need-loop-again-2 Inv-loop μ-loop
 loop-again-2 c =
     let l = c .before .before .before .before .before .before .before .loop in
     let t = stepped (c .before .before .before) in
     counted (c .before .before) _
-    (l .inv .stands ∙ stands-gone _ (l .inv .done) _ (λ q. c .before .if2 .taken (sym (t .line) ∙ q)) (λ q. c .if3 .left (l .inv .stands ∙ q ∙ sym (l .inv .walked .passed))))
+    (l .inv .stands ∙ stands-gone _ (l .inv .done) _ (λ q. c .before .if2 .taken (sym (t .line) ∙ q)) (λ q. omega (arith, l .inv .stands, l .inv .walked .passed)))
 
 loop-again-3 : tie.Need-loop-again-3 Inv-loop μ-loop
 loop-again-3 c =

@@ -1,6 +1,5 @@
 -- `entry::take_at` meets its contract: the text is copied to the buffer, and what stands behind the entry closes up.
 -- Assumes nothing.
-use mathlib.Core.Path.{_≡_, refl, sym, ap, _∙_}
 use native.Mathlib.Omega.{arith}
 use borrow.Author.Needs.{needs}
 use denote.Ref.{now}

@@ -7,7 +7,7 @@ use Rattle.journal.proofs.header.whole.Statement.{statement}
 use Rattle.journal.proofs.header.whole.Tie as tie
 
 returns : tie.Need-returns
-returns c = let a = c .before .before .args in no-whole (a .h) (a .room) (λ f. c .if1 .taken (f .spare))
+returns c = let a = c .before .before .args in no-whole (a .h) (a .room) (λ f. omega arith)
 
 returns-2 : tie.Need-returns-2
 returns-2 c = let a = c .before .before .before .before .args in no-whole (a .h) (a .room) (λ f. omega arith)
