@@ -123,6 +123,24 @@ pub fn step(
     working::work(line, ledger, e, journal, unfinished, frames)
 }
 
+// The same where the line's record and the ledger lie: the step by value, and its outcome stored.
+pub fn step_in_place(
+    line: &mut Line,
+    ledger: &mut Ledger,
+    event: Event,
+    journal: &mut [u8],
+    unfinished: &mut [u8],
+    frames: &mut [u8],
+) -> Answer
+    ensures { λ r. ⌜ Stepping (now (line .entry)) (now (ledger .entry)) event (now (journal .entry)) (now (unfinished .entry)) (now (frames .entry))
+        (record { line = now (line .exit); ledger = now (ledger .exit); answer = r }) (now (journal .exit)) (now (unfinished .exit)) (now (frames .exit)) ⌝ }
+{
+    let s = step(*line, *ledger, event, journal, unfinished, frames);
+    *line = s.line;
+    *ledger = s.ledger;
+    s.answer
+}
+
 // Nothing changed.
 fn left(line: Line, ledger: Ledger, answer: Answer) -> Stepped
     ensures { λ r. ⌜ r ≡ record { line = line; ledger = ledger; answer = answer } ⌝ }
