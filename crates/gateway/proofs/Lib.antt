@@ -1,6 +1,7 @@
 pub mod Joined
 pub mod Views
 pub mod Looks
+pub mod Cases
 pub mod Rows
 pub mod Pieces
 pub mod Decisions

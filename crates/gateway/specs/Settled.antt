@@ -8,7 +8,7 @@ use Rattle.memory.specs.Sizes.{messageLimit}
 use Rattle.memory.specs.Parts.{splice}
 use Rattle.journal.specs.Storage.{grown, appended}
 use Rattle.journal.specs.declared.Ledger.{Ledger}
-use Rattle.line.specs.Line.{mostCollected, freshLine, openedLine, begunLine, collectedLine, countedLine, waitingLine, acceptedLine, refusingLine}
+use Rattle.line.specs.Line.{mostCollected, mostSeconds, freshLine, openedLine, begunLine, collectedLine, countedLine, waitingLine, acceptedLine, refusingLine}
 use Rattle.line.specs.declared.Line.{Line}
 use Rattle.gateway.specs.Views.{frameStart, textStart, frameText}
 use Rattle.gateway.specs.declared.Kind.{Kind}
@@ -100,7 +100,7 @@ Fitting (Left a) l = Unit {0}
 Fitting Opens l = Unit {0}
 Fitting (Closes a) l = Unit {0}
 Fitting Begins l = Unit {0}
-Fitting (Counts n) l = Unit {0}
+Fitting (Counts n) l = n ≤ mostSeconds
 Fitting Collects l = l .collected < mostCollected
 Fitting (Refuses a) l = Unit {0}
 Fitting (Accepts n) l = TextFits l n

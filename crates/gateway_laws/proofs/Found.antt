@@ -1,0 +1,77 @@
+-- What a verdict was found on: a refusal of 40 to 42, or a line within its limits, memory of the right sizes, and a verdict that fits it.
+-- Assumes nothing.
+use mathlib.Core.Path.{_≡_, refl, sym, ap, subst, _∙_}
+use mathlib.Core.Bool.{Bool, true, false, cond, _&&_}
+use mathlib.Core.List.{List}
+use Prim.Native.Nat.{ℕ, _<_}
+use borrow.Author.Tests.{ltb-true, eqb-true}
+use lib.ListN.{length}
+use lib.Dec.{ltb, eqb}
+use Rattle.memory.specs.Sizes.{lines, journalSize, unfinishedSize, framesSize}
+use Rattle.memory.specs.Tests.{unless}
+use Rattle.memory.proofs.Tests.{and-left, and-right}
+use Rattle.journal.specs.declared.Ledger.{Ledger}
+use Rattle.line.specs.Line.{withinLimits}
+use Rattle.line.specs.declared.Line.{Line}
+use Rattle.line.specs.declared.Answer.{Answer}
+use Rattle.line.specs.declared.Answer.the-variants.{NoLine, WrongSize, BeyondLimits}
+use Rattle.gateway.specs.Views.{joinedText, Ready}
+use Rattle.gateway.specs.Looks.{lookOf}
+use Rattle.gateway.specs.Verdicts.{decided, workOf, rightSizes, verdictOf}
+use Rattle.gateway.specs.Settled.{Fitting}
+use Rattle.gateway.specs.declared.Event.{Event}
+use Rattle.gateway.specs.declared.Look.{Look}
+use Rattle.gateway.specs.declared.Look.the-variants.{Done, Decides}
+use Rattle.gateway.specs.declared.Verdict.{Verdict}
+use Rattle.gateway.specs.declared.Verdict.the-variants.{Left}
+use Rattle.gateway_laws.specs.Classes.{classOf, quiet}
+use Rattle.gateway.proofs.Fits.{LookFits, look-fits, decision-fits}
+
+-- the sizes, as facts
+pub sizes-facts : (j u f : List ℕ) → rightSizes j u f ≡ true → (length j ≡ journalSize) × (length u ≡ unfinishedSize) × (length f ≡ framesSize)
+sizes-facts j u f h =
+    let rest = and-right (eqb (length j) journalSize) (eqb (length u) unfinishedSize && eqb (length f) framesSize) h in (
+      eqb-true (length j) journalSize (and-left (eqb (length j) journalSize) (eqb (length u) unfinishedSize && eqb (length f) framesSize) h),
+      eqb-true (length u) unfinishedSize (and-left (eqb (length u) unfinishedSize) (eqb (length f) framesSize) rest),
+      eqb-true (length f) framesSize (and-right (eqb (length u) unfinishedSize) (eqb (length f) framesSize) rest),
+    )
+
+module _ (shares : List ℕ) (l : Line) (d : Ledger) (e : Event) (j u f : List ℕ) where
+  -- past 40 to 42
+  pub record Worked (v : Verdict) : Type 0 where
+    pub ready : Ready l (e .line) u f
+    pub size : length j ≡ journalSize
+    pub fits : Fitting v l
+    pub work : v ≡ workOf shares l d e j u f
+
+  pub data Found : Verdict → Type 0 where
+    refused : (a : Answer) → classOf a ≡ quiet → Found (Left a)
+    worked : {v : Verdict} → Worked v → Found v
+
+  work-fits : Ready l (e .line) u f → Fitting (workOf shares l d e j u f) l
+  unfolding workOf
+  work-fits r = by-look (lookOf l (e .line) (e .kind) u f) (look-fits l (e .line) u f r (e .kind))
+    where
+      by-look : (k : Look) → LookFits k l → Fitting (decided k shares l d (e .line) j u f) l
+      by-look (Done v) h = h .0
+      by-look (Decides n) h = decision-fits l shares d (e .line) n (joinedText l (e .line) n u f) j h
+
+  pub verdict-found : Found (verdictOf shares l d e j u f)
+  unfolding verdictOf
+  verdict-found = by-line (ltb (e .line) lines) refl
+    where
+      by-limits : (b : Bool) → e .line < lines → rightSizes j u f ≡ true → withinLimits l ≡ b → Found (unless b (Left BeyondLimits) (workOf shares l d e j u f))
+      by-limits true h s w =
+          let (size, texts, bytes) = sizes-facts j u f s in
+          let r : Ready l (e .line) u f = record { line = h; within = w; texts = texts; bytes = bytes } in
+          worked (record { ready = r; size = size; fits = work-fits r; work = refl })
+      by-limits false h s w = refused BeyondLimits refl
+
+      by-sizes : (b : Bool) → e .line < lines → rightSizes j u f ≡ b → Found (unless b (Left WrongSize) (unless (withinLimits l) (Left BeyondLimits) (workOf shares l d e j u f)))
+      by-sizes true h s = by-limits (withinLimits l) h s refl
+      by-sizes false h s = refused WrongSize refl
+
+      by-line : (b : Bool) → ltb (e .line) lines ≡ b
+          → Found (unless b (Left NoLine) (unless (rightSizes j u f) (Left WrongSize) (unless (withinLimits l) (Left BeyondLimits) (workOf shares l d e j u f))))
+      by-line true h = by-sizes (rightSizes j u f) (ltb-true (e .line) lines h) refl
+      by-line false h = refused NoLine refl

@@ -1,0 +1,95 @@
+-- What acting leaves of the other lines' parts, and of all sizes.
+-- Assumes nothing.
+use mathlib.Core.Path.{_≡_, refl, sym, ap, _∙_}
+use mathlib.Core.Logic.{_≢_}
+use mathlib.Core.List.{List, [], _∷_}
+use Prim.Native.Nat.{ℕ, _+_, _≤_, _<_}
+use native.Mathlib.Omega.{arith}
+use lib.ListN.{length, set, length-set}
+use Rattle.memory.specs.Sizes.{lines, messageLimit, framePart}
+use Rattle.memory.specs.Parts.{part, splice}
+use Rattle.memory.proofs.Parts.{set-splice, length-splice}
+use Rattle.memory.proofs.Lines.{part-elsewhere}
+use Rattle.line.specs.declared.Line.{Line}
+use Rattle.line.proofs.Limits.{within-facts}
+use Rattle.gateway.specs.Views.{frameStart, textStart, framesOf, textsOf, frameText, Ready}
+use Rattle.gateway.specs.Settled.{withByte, withText, framesAfter, textsAfter, TextFits, Fitting}
+use Rattle.gateway.specs.declared.Kind.{Kind}
+use Rattle.gateway.specs.declared.Kind.the-variants.{Byte, Seconds}
+use Rattle.gateway.specs.declared.Verdict.{Verdict}
+use Rattle.gateway.specs.declared.Verdict.the-variants.{Left, Opens, Closes, Begins, Counts, Collects, Refuses, Accepts, Stores, Against}
+use Rattle.gateway.proofs.Pieces.{length-text}
+
+module _ (l : Line) (i : ℕ) (u f : List ℕ) (ready : Ready l i u f) where
+  -- where the byte goes
+  byte-at : frameStart i + l .collected < length f
+  byte-at = omega (arith, ready, within-facts l (ready .within))
+
+  module _ (n : ℕ) (fits : TextFits l n) where
+    text-room : textStart i + l .joined + length (frameText i n f) ≤ length u
+    text-room = omega (arith, ready, fits, length-text l i n u f ready fits)
+
+    text-length : length (withText l i n u f) ≡ length u
+    text-length = length-splice u (textStart i + l .joined) (frameText i n f) text-room
+
+    text-other : (k : ℕ) → i ≢ k → textsOf k (withText l i n u f) ≡ textsOf k u
+    text-other k m =
+        part-elsewhere messageLimit u i k (l .joined) (frameText i n f) m (omega (arith, ready)) (omega (arith, fits, length-text l i n u f ready fits))
+
+  byte-length : (k : Kind) → length (withByte k l i f) ≡ length f
+  byte-length (Byte b) = length-set f (frameStart i + l .collected) b
+  byte-length (Seconds s) = refl
+
+  byte-other : (kind : Kind) (k : ℕ) → i ≢ k → framesOf k (withByte kind l i f) ≡ framesOf k f
+  byte-other (Byte b) k m =
+      ap (framesOf k) (set-splice f (frameStart i + l .collected) b byte-at)
+      ∙ part-elsewhere framePart f i k (l .collected) (b ∷ []) m (omega (arith, ready)) (omega (arith, within-facts l (ready .within)))
+  byte-other (Seconds s) k m = refl
+
+  pub texts-length : (v : Verdict) → Fitting v l → length (textsAfter v l i u f) ≡ length u
+  texts-length (Left a) t = refl
+  texts-length Opens t = refl
+  texts-length (Closes a) t = refl
+  texts-length Begins t = refl
+  texts-length (Counts n) t = refl
+  texts-length Collects t = refl
+  texts-length (Refuses a) t = refl
+  texts-length (Accepts n) t = text-length n t
+  texts-length (Stores n) t = text-length n t
+  texts-length (Against a n) t = text-length n t
+
+  pub frames-length : (v : Verdict) (kind : Kind) → length (framesAfter v kind l i f) ≡ length f
+  frames-length (Left a) kind = refl
+  frames-length Opens kind = refl
+  frames-length (Closes a) kind = refl
+  frames-length Begins kind = refl
+  frames-length (Counts n) kind = refl
+  frames-length Collects kind = byte-length kind
+  frames-length (Refuses a) kind = byte-length kind
+  frames-length (Accepts n) kind = byte-length kind
+  frames-length (Stores n) kind = byte-length kind
+  frames-length (Against a n) kind = byte-length kind
+
+  pub texts-other : (v : Verdict) → Fitting v l → (k : ℕ) → i ≢ k → textsOf k (textsAfter v l i u f) ≡ textsOf k u
+  texts-other (Left a) t k m = refl
+  texts-other Opens t k m = refl
+  texts-other (Closes a) t k m = refl
+  texts-other Begins t k m = refl
+  texts-other (Counts n) t k m = refl
+  texts-other Collects t k m = refl
+  texts-other (Refuses a) t k m = refl
+  texts-other (Accepts n) t k m = text-other n t k m
+  texts-other (Stores n) t k m = text-other n t k m
+  texts-other (Against a n) t k m = text-other n t k m
+
+  pub frames-other : (v : Verdict) (kind : Kind) (k : ℕ) → i ≢ k → framesOf k (framesAfter v kind l i f) ≡ framesOf k f
+  frames-other (Left a) kind k m = refl
+  frames-other Opens kind k m = refl
+  frames-other (Closes a) kind k m = refl
+  frames-other Begins kind k m = refl
+  frames-other (Counts n) kind k m = refl
+  frames-other Collects kind k m = byte-other kind k m
+  frames-other (Refuses a) kind k m = byte-other kind k m
+  frames-other (Accepts n) kind k m = byte-other kind k m
+  frames-other (Stores n) kind k m = byte-other kind k m
+  frames-other (Against a n) kind k m = byte-other kind k m

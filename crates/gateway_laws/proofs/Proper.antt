@@ -1,0 +1,88 @@
+-- Every verdict gives an answer of its own row.
+-- Assumes nothing.
+use mathlib.Core.Path.{_≡_, refl, sym, subst}
+use mathlib.Core.Bool.{Bool, true, false, cond}
+use mathlib.Core.List.{List}
+use Prim.Native.Nat.{ℕ}
+use lib.ListN.{length}
+use Rattle.record.specs.Delimiters.{standard}
+use Rattle.record.specs.Faults.{isMessage}
+use Rattle.journal.specs.Verdicts.{judgeOf}
+use Rattle.journal.specs.declared.Ledger.{Ledger}
+use Rattle.journal.specs.declared.Verdict.{Verdict as Judgement}
+use Rattle.journal.specs.declared.Verdict.the-variants.{Fits, NoRoom as Full, Broken as Damaged, NoLine as Nowhere, OtherSize, NoText}
+use Rattle.line.specs.declared.Line.{Line}
+use Rattle.gateway.specs.Views.{joinedText, Ready}
+use Rattle.gateway.specs.Looks.{lookOf}
+use Rattle.gateway.specs.Verdicts.{roomVerdict, decisionOf, decided, workOf, verdictOf, answerOf}
+use Rattle.gateway.specs.declared.Event.{Event}
+use Rattle.gateway.specs.declared.Look.{Look}
+use Rattle.gateway.specs.declared.Look.the-variants.{Done, Decides}
+use Rattle.gateway.specs.declared.Verdict.{Verdict}
+use Rattle.gateway.specs.declared.Verdict.the-variants.{Left}
+use Rattle.gateway.proofs.Cases.{Cases, every-look}
+use Rattle.gateway_laws.specs.Classes.{classOf, verdictClass}
+use Rattle.gateway_laws.proofs.Found.{Found, refused, worked, Worked, verdict-found}
+
+abbrev pub Proper : Verdict → Type 0
+Proper v = classOf (answerOf v) ≡ verdictClass v
+
+abbrev LookProper : Look → Type 0
+LookProper (Done v) = Proper v
+LookProper (Decides n) = Unit {0}
+
+proper : (l : Line) → Cases LookProper l
+proper l = record {
+  ignored = refl;
+  busy = refl;
+  opens = refl;
+  ended = refl;
+  dropped = refl;
+  timed-out = refl;
+  begins = refl;
+  counts = λ n h. refl;
+  collects = λ h. refl;
+  unended = refl;
+  torn = refl;
+  unchecked = refl;
+  foreign = refl;
+  unnumbered = refl;
+  refused = refl;
+  repeated = refl;
+  missed = refl;
+  overlong = refl;
+  no-cr = refl;
+  accepts = λ n t. refl;
+  decides = λ n t. tt;
+}
+
+room-proper : (q : Judgement) (n : ℕ) → Proper (roomVerdict q n)
+room-proper Fits n = refl
+room-proper Full n = refl
+room-proper Damaged n = refl
+room-proper Nowhere n = refl
+room-proper OtherSize n = refl
+room-proper NoText n = refl
+
+verdict-by-test : (t : Bool) (x y : Verdict) → Proper x → Proper y → Proper (cond t x y)
+verdict-by-test true x y p q = p
+verdict-by-test false x y p q = q
+
+module _ (shares : List ℕ) (l : Line) (d : Ledger) (e : Event) (j u f : List ℕ) where
+  decided-proper : (k : Look) → LookProper k → Proper (decided k shares l d (e .line) j u f)
+  unfolding decisionOf
+  decided-proper (Done v) p = p
+  decided-proper (Decides n) p =
+      let text = joinedText l (e .line) n u f in
+      verdict-by-test (isMessage standard text) _ _ (room-proper (judgeOf d shares (e .line) (length text) j) n) refl
+
+  work-proper : Ready l (e .line) u f → Proper (workOf shares l d e j u f)
+  unfolding workOf
+  work-proper r = decided-proper (lookOf l (e .line) (e .kind) u f) (every-look LookProper l (proper l) (e .line) u f r (e .kind))
+
+  pub verdict-proper : Proper (verdictOf shares l d e j u f)
+  verdict-proper = by-found (verdictOf shares l d e j u f) (verdict-found shares l d e j u f)
+    where
+      by-found : (v : Verdict) → Found shares l d e j u f v → Proper v
+      by-found (Left a) (refused b q) = q
+      by-found v (worked w) = subst Proper (sym (w .work)) (work-proper (w .ready))

@@ -1,0 +1,53 @@
+-- The answers by what they leave: the rows of document 01's "What is left".
+-- Assumes nothing.
+use Rattle.line.specs.declared.Answer.{Answer}
+use Rattle.line.specs.declared.Answer.the-variants.{Nothing, Opened, Accepted, Repeated, Stored, Ended, Dropped, TimedOut, Taken, Busy, Unended, Torn, WrongCheck, BadText, BadNumber, Refusing, OutOfTurn, TooLong, NoCr, NoMessage, NoRoom, NoLine, WrongSize, BeyondLimits, Broken, NothingWaiting, BufferShort, Malformed, NotFitting}
+use Rattle.gateway.specs.declared.Verdict.{Verdict}
+use Rattle.gateway.specs.declared.Verdict.the-variants.{Left, Opens, Closes, Begins, Counts, Collects, Refuses, Accepts, Stores, Against}
+
+-- quiet: 0, 20, 40 to 47; opening: 1; closing: 5, 6, 7; refusing: 3 and 21 to 29; deciding against: 30, 31; and 2, 4, 8
+pub data Class : Type 0 where
+  quiet opening closing refusing accepting storing against taking : Class
+
+abbrev pub classOf : Answer → Class
+classOf Nothing = quiet
+classOf Opened = opening
+classOf Accepted = accepting
+classOf Repeated = refusing
+classOf Stored = storing
+classOf Ended = closing
+classOf Dropped = closing
+classOf TimedOut = closing
+classOf (Taken length serial) = taking
+classOf Busy = quiet
+classOf Unended = refusing
+classOf Torn = refusing
+classOf WrongCheck = refusing
+classOf BadText = refusing
+classOf BadNumber = refusing
+classOf Refusing = refusing
+classOf OutOfTurn = refusing
+classOf TooLong = refusing
+classOf NoCr = refusing
+classOf NoMessage = against
+classOf NoRoom = against
+classOf NoLine = quiet
+classOf WrongSize = quiet
+classOf BeyondLimits = quiet
+classOf Broken = quiet
+classOf NothingWaiting = quiet
+classOf BufferShort = quiet
+classOf Malformed = quiet
+classOf NotFitting = quiet
+
+abbrev pub verdictClass : Verdict → Class
+verdictClass (Left a) = quiet
+verdictClass Opens = opening
+verdictClass (Closes a) = closing
+verdictClass Begins = quiet
+verdictClass (Counts n) = quiet
+verdictClass Collects = quiet
+verdictClass (Refuses a) = refusing
+verdictClass (Accepts n) = accepting
+verdictClass (Stores n) = storing
+verdictClass (Against a n) = against
