@@ -7,3 +7,4 @@ pub mod Pieces
 pub mod Decisions
 pub mod Fits
 pub mod Steps
+pub mod OneOutcome

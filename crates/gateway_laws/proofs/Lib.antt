@@ -1,3 +1,4 @@
 pub mod Found
 pub mod Proper
 pub mod Others
+pub mod Laws

@@ -186,7 +186,7 @@ impl Line {
             collected: 0,
             joined: self.joined,
             seconds: 0,
-            next: self.next,
+            next: self.next, // a refused frame does not advance it
             last: last,
             refusing: self.refusing,
         }

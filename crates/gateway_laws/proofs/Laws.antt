@@ -1,0 +1,238 @@
+-- The laws of one event and of one taking. The theorems above use these, and not the code.
+-- Assumes nothing.
+use mathlib.Core.Path.{_≡_, refl, sym, ap, subst, _∙_}
+use mathlib.Core.Logic.{_≢_}
+use mathlib.Core.Bool.{Bool, true, false}
+use mathlib.Core.List.{List}
+use Prim.Native.Nat.{ℕ, _+_, _≤_, _<_}
+use native.Mathlib.Omega.{arith}
+use borrow.Author.Tests.{lt-ltb, ltb-true}
+use lib.Dec.{ltb}
+use lib.ListN.{length, getD, set, length-set}
+use lib.Seq.{getD-set-other, getD-set-same}
+use Rattle.memory.specs.Sizes.{lines}
+use Rattle.memory.specs.Tests.{unless}
+use Rattle.journal.specs.Storage.{grown, appended}
+use Rattle.journal.specs.declared.Ledger.{Ledger}
+use Rattle.line.specs.Line.{withinLimits, freshLine, openedLine, waitingLine}
+use Rattle.line.specs.declared.Line.{Line}
+use Rattle.line.specs.declared.Answer.{Answer}
+use Rattle.line.specs.declared.Answer.the-variants.{Nothing, Stored, NoLine}
+use Rattle.line.proofs.Limits.{Within, within-facts, within-of, fresh-within, opened-within, begun-within, collected-within, counted-within, waiting-within, accepted-within, refusing-within}
+use Rattle.gateway.specs.Views.{framesOf, textsOf, joinedText}
+use Rattle.gateway.specs.Looks.{lookOf}
+use Rattle.gateway.specs.Verdicts.{decided, workOf, rightSizes, verdictOf, answerOf}
+use Rattle.gateway.specs.Settled.{lineAfter, withByte, Fitting}
+use Rattle.gateway.specs.Events.{Memory, AfterStep, settle, stepOf, lineAt, noRecord, AfterEvent, putBack, eventOf, takeOf}
+use Rattle.gateway.specs.declared.Event.{Event}
+use Rattle.gateway.specs.declared.Gateway.{Gateway}
+use Rattle.gateway.specs.declared.Look.{Look}
+use Rattle.gateway.specs.declared.Look.the-variants.{Done}
+use Rattle.gateway.specs.declared.Verdict.{Verdict}
+use Rattle.gateway.specs.declared.Verdict.the-variants.{Left, Opens, Closes, Begins, Counts, Collects, Refuses, Accepts, Stores, Against}
+use Rattle.gateway_laws.specs.Classes.{Class, quiet, refusing, classOf, verdictClass}
+use Rattle.gateway_laws.proofs.Found.{Found, refused, worked, Worked, verdict-found}
+use Rattle.gateway_laws.proofs.Proper.{Proper, verdict-proper}
+use Rattle.gateway_laws.proofs.Others.{texts-length, frames-length, texts-other, frames-other}
+
+-- nothing changed, with an answer
+abbrev pub unchanged : Line → Ledger → Memory → Answer → AfterStep
+unchanged l d m a = record { stepped = record { line = l; ledger = d; answer = a }; memory = m }
+
+-- what every judged frame changes, with an answer
+abbrev pub judged : Line → Ledger → Event → Memory → Answer → AfterStep
+judged l d e m a = record {
+  stepped = record { line = waitingLine l; ledger = d; answer = a };
+  memory = record { journal = m .journal; unfinished = m .unfinished; frames = withByte (e .kind) l (e .line) (m .frames) };
+}
+
+nothing-else : {A : Type 0} → _≡_ {A = ℕ} 0 1 → A
+nothing-else z = absurd (omega arith)
+
+module _ (shares : List ℕ) (l : Line) (d : Ledger) (e : Event) (m : Memory) where
+  abbrev found : Verdict
+  found = verdictOf shares l d e (m .journal) (m .unfinished) (m .frames)
+
+  step-is : (v : Verdict) → found ≡ v → stepOf shares l d e m ≡ settle v l d e m
+  unfolding stepOf
+  step-is v h = ap (λ (x : Verdict). settle x l d e m) h
+
+  is-proper : (v : Verdict) → found ≡ v → Proper v
+  is-proper v h = subst Proper h (verdict-proper shares l d e (m .journal) (m .unfinished) (m .frames))
+
+  is-found : (v : Verdict) → found ≡ v → Found shares l d e (m .journal) (m .unfinished) (m .frames) v
+  is-found v h = subst (Found shares l d e (m .journal) (m .unfinished) (m .frames)) h (verdict-found shares l d e (m .journal) (m .unfinished) (m .frames))
+
+  -- an ignored event, 20 and 40 to 43 change nothing at all
+  pub left-unchanged : (a : Answer) → found ≡ Left a → stepOf shares l d e m ≡ unchanged l d m a
+  left-unchanged a h = step-is (Left a) h
+
+  pub refused-unchanged : (a : Answer) → stepOf shares l d e m .stepped .answer ≡ a → classOf a ≡ quiet → a ≢ Nothing → stepOf shares l d e m ≡ unchanged l d m a
+  refused-unchanged a h q n = by-verdict found refl
+    where
+      by-verdict : (v : Verdict) → found ≡ v → stepOf shares l d e m ≡ unchanged l d m a
+      by-verdict v p = row v (step-is v p) (is-proper v p) (sym (ap (λ (s : AfterStep). s .stepped .answer) (step-is v p)) ∙ h)
+        where
+          row : (v : Verdict) → stepOf shares l d e m ≡ settle v l d e m → Proper v → answerOf v ≡ a → stepOf shares l d e m ≡ unchanged l d m a
+          row (Left b) s c r = s ∙ ap (unchanged l d m) r
+          row Opens s c r = nothing-else (cc (ap classOf r))
+          row (Closes b) s c r = nothing-else (cc (ap classOf r))
+          row Begins s c r = absurd (n (sym r))
+          row (Counts k) s c r = absurd (n (sym r))
+          row Collects s c r = absurd (n (sym r))
+          row (Refuses b) s c r = nothing-else (cc (ap classOf r))
+          row (Accepts k) s c r = nothing-else (cc (ap classOf r))
+          row (Stores k) s c r = nothing-else (cc (ap classOf r))
+          row (Against b k) s c r = nothing-else (cc (ap classOf r))
+
+  -- only 4 changes the ledger and the journal
+  pub only-stored : stepOf shares l d e m .stepped .answer ≢ Stored
+      → (stepOf shares l d e m .stepped .ledger ≡ d) × (stepOf shares l d e m .memory .journal ≡ m .journal)
+  only-stored n = by-verdict found refl
+    where
+      row : (v : Verdict) → answerOf v ≢ Stored → (settle v l d e m .stepped .ledger ≡ d) × (settle v l d e m .memory .journal ≡ m .journal)
+      row (Left a) n = (refl, refl)
+      row Opens n = (refl, refl)
+      row (Closes a) n = (refl, refl)
+      row Begins n = (refl, refl)
+      row (Counts k) n = (refl, refl)
+      row Collects n = (refl, refl)
+      row (Refuses a) n = (refl, refl)
+      row (Accepts k) n = (refl, refl)
+      row (Stores k) n = absurd (n refl)
+      row (Against a k) n = (refl, refl)
+
+      by-verdict : (v : Verdict) → found ≡ v → (stepOf shares l d e m .stepped .ledger ≡ d) × (stepOf shares l d e m .memory .journal ≡ m .journal)
+      by-verdict v p =
+          let s = step-is v p in
+          let (ledger, journal) = row v (λ r. n (ap (λ (x : AfterStep). x .stepped .answer) s ∙ r)) in
+          (ap (λ (x : AfterStep). x .stepped .ledger) s ∙ ledger, ap (λ (x : AfterStep). x .memory .journal) s ∙ journal)
+
+  -- what 4 appends is the joined text, as the line's newest entry under its next serial
+  pub record Storing : Type 0 where
+    pub length-of : ℕ
+    pub ledger : stepOf shares l d e m .stepped .ledger ≡ grown d (e .line) (length (joinedText l (e .line) length-of (m .unfinished) (m .frames)))
+    pub journal : stepOf shares l d e m .memory .journal ≡ appended d (e .line) (joinedText l (e .line) length-of (m .unfinished) (m .frames)) (m .journal)
+    pub verdict : found ≡ Stores length-of
+
+  pub stored-appends : stepOf shares l d e m .stepped .answer ≡ Stored → Storing
+  stored-appends h = by-verdict found refl
+    where
+      by-verdict : (v : Verdict) → found ≡ v → Storing
+      by-verdict v p = row v p (is-proper v p) (sym (ap (λ (s : AfterStep). s .stepped .answer) (step-is v p)) ∙ h)
+        where
+          row : (v : Verdict) → found ≡ v → Proper v → answerOf v ≡ Stored → Storing
+          row (Left a) p c r = nothing-else (cc (ap classOf r))
+          row Opens p c r = nothing-else (cc (ap classOf r))
+          row (Closes a) p c r = nothing-else (cc (ap classOf r))
+          row Begins p c r = nothing-else (cc (ap classOf r))
+          row (Counts k) p c r = nothing-else (cc (ap classOf r))
+          row Collects p c r = nothing-else (cc (ap classOf r))
+          row (Refuses a) p c r = nothing-else (cc (ap classOf r))
+          row (Accepts k) p c r = nothing-else (cc (ap classOf r))
+          row (Stores k) p c r = record {
+            length-of = k;
+            ledger = ap (λ (x : AfterStep). x .stepped .ledger) (step-is (Stores k) p);
+            journal = ap (λ (x : AfterStep). x .memory .journal) (step-is (Stores k) p);
+            verdict = p;
+          }
+          row (Against a k) p c r = nothing-else (cc (ap classOf r))
+
+  -- a refused frame, a repeat among them, changes only what every judged frame changes
+  pub refused-frame : (a : Answer) → stepOf shares l d e m .stepped .answer ≡ a → classOf a ≡ refusing
+      → stepOf shares l d e m ≡ judged l d e m a
+  refused-frame a h q = by-verdict found refl
+    where
+      by-verdict : (v : Verdict) → found ≡ v → stepOf shares l d e m ≡ judged l d e m a
+      by-verdict v p = row v (step-is v p) (is-proper v p) (sym (ap (λ (s : AfterStep). s .stepped .answer) (step-is v p)) ∙ h)
+        where
+          row : (v : Verdict) → stepOf shares l d e m ≡ settle v l d e m → Proper v → answerOf v ≡ a → stepOf shares l d e m ≡ judged l d e m a
+          row (Left b) s c r = nothing-else (cc (ap classOf r))
+          row Opens s c r = nothing-else (cc (ap classOf r))
+          row (Closes b) s c r = nothing-else (cc (ap classOf r))
+          row Begins s c r = nothing-else (cc (ap classOf r))
+          row (Counts k) s c r = nothing-else (cc (ap classOf r))
+          row Collects s c r = nothing-else (cc (ap classOf r))
+          row (Refuses b) s c r = s ∙ ap (judged l d e m) r
+          row (Accepts k) s c r = nothing-else (cc (ap classOf r))
+          row (Stores k) s c r = nothing-else (cc (ap classOf r))
+          row (Against b k) s c r = nothing-else (cc (ap classOf r))
+
+  -- sizes and limits are kept
+  pub sizes-kept : (length (stepOf shares l d e m .memory .unfinished) ≡ length (m .unfinished)) × (length (stepOf shares l d e m .memory .frames) ≡ length (m .frames))
+  sizes-kept = by-found found refl (verdict-found shares l d e (m .journal) (m .unfinished) (m .frames))
+    where
+      by-found : (v : Verdict) → found ≡ v → Found shares l d e (m .journal) (m .unfinished) (m .frames) v
+          → (length (stepOf shares l d e m .memory .unfinished) ≡ length (m .unfinished)) × (length (stepOf shares l d e m .memory .frames) ≡ length (m .frames))
+      by-found (Left a) p (refused b q) = (ap (λ (x : AfterStep). length (x .memory .unfinished)) (step-is (Left a) p), ap (λ (x : AfterStep). length (x .memory .frames)) (step-is (Left a) p))
+      by-found v p (worked w) = (
+        ap (λ (x : AfterStep). length (x .memory .unfinished)) (step-is v p) ∙ texts-length l (e .line) (m .unfinished) (m .frames) (w .ready) v (w .fits),
+        ap (λ (x : AfterStep). length (x .memory .frames)) (step-is v p) ∙ frames-length l (e .line) (m .unfinished) (m .frames) (w .ready) v (e .kind),
+      )
+
+  line-within : (v : Verdict) → Within l → Fitting v l → Within (lineAfter v l)
+  line-within (Left a) w t = w
+  line-within Opens w t = within-facts openedLine opened-within
+  line-within (Closes a) w t = within-facts freshLine fresh-within
+  line-within Begins w t = begun-within l w
+  line-within (Counts n) w t = counted-within l w n t
+  line-within Collects w t = collected-within l w (l .collected + 1) (omega arith)
+  line-within (Refuses a) w t = waiting-within l w
+  line-within (Accepts n) w t = accepted-within l w (l .joined + n) (t .1)
+  line-within (Stores n) w t = accepted-within l w 0 (omega arith)
+  line-within (Against a n) w t = refusing-within l w
+
+  pub limits-kept : withinLimits l ≡ true → withinLimits (stepOf shares l d e m .stepped .line) ≡ true
+  limits-kept h = by-found found refl (verdict-found shares l d e (m .journal) (m .unfinished) (m .frames))
+    where
+      by-found : (v : Verdict) → found ≡ v → Found shares l d e (m .journal) (m .unfinished) (m .frames) v → withinLimits (stepOf shares l d e m .stepped .line) ≡ true
+      by-found (Left a) p (refused b q) = ap (λ (x : AfterStep). withinLimits (x .stepped .line)) (step-is (Left a) p) ∙ h
+      by-found v p (worked w) = ap (λ (x : AfterStep). withinLimits (x .stepped .line)) (step-is v p) ∙ within-of (lineAfter v l) (line-within v (within-facts l h) (w .fits))
+
+  -- the parts of other lines are untouched
+  pub parts-of-others : (k : ℕ) → e .line ≢ k
+      → (textsOf k (stepOf shares l d e m .memory .unfinished) ≡ textsOf k (m .unfinished)) × (framesOf k (stepOf shares l d e m .memory .frames) ≡ framesOf k (m .frames))
+  parts-of-others k n = by-found found refl (verdict-found shares l d e (m .journal) (m .unfinished) (m .frames))
+    where
+      by-found : (v : Verdict) → found ≡ v → Found shares l d e (m .journal) (m .unfinished) (m .frames) v
+          → (textsOf k (stepOf shares l d e m .memory .unfinished) ≡ textsOf k (m .unfinished)) × (framesOf k (stepOf shares l d e m .memory .frames) ≡ framesOf k (m .frames))
+      by-found (Left a) p (refused b q) = (ap (λ (x : AfterStep). textsOf k (x .memory .unfinished)) (step-is (Left a) p), ap (λ (x : AfterStep). framesOf k (x .memory .frames)) (step-is (Left a) p))
+      by-found v p (worked w) = (
+        ap (λ (x : AfterStep). textsOf k (x .memory .unfinished)) (step-is v p) ∙ texts-other l (e .line) (m .unfinished) (m .frames) (w .ready) v (w .fits) k n,
+        ap (λ (x : AfterStep). framesOf k (x .memory .frames)) (step-is v p) ∙ frames-other l (e .line) (m .unfinished) (m .frames) (w .ready) v (e .kind) k n,
+      )
+
+-- an event that does not decide does not read the journal: with another ledger and another journal of the same size its verdict is the same
+pub quiet-verdict : (shares : List ℕ) (l : Line) (d d′ : Ledger) (e : Event) (j j′ u f : List ℕ) (v : Verdict) → length j ≡ length j′ → lookOf l (e .line) (e .kind) u f ≡ Done v
+    → verdictOf shares l d e j u f ≡ verdictOf shares l d′ e j′ u f
+unfolding verdictOf workOf
+quiet-verdict shares l d d′ e j j′ u f v s h = rw (s, h)
+
+-- an event touches no other line's record; the event's own line has the step's
+module _ (shares : List ℕ) (g : Gateway) (e : Event) (m : Memory) where
+  event-is : e .line < lines → eventOf shares g e m ≡ putBack g (e .line) (stepOf shares (lineAt g (e .line)) (g .ledger) e m)
+  unfolding eventOf
+  event-is h = rw (lt-ltb (e .line) lines h)
+
+  pub records-of-others : e .line < lines → (k : ℕ) → e .line ≢ k → lineAt (eventOf shares g e m .handled .gateway) k ≡ lineAt g k
+  records-of-others h k n =
+      ap (λ (x : AfterEvent). lineAt (x .handled .gateway) k) (event-is h)
+      ∙ getD-set-other (g .lines) (e .line) k (stepOf shares (lineAt g (e .line)) (g .ledger) e m .stepped .line) noRecord (λ q. n (sym q))
+
+  pub own-record : e .line < lines → length (g .lines) ≡ lines → lineAt (eventOf shares g e m .handled .gateway) (e .line) ≡ stepOf shares (lineAt g (e .line)) (g .ledger) e m .stepped .line
+  own-record h s =
+      ap (λ (x : AfterEvent). lineAt (x .handled .gateway) (e .line)) (event-is h)
+      ∙ getD-set-same (g .lines) (e .line) (stepOf shares (lineAt g (e .line)) (g .ledger) e m .stepped .line) noRecord (omega (arith, s))
+
+  pub as-many-lines : length (eventOf shares g e m .handled .gateway .lines) ≡ length (g .lines)
+  unfolding eventOf
+  as-many-lines = by-line (ltb (e .line) lines)
+    where
+      by-line : (b : Bool) → length (unless b (record { handled = record { gateway = g; answer = NoLine }; memory = m }) (putBack g (e .line) (stepOf shares (lineAt g (e .line)) (g .ledger) e m)) .handled .gateway .lines) ≡ length (g .lines)
+      by-line true = length-set (g .lines) (e .line) (stepOf shares (lineAt g (e .line)) (g .ledger) e m .stepped .line)
+      by-line false = refl
+
+-- a taking touches no line
+pub taking-lines : (g : Gateway) (i : ℕ) (j b : List ℕ) → takeOf g i j b .handled .gateway .lines ≡ g .lines
+unfolding takeOf
+taking-lines g i j b = refl
