@@ -439,12 +439,19 @@ fn is_faultless(c: Checked) -> bool
     }
 }
 
+// Whether a text is a message by these delimiters.
+pub fn is_message_by(d: Delimiters, text: &[u8]) -> bool
+    ensures { λ r. ⌜ r ≡ isMessage d (now (text .entry)) ⌝ }
+{
+    let found = check(d, text);
+    is_faultless(found)
+}
+
 // Whether a text is a message, by the delimiters | \ ^ &.
 pub fn is_message(text: &[u8]) -> bool
     ensures { λ r. ⌜ r ≡ isMessage standard (now (text .entry)) ⌝ }
 {
-    let found = check(Delimiters::standard(), text);
-    is_faultless(found)
+    is_message_by(Delimiters::standard(), text)
 }
 
 // Where the bytes behind the last CR start: 0 where there is no CR.
