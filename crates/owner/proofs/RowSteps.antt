@@ -34,17 +34,17 @@ type-front s at e h k =
 -- one row stored, and the others still to store
 module _ (s : List ℕ) (at e n : ℕ) (h : at < length s) (k : e ≡ find (is cr) (tailAt s at)) (old : List ℕ) (all : List ℕ) where
   pub types-front : sets old n (typesOf (records (drop at s))) ≡ all → sets (set old n (getD s at 0)) (n + 1) (typesOf (records (drop (at + (e + 1)) s))) ≡ all
-  types-front q = rw (add-one, ← type-front s at e h k) (rw (front s at e h k) at q)
+  types-front q = rw (add-one n, ← type-front s at e h k) (rw (front s at e h k) at q)
 
   pub lengths-front : sets old n (lengthsOf (records (drop at s))) ≡ all → sets (set old n e) (n + 1) (lengthsOf (records (drop (at + (e + 1)) s))) ≡ all
   lengths-front q =
       let z : sets (set old n (length (take e (tailAt s at)))) (suc n) (lengthsOf (records (drop (at + (e + 1)) s))) ≡ all = rw (front s at e h k) at q in
-      rw add-one (rw (sym (cut-length cr (tailAt s at) e k)) at z)
+      rw (add-one n) (rw (sym (cut-length cr (tailAt s at) e k)) at z)
 
   pub offsets-front : sets old n (offsetsOf at (records (drop at s))) ≡ all → sets (set old n at) (n + 1) (offsetsOf (at + (e + 1)) (records (drop (at + (e + 1)) s))) ≡ all
   offsets-front q =
       let z : sets (set old n at) (suc n) (offsetsOf (at + (length (take e (tailAt s at)) + 1)) (records (drop (at + (e + 1)) s))) ≡ all = rw (front s at e h k) at q in
-      rw add-one (rw (sym (cut-length cr (tailAt s at) e k)) at z)
+      rw (add-one n) (rw (sym (cut-length cr (tailAt s at) e k)) at z)
 
 -- inside the text there is a record more to come
 pub one-more : (s : List ℕ) (at e n t : ℕ) → at < length s → e ≡ find (is cr) (tailAt s at) → n + length (records (drop at s)) ≡ t → n < t
