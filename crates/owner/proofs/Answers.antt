@@ -9,7 +9,7 @@ use lib.Dec.{leb}
 use lib.ListN.{length, take, drop}
 use lib.Seq.{sets, sets-eq, take-at}
 use borrow.Author.Tests.{leb-true}
-use Rattle.memory.specs.Tests.{is}
+use Rattle.memory.specs.Tests.{unless, is}
 use Rattle.memory.specs.Parts.{splice}
 use Rattle.memory.proofs.Tests.{and-left, and-right}
 use Rattle.memory.proofs.Parts.{sets-splice}
@@ -98,3 +98,14 @@ module _ (d : Delimiters) (text ts os ls ws : List ℕ) where
         lengths = l ∙ laid-from-start ls (lengthsOf (records text)) (length (records text)) (length-lengths (records text)) c;
         owners = w ∙ ap (sets ws 0) same ∙ laid-from-start ws (ownersOf (records text)) (length (records text)) many g;
       }
+
+-- a message that was read has no more records than each memory has places
+pub read-fits : (d : Delimiters) (text : List ℕ) (a b c e n : ℕ) → readingOf d text a b c e ≡ Read n
+    → (length (records text) ≤ a) × (length (records text) ≤ b) × (length (records text) ≤ c) × (length (records text) ≤ e)
+unfolding readingOf
+read-fits d text a b c e n h = room-all (length (records text)) a b c e (by-tests (isMessage d text) (roomFor (length (records text)) a b c e) h)
+  where
+    by-tests : (m r : Bool) → unless m NoMessage (unless r Short (Read (length (records text)))) ≡ Read n → r ≡ true
+    by-tests true true g = refl
+    by-tests true false g = let z : _≡_ {A = ℕ} 0 1 = cc in absurd (omega arith)
+    by-tests false r g = let z : _≡_ {A = ℕ} 0 1 = cc in absurd (omega arith)
