@@ -16,24 +16,15 @@ use Rattle.record.specs.declared.Letter.{Letter}
 use Rattle.record.specs.declared.Letter.the-variants.{Known, Unknown}
 use Rattle.record.specs.declared.Kind.{Kind}
 use Rattle.record.specs.declared.Kind.the-variants.{Header, Patient, Order, Result, Query, Terminator, Comment, Manufacturer}
-use Rattle.owner.specs.Levels.{depthBy, depthOf, depthAt, nearest, nearestOwner, nearestFrom}
+use Rattle.record.proofs.Chain.{otherOf}
+use Rattle.owner.specs.Levels.{depthBy, depthOf}
+use Rattle.owner.specs.Nearest.{depthAt, nearest, nearestOwner, nearestFrom}
 use Rattle.owner.specs.Owners.{Seen, ownerBy, seenBy, ownersBy}
 
--- the last other type after a record
-abbrev pub otherOf : Kind → Kind → Kind
-otherOf t Header = t
-otherOf t Patient = Patient
-otherOf t Order = Order
-otherOf t Result = Result
-otherOf t Query = Query
-otherOf t Terminator = Terminator
-otherOf t Comment = t
-otherOf t Manufacturer = t
-
--- each of these types may follow, from the last other type t on
-abbrev pub Chain : Kind → List ℕ → Type 0
-Chain t [] = Unit
-Chain t (b ∷ bs) = (k : Kind) × (kindOf b ≡ Known k) × (mayFollow t k ≡ true) × Chain (otherOf t k) bs
+-- each of these types may follow, t being the last other type before them
+abbrev pub Follow : Kind → List ℕ → Type 0
+Follow t [] = Unit
+Follow t (b ∷ bs) = (k : Kind) × (kindOf b ≡ Known k) × (mayFollow t k ≡ true) × Follow (otherOf t k) bs
 
 -- where anything may follow, P and L may; where R may, O may
 follows-patient : (t k : Kind) → mayFollow t k ≡ true → mayFollow t Patient ≡ true
@@ -143,7 +134,7 @@ unfolding depthOf
 near-more ts n l k e = rw e
 
 -- from record n on, with the types that are left
-pub owners-agree : (ts : List ℕ) (n : ℕ) (t : Kind) (s : Seen) (bs : List ℕ) → drop n ts ≡ bs → Agree ts n t s → Chain t bs
+pub owners-agree : (ts : List ℕ) (n : ℕ) (t : Kind) (s : Seen) (bs : List ℕ) → drop n ts ≡ bs → Agree ts n t s → Follow t bs
     → nearestFrom ts n (length bs) ≡ ownersBy s n bs
 unfolding nearestOwner depthOf
 owners-agree ts n t s [] e a h = refl

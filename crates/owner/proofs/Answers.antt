@@ -18,7 +18,7 @@ use Rattle.record.specs.Records.{onto, records}
 use Rattle.record.specs.Faults.{isMessage}
 use Rattle.record.specs.declared.Delimiters.{Delimiters}
 use Rattle.owner.specs.declared.Reading.the-variants.{Read, NoMessage, Short}
-use Rattle.owner.specs.Levels.{nearestOwners}
+use Rattle.owner.specs.Nearest.{nearestOwners}
 use Rattle.owner.specs.Owners.{typesOf, ownersOf}
 use Rattle.owner.specs.Reading.{offsetsOf, lengthsOf, roomFor, readingOf, ReadAs}
 use Rattle.owner.proofs.Whole.{length-owners}

@@ -13,7 +13,8 @@ use Rattle.record.specs.Kinds.{kindOf}
 use Rattle.record.specs.declared.Letter.{Letter}
 use Rattle.record.specs.declared.Letter.the-variants.{Known, Unknown}
 use Rattle.record.specs.declared.Kind.the-variants.{Header, Patient, Order, Result, Query, Terminator, Comment, Manufacturer}
-use Rattle.owner.specs.Levels.{depthBy, depthOf, depthAt, nearestOwner, nearestFrom, nearestOwners, Ran}
+use Rattle.owner.specs.Levels.{depthBy, depthOf}
+use Rattle.owner.specs.Nearest.{depthAt, nearestOwner, nearestFrom, nearestOwners, Ran}
 
 by-some : (x : Letter) → 1 ≤ depthBy x
 by-some (Known k) = omega arith

@@ -6,7 +6,7 @@ use mathlib.Core.Path.{_≡_, sym, _∙_, refl}
 use mathlib.Core.List.{List}
 use native.Mathlib.Omega.{arith}
 use lib.ListN.{length, length-set}
-use Rattle.owner.specs.Levels.{depthAt, nearest, Ran, Ready}
+use Rattle.owner.specs.Nearest.{depthAt, nearest, Ran, Ready}
 use Rattle.owner.proofs.RunLaws.{ready-child, ready-on, ran-none, ran-on, ran-owner}
 use Prim.Native.Nat.{ℕ, _<_}
 use borrow.Fn.Kinds.{In}
