@@ -1,9 +1,9 @@
 -- In a row of records in which each may follow, the nearest record that stands less deep is the owner that the page names.
 -- Assumes nothing.
 use mathlib.Core.Path.{_≡_, refl, sym, ap, _∙_}
-use mathlib.Core.Bool.{Bool, true, false, cond}
+use mathlib.Core.Bool.{true, cond}
 use mathlib.Core.List.{List, [], _∷_}
-use Prim.Native.Nat.{ℕ, zero, suc, _+_, _<_, _≤_}
+use Prim.Native.Nat.{ℕ, suc, _+_, _≤_}
 use native.Mathlib.Omega.{arith}
 use native.Mathlib.Numerals.{add-one}
 use native.Mathlib.Nat.{add-zero}
@@ -18,7 +18,7 @@ use Rattle.record.specs.declared.Kind.{Kind}
 use Rattle.record.specs.declared.Kind.the-variants.{Header, Patient, Order, Result, Query, Terminator, Comment, Manufacturer}
 use Rattle.record.proofs.Chain.{otherOf}
 use Rattle.owner.specs.Levels.{depthBy, depthOf}
-use Rattle.owner.specs.Nearest.{depthAt, nearest, nearestOwner, nearestFrom}
+use Rattle.owner.specs.Nearest.{nearest, nearestOwner, nearestFrom}
 use Rattle.owner.specs.Owners.{Seen, ownerBy, seenBy, ownersBy}
 
 -- each of these types may follow, t being the last other type before them

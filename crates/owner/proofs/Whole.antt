@@ -1,20 +1,18 @@
 -- A run over all records gives every owner.
 -- Assumes nothing.
 use mathlib.Core.Path.{_≡_, refl, sym, ap, _∙_}
-use mathlib.Core.List.{List, [], _∷_, _++_}
+use mathlib.Core.List.{List, _++_}
 use Prim.Native.Nat.{ℕ, zero, suc, _+_, _-_, _<_, _≤_}
 use native.Mathlib.Omega.{arith}
 use native.Mathlib.Nat.{add-suc, suc-add, add-zero, zero-add}
 use native.Mathlib.Decide.{decLt}
-use lib.Dec.{lit≤}
-use lib.ListN.{length, getD, take, drop, length-append, List·getD-append}
+use lib.ListN.{length, getD, drop, List·getD-append}
 use lib.Seq.{sets, sets-eq, length-sets, ext-getD, getD-append-add, getD-drop}
 use Rattle.record.specs.Kinds.{kindOf}
 use Rattle.record.specs.declared.Letter.{Letter}
 use Rattle.record.specs.declared.Letter.the-variants.{Known, Unknown}
-use Rattle.record.specs.declared.Kind.the-variants.{Header, Patient, Order, Result, Query, Terminator, Comment, Manufacturer}
 use Rattle.owner.specs.Levels.{depthBy, depthOf}
-use Rattle.owner.specs.Nearest.{depthAt, nearestOwner, nearestFrom, nearestOwners, Ran}
+use Rattle.owner.specs.Nearest.{nearestOwner, nearestFrom, nearestOwners, Ran}
 
 by-some : (x : Letter) → 1 ≤ depthBy x
 by-some (Known k) = omega arith

@@ -1,6 +1,6 @@
 // Owners: a record owns the run of deeper records behind it, and each of those owns a run in the same way.
 ghost use mathlib.Core.Path.{_≡_};
-ghost use Prim.Native.Nat.{ℕ, _+_, _<_, _≤_};
+ghost use Prim.Native.Nat.{_+_, _<_, _≤_};
 ghost use lib.ListN.{length};
 ghost use lib.Seq.{sets};
 ghost use Rattle.owner.specs.Levels.{depthOf};

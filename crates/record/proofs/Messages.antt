@@ -3,19 +3,18 @@
 use mathlib.Core.Path.{_≡_, refl, ap, sym, _∙_}
 use mathlib.Core.Bool.{Bool, true, false, cond, _&&_}
 use mathlib.Core.List.{List, [], _∷_, _++_, append-assoc}
-use Prim.Native.Nat.{ℕ, suc, _+_, _<_, _≤_}
+use Prim.Native.Nat.{ℕ, _+_, _<_, _≤_}
 use native.Mathlib.Omega.{arith}
 use lib.Dec.{leb, eqb}
 use lib.ListN.{length, getD}
 use borrow.Author.Tests.{leb-true, eqb-true, eqb-false}
 use Rattle.memory.specs.Sizes.{messageLimit}
 use Rattle.memory.specs.Tests.{unless, is, all}
-use Rattle.memory.proofs.Tests.{and-left, and-right, never-both}
+use Rattle.memory.proofs.Tests.{and-left, and-right}
 use Rattle.frame.specs.Allowed.{allowed}
-use Rattle.frame.specs.Control.{cr}
 use Rattle.record.specs.Kinds.{letterOf, kindOf, typeOf, mayFollow, isTerminator}
 use Rattle.record.specs.Fields.{before, fieldOf}
-use Rattle.record.specs.Records.{records, joined, none, isNotCr, endsWithCr, beginsWithL, endsWithL, lastRecord}
+use Rattle.record.specs.Records.{records, joined, none, isNotCr, endsWithCr, beginsWithL, endsWithL}
 use Rattle.record.specs.Numbers.{numberOf, started, countOf, counted}
 use Rattle.record.specs.Faults.{placed, kindStep, recordStep, isHeader, headerStep, after, restFault, recordsFault, fault, isFaultless, isMessage}
 use Rattle.record.specs.declared.Delimiters.{Delimiters}
@@ -27,7 +26,7 @@ use Rattle.record.specs.declared.Letter.the-variants.{Known, Unknown}
 use Rattle.record.specs.declared.Step.{Step}
 use Rattle.record.specs.declared.Step.the-variants.{Fine, Wrong}
 use Rattle.record.specs.declared.Fault.{Fault}
-use Rattle.record.specs.declared.Fault.the-variants.{NoHeader, UnknownType, Misplaced, WrongNumber}
+use Rattle.record.specs.declared.Fault.the-variants.{NoHeader, Misplaced, WrongNumber}
 use Rattle.record.specs.declared.Checked.{Checked}
 use Rattle.record.specs.declared.Checked.the-variants.{NotText, Faulty}
 use Rattle.record.proofs.Scans.{before-length, before-first}

@@ -1,8 +1,6 @@
-use mathlib.Core.Path.{_≡_, sym, _∙_, ap}
-use Prim.Native.Nat.{ℕ, _+_, _-_, _≤_}
-use mathlib.Core.List.{List, []}
+use mathlib.Core.Path.{_∙_, ap}
+use mathlib.Core.List.{[]}
 use native.Mathlib.Omega.{arith}
-use lib.ListN.{length, take, drop}
 use Rattle.record.specs.Numbers.{numberOf}
 use Rattle.record.proofs.Decimal.{number-none}
 use Rattle.record.proofs.Scans.{behind-none, cut-length, second}

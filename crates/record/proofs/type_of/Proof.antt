@@ -1,7 +1,6 @@
 use mathlib.Core.Path.{_≡_, sym, _∙_}
-use Prim.Native.Nat.{ℕ}
 use native.Mathlib.Omega.{arith}
-use borrow.Author.Tests.{eq-eqb, ne-eqb}
+use borrow.Author.Tests.{ne-eqb}
 use Rattle.memory.specs.Tests.{is, find}
 use Rattle.memory.proofs.Tests.{find-le}
 use Rattle.record.specs.Kinds.{typeOf}

@@ -1,4 +1,4 @@
-use mathlib.Core.Path.{_≡_, sym, ap, _∙_}
+use mathlib.Core.Path.{sym, ap, _∙_}
 use lib.ListN.{length}
 use Rattle.component.proofs.Escapes.{escape-one, escape-three}
 use borrow.Author.Needs.{needs}

@@ -1,4 +1,3 @@
-use mathlib.Core.Path.{sym, _∙_}
 use borrow.Author.Needs.{needs}
 use Rattle.component.proofs.unescaping.take_turn.Statement.{statement}
 use Rattle.component.proofs.unescaping.take_turn.Tie as tie

@@ -2,11 +2,10 @@
 -- Assumes nothing.
 use borrow.Author.Needs.{needs}
 use Prim.Native.Nat.{_+_, _-_, _*_, _≤_}
-use mathlib.Core.Path.{_≡_, sym, _∙_, refl}
-use mathlib.Core.List.{List}
+use mathlib.Core.Path.{_≡_, _∙_}
 use native.Mathlib.Omega.{arith}
 use lib.ListN.{length, length-set}
-use Rattle.owner.specs.Nearest.{depthAt, nearest, Ran, Ready}
+use Rattle.owner.specs.Nearest.{depthAt}
 use Rattle.owner.proofs.RunLaws.{ready-child, ready-on, ran-none, ran-on, ran-owner}
 use Prim.Native.Nat.{ℕ, _<_}
 use borrow.Fn.Kinds.{In}

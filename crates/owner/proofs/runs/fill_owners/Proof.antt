@@ -1,4 +1,4 @@
-use mathlib.Core.Path.{_≡_, refl, sym, _∙_}
+use mathlib.Core.Path.{refl}
 use Rattle.owner.proofs.Whole.{whole}
 use borrow.Author.Needs.{needs}
 use Rattle.owner.proofs.runs.fill_owners.Statement.{statement}

@@ -1,10 +1,8 @@
 -- `record::check_all` meets its contract: the first record is fault by itself, the rest by `check_rest`.
 -- Assumes nothing.
-use mathlib.Core.Path.{_≡_, sym, _∙_}
-use Prim.Native.Nat.{ℕ, _+_, _≤_, _<_}
+use mathlib.Core.Path.{sym, _∙_}
 use native.Mathlib.Omega.{arith}
-use lib.ListN.{length}
-use borrow.Author.Tests.{leb-true, leb-false}
+use borrow.Author.Tests.{leb-false}
 use Rattle.memory.specs.Tests.{is}
 use Rattle.memory.proofs.Tests.{find-le}
 use Rattle.frame.specs.Control.{cr}

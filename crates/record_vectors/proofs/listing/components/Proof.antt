@@ -2,10 +2,8 @@
 -- Assumes nothing.
 use borrow.Author.Needs.{needs}
 use Prim.Native.Nat.{_+_, _-_, _≤_}
-use mathlib.Core.Path.{_≡_}
 use native.Mathlib.Omega.{arith}
 use lib.ListN.{length, drop, length-drop}
-use Rattle.memory.specs.Tests.{find}
 use Rattle.memory.proofs.Tests.{find-le}
 use Rattle.component.specs.Component.{isOneOf, stopsOf}
 use Rattle.record_vectors.proofs.listing.components.Statement.{statement}
