@@ -1,3 +1,5 @@
+-- `component::escape` meets its contract: it writes only where the escaped text fits.
+-- Assumes nothing.
 use mathlib.Core.Path.{_≡_, sym, _∙_}
 use mathlib.Core.Bool.{true}
 use lib.Dec.{leb}

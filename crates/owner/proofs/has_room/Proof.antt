@@ -1,3 +1,5 @@
+-- `owner::has_room` meets its contract: each answer under the tests that led to it.
+-- Assumes nothing.
 use Rattle.owner.specs.Reading.{roomFor}
 use Rattle.memory.proofs.Told.{told}
 use Rattle.owner.proofs.has_room.Statement.{statement}

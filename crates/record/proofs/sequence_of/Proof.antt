@@ -1,3 +1,5 @@
+-- `record::sequence_of` meets its contract: field 2 is what stands between the first delimiter and the next.
+-- Assumes nothing.
 use mathlib.Core.Path.{_∙_, ap}
 use mathlib.Core.List.{[]}
 use native.Mathlib.Omega.{arith}

@@ -1,3 +1,5 @@
+-- `record::type_of` meets its contract: field 1 has one byte exactly if the first delimiter stands at index 1.
+-- Assumes nothing.
 use mathlib.Core.Path.{_≡_, sym, _∙_}
 use native.Mathlib.Omega.{arith}
 use borrow.Author.Tests.{ne-eqb}

@@ -1,3 +1,5 @@
+-- `component::unescaping::take_turn` meets its contract: each place has its own turn.
+-- Assumes nothing.
 use borrow.Author.Needs.{needs}
 use Rattle.component.proofs.unescaping.take_turn.Statement.{statement}
 use Rattle.component.proofs.unescaping.take_turn.Tie as tie

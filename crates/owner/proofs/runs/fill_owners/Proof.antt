@@ -1,3 +1,5 @@
+-- `owner::runs::fill_owners` meets its contract: a run over all records, which nothing owns, gives each its owner.
+-- Assumes nothing.
 use mathlib.Core.Path.{refl}
 use Rattle.owner.proofs.Whole.{whole}
 use borrow.Author.Needs.{needs}
