@@ -1,9 +1,9 @@
 -- One byte of an unescaping, as a loop over a text meets it.
 -- Assumes nothing.
-use mathlib.Core.Path.{_≡_, refl, sym, ap, _∙_}
+use mathlib.Core.Path.{_≡_, refl, _∙_}
 use mathlib.Core.Bool.{Bool, true, false, cond}
 use mathlib.Core.List.{List, [], _∷_}
-use Prim.Native.Nat.{ℕ, suc, _+_, _<_, _≤_}
+use Prim.Native.Nat.{ℕ, _+_, _<_, _≤_}
 use native.Mathlib.Numerals.{add-one}
 use native.Mathlib.Omega.{arith}
 use borrow.Author.Tests.{le-leb, lt-leb}
@@ -15,7 +15,7 @@ use Rattle.memory.specs.Moves.{copied}
 use Rattle.memory.proofs.Parts.{sets-splice}
 use Rattle.record.specs.declared.Delimiters.{Delimiters}
 use Rattle.component.specs.declared.Place.{Place}
-use Rattle.component.specs.declared.Place.the-variants.{Plain, Open, Held}
+use Rattle.component.specs.declared.Place.the-variants.{Plain}
 use Rattle.component.specs.declared.Turn.the-variants.{Keep, Give, Bad}
 use Rattle.component.specs.Unescape.{turnOf, right, rightBy, plainOf, plainBy, isPlain, accepted, plain, measured, unescapeAnswer, unescapedOver, Unescaping}
 use Rattle.component.specs.declared.Measured.the-variants.{Of, Wrong}

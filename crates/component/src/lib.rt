@@ -28,21 +28,21 @@ pub enum Put {
 }
 
 // Where an unescaping stands: outside an escape, behind its &, or behind its letter, which stands for this byte.
-pub enum Place {
+enum Place {
     Plain,
     Open,
     Held(u8),
 }
 
 // What a byte does to it: the place changes, a byte is put out, or the text is refused.
-pub enum Turn {
+enum Turn {
     Keep(Place),
     Give(u8),
     Bad,
 }
 
 // The length of a component without its escapes, if they are right.
-pub enum Measured {
+enum Measured {
     Of(usize),
     Wrong,
 }

@@ -1,6 +1,6 @@
 -- What the tests on a number's text tell, and how its value grows digit by digit.
 -- Assumes nothing.
-use mathlib.Core.Path.{_≡_, refl, sym, _∙_}
+use mathlib.Core.Path.{_≡_, refl}
 use mathlib.Core.Bool.{Bool, true, false, not, cond, _&&_}
 use mathlib.Core.List.{List}
 use Prim.Native.Nat.{ℕ, _+_, _-_, _*_, _^_, _<_, _≤_}
@@ -13,8 +13,7 @@ use lib.Seq.{drop-cons}
 use borrow.Author.Tests.{le-leb, lt-leb, ne-eqb}
 use Rattle.memory.specs.Tests.{between, all}
 use Rattle.memory.proofs.Tests.{and-not-right}
-use Rattle.record.specs.Delimiters.{isDigit}
-use Rattle.record.specs.Numbers.{decimal, numberOf}
+use Rattle.record.specs.Numbers.{isDigit, decimal, numberOf}
 
 pub between-yes : (a e x : ℕ) → a ≤ x → x ≤ e → between a e x ≡ true
 between-yes a e x h k = rw (le-leb a x h, le-leb x e k)

@@ -1,15 +1,14 @@
 -- The records of a text, front to back, as a loop over its bytes meets them.
 -- Assumes nothing.
-use mathlib.Core.Path.{_≡_, refl, ap, sym, _∙_}
-use mathlib.Core.Bool.{Bool, true, false}
-use mathlib.Core.List.{List, [], _∷_}
-use Prim.Native.Nat.{ℕ, suc, _+_, _-_, _<_, _≤_}
+use mathlib.Core.Path.{_≡_, ap, sym, _∙_}
+use mathlib.Core.List.{List, _∷_}
+use Prim.Native.Nat.{ℕ, _+_, _<_, _≤_}
 use native.Mathlib.Omega.{arith}
 use native.Mathlib.Decide.{decLt}
 use lib.Dec.{leb}
-use lib.ListN.{length, getD, take, drop, drop-of-length-le, length-drop}
+use lib.ListN.{length, take, drop, drop-of-length-le, length-drop}
 use lib.Seq.{drop-drop}
-use borrow.Author.Tests.{le-leb, lt-leb, leb-true}
+use borrow.Author.Tests.{le-leb, lt-leb, leb-false}
 use Rattle.memory.specs.Tests.{is, find}
 use Rattle.frame.specs.Control.{cr}
 use Rattle.record.specs.Records.{records, none}
@@ -17,9 +16,10 @@ use Rattle.record.specs.Faults.{after, recordStep, headerStep, restFault
 use Rattle.record.specs.declared.Delimiters.{Delimiters}
 use Rattle.record.specs.declared.Counts.{Counts}
 use Rattle.record.specs.declared.Checked.{Checked}
-use Rattle.record.specs.declared.Checked.the-variants.{Message, Faulty}
+use Rattle.record.specs.declared.Checked.the-variants.{Faulty}
 use Rattle.record.specs.declared.Fault.{Fault}
 use Rattle.record.specs.declared.Step.the-variants.{Fine, Wrong}
+use Rattle.record.proofs.Messages.{headed}
 use Rattle.record.proofs.Scans.{tailAt, rest-part, records-cons}
 
 -- no record is left where no byte is
@@ -70,11 +70,11 @@ pub all-fine : (d : Delimiters) (s : List ℕ) (e : ℕ) (u : Counts) → 0 < le
     → headerStep d (leb (length s) (e + 1)) (take e s) ≡ Fine u → restFault d u 2 (records (tailAt s (e + 1))) ≡ recordsFault d (records s)
 all-fine d s e u h k w = rw rest-part (rw w at (sym (all-first d s e h k)))
 
-pub all-only : (d : Delimiters) (s : List ℕ) (e : ℕ) (u : Counts) → 0 < length s → e ≡ find (is cr) s
-    → headerStep d (leb (length s) (e + 1)) (take e s) ≡ Fine u → leb (length s) (e + 1) ≡ true → Message ≡ recordsFault d (records s)
-all-only d s e u h k w l = let n : length s ≤ e + 1 = leb-true (length s) (e + 1) l in
-    let z : restFault d u 2 (records (drop (e + 1) s)) ≡ recordsFault d (records s) = rw w at (sym (all-first d s e h k)) in
-    rw (drop-of-length-le s n) at z
+-- a header that passed is not the last record
+pub header-goes-on : (d : Delimiters) (s : List ℕ) (e : ℕ) (u : Counts) → headerStep d (leb (length s) (e + 1)) (take e s) ≡ Fine u → e + 1 < length s
+header-goes-on d s e u w =
+    let (begins, goes-on, begun) = headed d (leb (length s) (e + 1)) (take e s) u w in
+    leb-false (length s) (e + 1) goes-on
 
 -- at a place within the text: the record there, and those behind it
 pub front : (s : List ℕ) (at e : ℕ) → at < length s → e ≡ find (is cr) (tailAt s at) → records (drop at s) ≡ take e (tailAt s at) ∷ records (drop (at + (e + 1)) s)

@@ -2,15 +2,14 @@
 -- Assumes nothing.
 use mathlib.Core.Path.{_≡_, refl, ap, sym, _∙_}
 use mathlib.Core.Bool.{Bool, true, false, cond, _&&_}
-use mathlib.Core.List.{List, [], _∷_, _++_, append-nil, append-assoc}
-use Prim.Native.Nat.{ℕ, suc, _+_, _-_, _<_, _≤_}
+use mathlib.Core.List.{List, [], _∷_, _++_, append-assoc}
+use Prim.Native.Nat.{ℕ, suc, _+_, _-_}
 use native.Mathlib.Omega.{arith}
-use lib.Dec.{eqb}
-use lib.ListN.{length, getD, take, length-append}
+use lib.ListN.{length, length-append}
 use lib.Seq.{take-at, getD-append-add}
 use borrow.Author.Tests.{eqb-true}
 use Rattle.memory.specs.Tests.{is, all}
-use Rattle.memory.proofs.Tests.{and-left, and-right, and-both, never-both}
+use Rattle.memory.proofs.Tests.{and-left, and-right, never-both}
 use Rattle.frame.specs.Control.{cr}
 use Rattle.record.specs.Records.{onto, records, joined, isNotCr, endsWithCr, behindLastCr, lastRecord, beginsWithL, endsWithL}
 use Rattle.record.proofs.LastRecord.{behind-cr, behind-join-lacks}

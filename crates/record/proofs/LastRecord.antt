@@ -3,19 +3,18 @@
 use mathlib.Core.Path.{_≡_, refl, ap, sym, _∙_}
 use mathlib.Core.Bool.{Bool, true, false, cond, _&&_}
 use mathlib.Core.List.{List, [], _∷_, _++_, append-nil}
-use Prim.Native.Nat.{ℕ, zero, suc, _+_, _-_, _<_, _≤_, zero-le, suc-le-suc}
+use Prim.Native.Nat.{ℕ, suc, _+_, _-_, _<_, _≤_, zero-le}
 use native.Mathlib.Nat.{add-zero}
 use native.Mathlib.Omega.{arith}
 use native.Mathlib.Decide.{decLt}
-use native.Mathlib.Numerals.{add-one}
 use lib.Dec.{eqb}
-use lib.ListN.{length, getD, take, drop, length-append, length-take, length-drop, take-append-drop, drop-of-length-le, List·getD-eq-default}
-use lib.Seq.{drop-cons, getD-drop, getD-take, length-take-le, take-append-add, getD-append-add, take-at, drop-at}
+use lib.ListN.{length, getD, take, drop, length-append, length-drop, take-append-drop, drop-of-length-le, List·getD-eq-default}
+use lib.Seq.{drop-cons, getD-drop, getD-take, length-take-le, take-append-add, getD-append-add}
 use borrow.Author.Tests.{eq-eqb, ne-eqb}
-use Rattle.memory.specs.Tests.{is, all}
+use Rattle.memory.specs.Tests.{all}
 use Rattle.memory.proofs.Tests.{and-not-right, all-append, is-false}
 use Rattle.frame.specs.Control.{cr}
-use Rattle.record.specs.Records.{isNotCr, behindLastCr, lastStart, lastRecord, endsWithCr, beginsWithL, endsWithL}
+use Rattle.record.specs.Records.{isNotCr, behindLastCr, lastStart, lastRecord, beginsWithL, endsWithL}
 
 -- a text with no CR is all behind it
 pub lacks-behind : (s : List ℕ) → all isNotCr s ≡ true → behindLastCr s ≡ s

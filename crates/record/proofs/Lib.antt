@@ -5,4 +5,5 @@ pub mod Front
 pub mod LastRecord
 pub mod Joined
 pub mod Messages
+pub mod Chain
 pub mod OneOutcome

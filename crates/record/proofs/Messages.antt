@@ -3,19 +3,18 @@
 use mathlib.Core.Path.{_≡_, refl, ap, sym, _∙_}
 use mathlib.Core.Bool.{Bool, true, false, cond, _&&_}
 use mathlib.Core.List.{List, [], _∷_, _++_, append-assoc}
-use Prim.Native.Nat.{ℕ, suc, _+_, _<_, _≤_}
+use Prim.Native.Nat.{ℕ, _+_, _<_, _≤_}
 use native.Mathlib.Omega.{arith}
 use lib.Dec.{leb, eqb}
 use lib.ListN.{length, getD}
 use borrow.Author.Tests.{leb-true, eqb-true, eqb-false}
 use Rattle.memory.specs.Sizes.{messageLimit}
 use Rattle.memory.specs.Tests.{unless, is, all}
-use Rattle.memory.proofs.Tests.{and-left, and-right, never-both}
+use Rattle.memory.proofs.Tests.{and-left, and-right}
 use Rattle.frame.specs.Allowed.{allowed}
-use Rattle.frame.specs.Control.{cr}
 use Rattle.record.specs.Kinds.{letterOf, kindOf, typeOf, mayFollow, isTerminator}
 use Rattle.record.specs.Fields.{before, fieldOf}
-use Rattle.record.specs.Records.{records, joined, none, isNotCr, endsWithCr, beginsWithL, endsWithL, lastRecord}
+use Rattle.record.specs.Records.{records, joined, none, isNotCr, endsWithCr, beginsWithL, endsWithL}
 use Rattle.record.specs.Numbers.{numberOf, started, countOf, counted}
 use Rattle.record.specs.Faults.{placed, kindStep, recordStep, isHeader, headerStep, after, restFault, recordsFault, fault, isFaultless, isMessage}
 use Rattle.record.specs.declared.Delimiters.{Delimiters}
@@ -27,7 +26,7 @@ use Rattle.record.specs.declared.Letter.the-variants.{Known, Unknown}
 use Rattle.record.specs.declared.Step.{Step}
 use Rattle.record.specs.declared.Step.the-variants.{Fine, Wrong}
 use Rattle.record.specs.declared.Fault.{Fault}
-use Rattle.record.specs.declared.Fault.the-variants.{NoHeader, UnknownType, Misplaced, WrongNumber}
+use Rattle.record.specs.declared.Fault.the-variants.{NoHeader, Misplaced, WrongNumber}
 use Rattle.record.specs.declared.Checked.{Checked}
 use Rattle.record.specs.declared.Checked.the-variants.{NotText, Faulty}
 use Rattle.record.proofs.Scans.{before-length, before-first}
@@ -63,23 +62,23 @@ sound d m h =
     }
 
 -- a record that passed: what its step left, and what comes behind it passed too
-record Passed (st : Step) (go : Counts → Checked) : Type 0 where
-  next : Counts
-  fine : st ≡ Fine next
-  rest : isFaultless (go next) ≡ true
+pub record Passed (st : Step) (go : Counts → Checked) : Type 0 where
+  pub next : Counts
+  pub fine : st ≡ Fine next
+  pub rest : isFaultless (go next) ≡ true
 
-passed : (st : Step) (place : ℕ) (go : Counts → Checked) → isFaultless (after st place go) ≡ true → Passed st go
+pub passed : (st : Step) (place : ℕ) (go : Counts → Checked) → isFaultless (after st place go) ≡ true → Passed st go
 passed (Fine t) place go h = record { next = t; fine = refl; rest = h }
 passed (Wrong f) place go h = let z : _≡_ {A = ℕ} 0 1 = cc in absurd (omega arith)
 
 -- a record behind the first that passed: its type, by its first byte, and what it followed
-record Typed (s t : Counts) (last : Bool) (r : List ℕ) : Type 0 where
-  kind : Kind
-  first : kindOf (getD r 0 0) ≡ Known kind
-  follows : mayFollow (s .other) kind ≡ true
-  place : placed last kind ≡ true
-  number : ℕ
-  counts : t ≡ counted s kind number
+pub record Typed (s t : Counts) (last : Bool) (r : List ℕ) : Type 0 where
+  pub kind : Kind
+  pub first : kindOf (getD r 0 0) ≡ Known kind
+  pub follows : mayFollow (s .other) kind ≡ true
+  pub place : placed last kind ≡ true
+  pub number : ℕ
+  pub counts : t ≡ counted s kind number
 
 known : (s t : Counts) (last : Bool) (k : Kind) (n : ℕ) → kindStep s last (Known k) n ≡ Fine t
     → (mayFollow (s .other) k ≡ true) × (placed last k ≡ true) × (t ≡ counted s k n)
@@ -101,7 +100,7 @@ letter f k h = by-length (eqb (length f) 1) refl h
     by-length true e g = (eqb-true (length f) 1 e, g)
     by-length false e g = let z : _≡_ {A = ℕ} 0 1 = cc in absurd (omega arith)
 
-typed : (d : Delimiters) (s t : Counts) (last : Bool) (r : List ℕ) → recordStep d s last r ≡ Fine t → Typed s t last r
+pub typed : (d : Delimiters) (s t : Counts) (last : Bool) (r : List ℕ) → recordStep d s last r ≡ Fine t → Typed s t last r
 unfolding recordStep kindStep
 typed d s t last r h = by-type (typeOf (before (d .field) r)) refl h
   where
@@ -184,19 +183,20 @@ rest-last d s place (x ∷ rs) r ss h =
     let p = passed (recordStep d s (none (rs ++ r ∷ ss)) x) place (λ t. restFault d t (place + 1) (rs ++ r ∷ ss)) h in
     rest-last d (p .next) (place + 1) rs r ss (p .rest)
 
-header : (d : Delimiters) (r : List ℕ) → isHeader d r ≡ true → getD r 0 0 ≡ letterOf Header
+-- the first record that passed
+pub header : (d : Delimiters) (r : List ℕ) → isHeader d r ≡ true → getD r 0 0 ≡ letterOf Header
 unfolding isHeader
 header d r h =
     eqb-true (getD r 0 0) (letterOf Header)
     (and-right (leb 5 (length r)) _ (and-left _ _ (and-left _ _ (and-left _ _ (and-left _ _ h)))))
 
-headed : (d : Delimiters) (last : Bool) (r : List ℕ) (t : Counts) → headerStep d last r ≡ Fine t → (isHeader d r ≡ true) × (last ≡ false)
+pub headed : (d : Delimiters) (last : Bool) (r : List ℕ) (t : Counts) → headerStep d last r ≡ Fine t → (isHeader d r ≡ true) × (last ≡ false) × (t ≡ started)
 unfolding headerStep
 headed d last r t h = by-tests (isHeader d r) last h
   where
-    by-tests : (a b : Bool) → unless a (Wrong NoHeader) (cond b (Wrong Misplaced) (Fine started)) ≡ Fine t → (a ≡ true) × (b ≡ false)
+    by-tests : (a b : Bool) → unless a (Wrong NoHeader) (cond b (Wrong Misplaced) (Fine started)) ≡ Fine t → (a ≡ true) × (b ≡ false) × (t ≡ started)
     by-tests true true g = let z : _≡_ {A = ℕ} 0 1 = cc in absurd (omega arith)
-    by-tests true false g = (refl, refl)
+    by-tests true false g = (refl, refl, cc)
     by-tests false b g = let z : _≡_ {A = ℕ} 0 1 = cc in absurd (omega arith)
 
 all-last : (d : Delimiters) (rs : List (List ℕ)) (r : List ℕ) (ss : List (List ℕ))
@@ -204,7 +204,7 @@ all-last : (d : Delimiters) (rs : List (List ℕ)) (r : List ℕ) (ss : List (Li
 unfolding recordsFault
 all-last d [] r ss h =
     let p = passed (headerStep d (none ss) r) 1 (λ t. restFault d t 2 ss) h in
-    let (is-header, not-last) = headed d (none ss) r (p .next) (p .fine) in
+    let (is-header, not-last, begun) = headed d (none ss) r (p .next) (p .fine) in
     rw (header d r is-header) (sym not-last)
 all-last d (x ∷ rs) r ss h =
     let p = passed (headerStep d (none (rs ++ r ∷ ss)) x) 1 (λ t. restFault d t 2 (rs ++ r ∷ ss)) h in

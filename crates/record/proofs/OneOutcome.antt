@@ -39,9 +39,12 @@ count-once text a b = a ∙ sym b
 pub check-once : (d : Delimiters) (text : List ℕ) {r q : Checked} → r ≡ fault d text → q ≡ fault d text → r ≡ q
 check-once d text a b = a ∙ sym b
 
--- `is_message`
-pub message-once : (text : List ℕ) {r q : Bool} → r ≡ isMessage standard text → q ≡ isMessage standard text → r ≡ q
-message-once text a b = a ∙ sym b
+-- `is_message_by` and, at the standard delimiters, `is_message`
+pub message-once : (d : Delimiters) (text : List ℕ) {r q : Bool} → r ≡ isMessage d text → q ≡ isMessage d text → r ≡ q
+message-once d text a b = a ∙ sym b
+
+pub standard-message-once : (text : List ℕ) {r q : Bool} → r ≡ isMessage standard text → q ≡ isMessage standard text → r ≡ q
+standard-message-once text a b = message-once standard text a b
 
 -- `ends_with_l` and, with two pieces, `joined_ends_with_l`
 pub ends-once : (text : List ℕ) {r q : Bool} → r ≡ endsWithL text → q ≡ endsWithL text → r ≡ q

@@ -1,9 +1,7 @@
 -- The four delimiters of a message: between fields, between repeats, between components, and around an escape.
 -- Assumes nothing.
-use Prim.Native.Nat.{ℕ}
-use mathlib.Core.Bool.{Bool, not, _&&_, _||_}
+use mathlib.Core.Bool.{Bool, not, _&&_}
 use lib.Dec.{eqb}
-use Rattle.memory.specs.Tests.{between}
 use Rattle.record.specs.declared.Delimiters.{Delimiters}
 
 -- the four that document 01 fixes: | \ ^ &
@@ -15,10 +13,3 @@ unfoldable pub different : Delimiters → Bool
 different d =
     not (eqb (d .repeat) (d .field)) && not (eqb (d .component) (d .field)) && not (eqb (d .escape) (d .field))
     && not (eqb (d .component) (d .repeat)) && not (eqb (d .escape) (d .repeat)) && not (eqb (d .escape) (d .component))
-
--- a digit, and a letter
-abbrev pub isDigit : ℕ → Bool
-isDigit b = between 0x30 0x39 b
-
-abbrev pub isLetter : ℕ → Bool
-isLetter b = between 0x41 0x5a b || between 0x61 0x7a b

@@ -5,10 +5,12 @@ use mathlib.Core.List.{List, [], _∷_}
 use mathlib.Core.Bool.{Bool, not, cond, _&&_}
 use lib.ListN.{length, getD}
 use Rattle.memory.specs.Tests.{is, between, all}
-use Rattle.record.specs.Delimiters.{isDigit}
 use Rattle.record.specs.declared.Kind.{Kind}
 use Rattle.record.specs.declared.Kind.the-variants.{Header, Patient, Order, Result, Query, Terminator, Comment, Manufacturer}
 use Rattle.record.specs.declared.Counts.{Counts}
+
+abbrev pub isDigit : ℕ → Bool
+isDigit b = between 0x30 0x39 b
 
 -- the number that digits stand for, behind those that stand for n
 abbrev pub decimal : ℕ → List ℕ → ℕ

@@ -2,7 +2,7 @@
 -- Assumes nothing.
 use Prim.Native.Nat.{ℕ, _-_}
 use mathlib.Core.List.{List, [], _∷_, _++_}
-use mathlib.Core.Bool.{Bool, false, true, not, cond, _&&_, _||_}
+use mathlib.Core.Bool.{Bool, false, true, not, cond, _&&_}
 use lib.ListN.{length, getD, take}
 use Rattle.memory.specs.Tests.{is, all}
 use Rattle.frame.specs.Control.{cr}

@@ -56,14 +56,14 @@ pub enum Letter {
 }
 
 // The last record that is neither C nor M, and the number that each type has reached.
-pub struct Counts {
-    pub other: Kind,
-    pub patients: u32,
-    pub queries: u32,
-    pub orders: u32,
-    pub results: u32,
-    pub comments: u32,
-    pub manufacturers: u32,
+struct Counts {
+    other: Kind,
+    patients: u32,
+    queries: u32,
+    orders: u32,
+    results: u32,
+    comments: u32,
+    manufacturers: u32,
 }
 
 // What can be wrong with the records of a text.
@@ -76,7 +76,7 @@ pub enum Fault {
 }
 
 // What one record leads to.
-pub enum Step {
+enum Step {
     Fine(Counts),
     Wrong(Fault),
 }
@@ -439,12 +439,19 @@ fn is_faultless(c: Checked) -> bool
     }
 }
 
+// Whether a text is a message by these delimiters.
+pub fn is_message_by(d: Delimiters, text: &[u8]) -> bool
+    ensures { λ r. ⌜ r ≡ isMessage d (now (text .entry)) ⌝ }
+{
+    let found = check(d, text);
+    is_faultless(found)
+}
+
 // Whether a text is a message, by the delimiters | \ ^ &.
 pub fn is_message(text: &[u8]) -> bool
     ensures { λ r. ⌜ r ≡ isMessage standard (now (text .entry)) ⌝ }
 {
-    let found = check(Delimiters::standard(), text);
-    is_faultless(found)
+    is_message_by(Delimiters::standard(), text)
 }
 
 // Where the bytes behind the last CR start: 0 where there is no CR.

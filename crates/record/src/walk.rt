@@ -45,12 +45,8 @@ pub fn check_all(d: Delimiters, text: &[u8]) -> Checked
     let step = crate::check_header(d, last, &text[..e]);
     match step {
         Step::Fine(s) => {
-            if last {
-                Checked::Message
-            } else {
-                let from = e + 1;
-                check_rest(d, s, &text[from..])
-            }
+            let from = e + 1;
+            check_rest(d, s, &text[from..])
         }
         Step::Wrong(f) => Checked::Faulty(f, 1),
     }

@@ -1,9 +1,8 @@
 -- `component::component_end` meets its contract: what is passed holds no stop; the inner loop tells whether a byte is one.
 -- Assumes nothing.
 use borrow.Author.Needs.{needs}
-use Prim.Native.Nat.{ℕ, _+_, _-_, _≤_}
+use Prim.Native.Nat.{_+_, _-_, _≤_}
 use mathlib.Core.Path.{_≡_, refl}
-use native.Mathlib.Omega.{arith}
 use lib.ListN.{length, drop, getD}
 use Rattle.memory.specs.Tests.{find}
 use Rattle.memory.proofs.Tests.{find-stop, find-next, find-done}

@@ -1,6 +1,7 @@
-use mathlib.Core.Path.{_≡_, sym, _∙_, refl}
+-- `component::escape` meets its contract: it writes only where the escaped text fits.
+-- Assumes nothing.
+use mathlib.Core.Path.{_≡_, sym, _∙_}
 use mathlib.Core.Bool.{true}
-use native.Mathlib.Omega.{arith}
 use lib.Dec.{leb}
 use lib.ListN.{length}
 use borrow.Author.Tests.{not-true, not-false, leb-true}

@@ -1,8 +1,7 @@
 -- `component::unescape` meets its contract: each answer follows from the measure.
 -- Assumes nothing.
-use mathlib.Core.Path.{_≡_, refl, sym, _∙_}
+use mathlib.Core.Path.{sym, _∙_}
 use native.Mathlib.Omega.{arith}
-use lib.ListN.{length}
 use Rattle.component.proofs.Turns.{of-length, unescape-short, unescape-done, unescape-malformed}
 use borrow.Author.Needs.{needs}
 use Rattle.component.proofs.unescape.Statement.{statement}

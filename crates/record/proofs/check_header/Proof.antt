@@ -1,3 +1,5 @@
+-- `record::check_header` meets its contract: each answer under the tests that led to it.
+-- Assumes nothing.
 use mathlib.Core.Path.{sym, _∙_}
 use borrow.Author.Tests.{not-true, not-false}
 use Rattle.record.specs.Faults.{headerStep}

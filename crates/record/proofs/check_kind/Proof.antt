@@ -1,3 +1,5 @@
+-- `record::check_kind` meets its contract: each answer under the tests that led to it; n - 1 is compared, so that no count can wrap.
+-- Assumes nothing.
 use mathlib.Core.Path.{_≡_, sym, _∙_}
 use mathlib.Core.Bool.{true}
 use Prim.Native.Nat.{_+_}

@@ -1,4 +1,5 @@
-use mathlib.Core.Path.{_≡_, sym, _∙_}
+-- `record::check_record` meets its contract: the type and the number are those of fields 1 and 2.
+-- Assumes nothing.
 use Rattle.record.specs.Faults.{recordStep, kindStep}
 use borrow.Author.Needs.{needs}
 use Rattle.record.proofs.check_record.Statement.{statement}

@@ -1,3 +1,5 @@
+-- `record::count_on` meets its contract: in each arm the type is known, and the counts are those of the definition.
+-- Assumes nothing.
 use borrow.Author.Needs.{needs}
 use Rattle.record.proofs.count_on.Statement.{statement}
 use Rattle.record.proofs.count_on.Tie as tie

@@ -1,11 +1,10 @@
 -- `record::ends_with_l` meets its contract: each answer under the tests that led to it.
 -- Assumes nothing.
 use native.Mathlib.Omega.{arith}
-use Prim.Native.Nat.{_-_, _≤_, _<_}
+use Prim.Native.Nat.{_-_}
 use mathlib.Core.Path.{sym}
 use lib.ListN.{length, take}
 use lib.Seq.{length-take-le}
-use Rattle.record.specs.Records.{lastStart}
 use Rattle.record.proofs.LastRecord.{start-le, ends-empty, ends-open, ends-closed}
 use borrow.Author.Needs.{needs}
 use Rattle.record.proofs.ends_with_l.Statement.{statement}

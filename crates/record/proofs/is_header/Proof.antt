@@ -1,3 +1,5 @@
+-- `record::is_header` meets its contract: each answer under the tests that led to it.
+-- Assumes nothing.
 use Rattle.record.specs.Faults.{isHeader}
 use Rattle.memory.proofs.Told.{told}
 use borrow.Author.Needs.{needs}

@@ -1,11 +1,11 @@
 -- `record::joined_ends_with_l` meets its contract: each answer under the tests that led to it.
 -- Assumes nothing.
 use native.Mathlib.Omega.{arith}
-use Prim.Native.Nat.{_-_, _≤_, _<_}
+use Prim.Native.Nat.{_-_}
 use mathlib.Core.Path.{sym, _∙_, ap}
 use lib.ListN.{length, take}
 use lib.Seq.{length-take-le}
-use Rattle.record.specs.Records.{lastStart, endsWithL}
+use Rattle.record.specs.Records.{endsWithL}
 use Rattle.record.proofs.LastRecord.{start-le, joined-nothing, joined-open, joined-within, joined-across, joined-behind}
 use borrow.Author.Needs.{needs}
 use Rattle.record.proofs.joined_ends_with_l.Statement.{statement}

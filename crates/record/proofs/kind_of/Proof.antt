@@ -1,3 +1,5 @@
+-- `record::kind_of` meets its contract: each arm knows the byte, and the last that it is none of the eight.
+-- Assumes nothing.
 use borrow.Author.Tests.{ne-eqb}
 use Rattle.record.specs.Kinds.{kindOf}
 use Rattle.record.proofs.kind_of.Statement.{statement}

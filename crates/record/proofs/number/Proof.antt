@@ -1,15 +1,14 @@
 -- `record::number` meets its contract: what is passed are digits, and n is their decimal.
 -- Assumes nothing.
 use borrow.Author.Needs.{needs}
-use Prim.Native.Nat.{ℕ, _+_, _-_, _*_, _^_, _≤_, _<_}
+use Prim.Native.Nat.{ℕ, _-_, _^_, _≤_, _<_}
 use mathlib.Core.Path.{_≡_, refl, sym, _∙_}
 use mathlib.Core.List.{List}
 use native.Mathlib.Omega.{arith}
 use lib.ListN.{length, drop, getD, drop-of-length-le}
 use Rattle.memory.specs.Tests.{all}
 use Rattle.memory.proofs.Tests.{all-stop, all-next, all-done}
-use Rattle.record.specs.Delimiters.{isDigit}
-use Rattle.record.specs.Numbers.{decimal, numberOf}
+use Rattle.record.specs.Numbers.{isDigit, decimal}
 use Rattle.record.proofs.Decimal.{decimal-more, tenfold, six-digits, between-yes, between-low, between-high, number-none, number-long, number-zero, number-bad, number-is}
 use Rattle.record.proofs.number.Statement.{statement}
 use Rattle.record.proofs.number.Tie as tie

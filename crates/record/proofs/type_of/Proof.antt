@@ -1,7 +1,8 @@
+-- `record::type_of` meets its contract: field 1 has one byte exactly if the first delimiter stands at index 1.
+-- Assumes nothing.
 use mathlib.Core.Path.{_≡_, sym, _∙_}
-use Prim.Native.Nat.{ℕ}
 use native.Mathlib.Omega.{arith}
-use borrow.Author.Tests.{eq-eqb, ne-eqb}
+use borrow.Author.Tests.{ne-eqb}
 use Rattle.memory.specs.Tests.{is, find}
 use Rattle.memory.proofs.Tests.{find-le}
 use Rattle.record.specs.Kinds.{typeOf}

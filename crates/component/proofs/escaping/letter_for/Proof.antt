@@ -1,3 +1,5 @@
+-- `component::escaping::letter_for` meets its contract: each answer under the tests that led to it.
+-- Assumes nothing.
 use Rattle.component.specs.Escape.{letterFor}
 use Rattle.memory.proofs.Told.{told}
 use Rattle.component.proofs.escaping.letter_for.Statement.{statement}

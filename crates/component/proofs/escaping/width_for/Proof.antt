@@ -1,4 +1,6 @@
-use mathlib.Core.Path.{_≡_, sym, ap, _∙_}
+-- `component::escaping::width_for` meets its contract: a byte that stands for itself is one byte, an escape is three.
+-- Assumes nothing.
+use mathlib.Core.Path.{sym, ap, _∙_}
 use lib.ListN.{length}
 use Rattle.component.proofs.Escapes.{escape-one, escape-three}
 use borrow.Author.Needs.{needs}

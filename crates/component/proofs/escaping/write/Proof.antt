@@ -3,11 +3,11 @@
 use borrow.Author.Needs.{needs}
 use mathlib.Core.Path.{_≡_, refl, sym, _∙_}
 use mathlib.Core.List.{List}
-use Prim.Native.Nat.{ℕ, _+_, _-_, _≤_, _<_}
+use Prim.Native.Nat.{ℕ, _+_, _-_, _≤_}
 use native.Mathlib.Omega.{arith}
-use lib.ListN.{length, drop, getD, length-set, drop-of-length-le}
+use lib.ListN.{length, drop, length-set, drop-of-length-le}
 use lib.Seq.{sets}
-use Rattle.component.specs.Escape.{escaped, letterFor}
+use Rattle.component.specs.Escape.{escaped}
 use Rattle.component.proofs.Escapes.{put-one, put-three, one-less, three-less}
 use Rattle.component.proofs.escaping.write.Statement.{statement}
 use Rattle.component.proofs.escaping.write.Tie as tie

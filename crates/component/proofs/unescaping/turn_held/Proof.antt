@@ -1,3 +1,5 @@
+-- `component::unescaping::turn_held` meets its contract: each answer under the test that led to it.
+-- Assumes nothing.
 use Rattle.component.specs.Unescape.{turnHeld}
 use Rattle.memory.proofs.Told.{told}
 use Rattle.component.proofs.unescaping.turn_held.Statement.{statement}

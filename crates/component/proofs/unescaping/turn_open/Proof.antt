@@ -1,3 +1,5 @@
+-- `component::unescaping::turn_open` meets its contract: each answer under the tests that led to it.
+-- Assumes nothing.
 use Rattle.component.specs.Unescape.{turnOpen}
 use Rattle.memory.proofs.Told.{told}
 use Rattle.component.proofs.unescaping.turn_open.Statement.{statement}

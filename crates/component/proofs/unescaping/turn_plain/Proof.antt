@@ -1,3 +1,5 @@
+-- `component::unescaping::turn_plain` meets its contract: each answer under the tests that led to it.
+-- Assumes nothing.
 use mathlib.Core.Path.{sym, _∙_}
 use borrow.Author.Tests.{eq-eqb, ne-eqb}
 use Rattle.component.specs.Unescape.{turnPlain}

@@ -1,0 +1,55 @@
+-- What reading a message gives for each record: type, offset, length without CR, owner.
+-- Assumes nothing.
+use Prim.Native.Nat.{ℕ, _+_}
+use mathlib.Core.Path.{_≡_}
+use mathlib.Core.List.{List, [], _∷_}
+use mathlib.Core.Bool.{Bool, _&&_}
+use lib.Dec.{leb}
+use lib.ListN.{length}
+use Rattle.memory.specs.Tests.{unless}
+use Rattle.memory.specs.Parts.{splice}
+use Rattle.record.specs.Records.{records}
+use Rattle.record.specs.Faults.{isMessage}
+use Rattle.record.specs.declared.Delimiters.{Delimiters}
+use Rattle.owner.specs.Owners.{typesOf, ownersOf}
+use Rattle.owner.specs.declared.Reading.{Reading}
+use Rattle.owner.specs.declared.Reading.the-variants.{Read, NoMessage, Short}
+
+abbrev pub lengthsOf : List (List ℕ) → List ℕ
+lengthsOf [] = []
+lengthsOf (r ∷ rs) = length r ∷ lengthsOf rs
+
+-- where each record starts, the first at `at`
+abbrev pub offsetsOf : ℕ → List (List ℕ) → List ℕ
+offsetsOf at [] = []
+offsetsOf at (r ∷ rs) = at ∷ offsetsOf (at + (length r + 1)) rs
+
+-- each of four memories has n places
+unfoldable pub roomFor : ℕ → ℕ → ℕ → ℕ → ℕ → Bool
+roomFor n types offsets lengths owners = leb n types && leb n offsets && leb n lengths && leb n owners
+
+-- the answer: 46 for what is no message, then 47 where one of four memories of these lengths is too short, else the number of records
+unfoldable pub readingOf : Delimiters → List ℕ → ℕ → ℕ → ℕ → ℕ → Reading
+readingOf d text types offsets lengths owners =
+    unless (isMessage d text) NoMessage
+    (unless (roomFor (length (records text)) types offsets lengths owners) Short (Read (length (records text))))
+
+-- a memory after an answer: these numbers at its start and its rest kept where the message was read, else as it was
+abbrev pub laid : Reading → List ℕ → List ℕ → List ℕ
+laid (Read n) old new = splice old 0 new
+laid NoMessage old new = old
+laid Short old new = old
+
+-- the paper's number of a refusal; none for a reading
+abbrev pub paper : Reading → List ℕ
+paper (Read n) = []
+paper NoMessage = 46 ∷ []
+paper Short = 47 ∷ []
+
+-- what reading says: the answer, and each of the four memories after it
+pub record ReadAs (d : Delimiters) (text ts os ls ws ts′ os′ ls′ ws′ : List ℕ) (r : Reading) : Type 0 where
+  pub answer : r ≡ readingOf d text (length ts) (length os) (length ls) (length ws)
+  pub types : ts′ ≡ laid r ts (typesOf (records text))
+  pub offsets : os′ ≡ laid r os (offsetsOf 0 (records text))
+  pub lengths : ls′ ≡ laid r ls (lengthsOf (records text))
+  pub owners : ws′ ≡ laid r ws (ownersOf (records text))

@@ -1,0 +1,53 @@
+// Reading a message: each record with its type, offset, length and owner.
+ghost use mathlib.Core.Path.{_≡_};
+ghost use Rattle.owner.specs.Reading.{roomFor, ReadAs};
+use record::Delimiters;
+
+mod rows; // rows.rt: types, offsets and lengths
+mod runs; // runs.rt: owners, by the runs of records that they own
+
+// What becomes of a text that is read: so many records; it is no message; a memory is too short.
+pub enum Reading {
+    Read(usize),
+    NoMessage,
+    Short,
+}
+
+// Four memories of these lengths have n places each.
+fn has_room(n: usize, types: usize, offsets: usize, lengths: usize, owners: usize) -> bool
+    ensures { λ r. ⌜ r ≡ roomFor n types offsets lengths owners ⌝ }
+{
+    if types < n {
+        return false;
+    }
+    if offsets < n {
+        return false;
+    }
+    if lengths < n {
+        return false;
+    }
+    n <= owners
+}
+
+// Reads a message: each record's type (its letter), offset, length without CR, and owner (its number from 1, or 0).
+pub fn read(
+    d: Delimiters,
+    text: &[u8],
+    types: &mut [u8],
+    offsets: &mut [u16],
+    lengths: &mut [u16],
+    owners: &mut [u16],
+) -> Reading
+    ensures { λ r. ⌜ ReadAs d (now (text .entry)) (now (types .entry)) (now (offsets .entry)) (now (lengths .entry)) (now (owners .entry)) (now (types .exit)) (now (offsets .exit)) (now (lengths .exit)) (now (owners .exit)) r ⌝ }
+{
+    if !record::is_message_by(d, text) {
+        return Reading::NoMessage;
+    }
+    let n = record::count_records(text);
+    if !has_room(n, types.len(), offsets.len(), lengths.len(), owners.len()) {
+        return Reading::Short;
+    }
+    rows::fill_rows(text, types, offsets, lengths);
+    runs::fill_owners(&types[..n], owners);
+    Reading::Read(n)
+}

@@ -1,0 +1,91 @@
+-- `record_vectors::listing::splits` is safe and ends.
+-- Assumes nothing.
+use borrow.Author.Needs.{needs}
+use Prim.Native.Nat.{_-_, _≤_}
+use mathlib.Core.Path.{sym}
+use native.Mathlib.Omega.{arith}
+use lib.ListN.{length}
+use lib.Seq.{length-take-le}
+use Rattle.record_vectors.proofs.listing.splits.Statement.{statement}
+use Rattle.record_vectors.proofs.listing.splits.Tie as tie
+use Rattle.record_vectors.proofs.listing.splits.Reads as reads
+use Rattle.record_vectors.proofs.listing.splits.Lts as lts
+use Rattle.record.proofs.joined_ends_with_l.Reads as joined-ends-with-l-reads
+
+abbrev Inv-loop : tie.InvT-loop
+Inv-loop text n₀ k₀ n k = (n ≤ k) × (k ≤ length text)
+
+abbrev μ-loop : tie.MeasureT-loop
+μ-loop text n₀ k₀ n k = length text - k
+
+-- src/listing.rt:82:5
+loop-holds : tie.Need-loop-holds Inv-loop μ-loop
+loop-holds c = (omega arith, omega arith)
+
+-- src/listing.rt:83:47
+slice-aggregate-joined-ends-with-l : tie.Need-slice-aggregate-joined-ends-with-l Inv-loop μ-loop
+slice-aggregate-joined-ends-with-l c = let l = c .before .before in sym (length-take-le (l .loop .k) (l .before .before .args .text .now) (omega arith))
+
+-- src/listing.rt:83:59
+sub-joined-ends-with-l : tie.Need-sub-joined-ends-with-l Inv-loop μ-loop
+sub-joined-ends-with-l c = search needs
+
+-- src/listing.rt:83:59
+part-joined-ends-with-l-start : tie.Need-part-joined-ends-with-l-start Inv-loop μ-loop
+part-joined-ends-with-l-start c = search needs
+
+-- src/listing.rt:83:59
+part-joined-ends-with-l-end : tie.Need-part-joined-ends-with-l-end Inv-loop μ-loop
+part-joined-ends-with-l-end c = search needs
+
+-- src/listing.rt:83:13
+joined-ends-with-l-requires : tie.Need-joined-ends-with-l-requires Inv-loop μ-loop
+joined-ends-with-l-requires c κs = search needs
+
+-- src/listing.rt:84:9
+add-k : tie.Need-add-k Inv-loop μ-loop
+add-k c = search needs
+
+-- src/listing.rt:86:13
+add-n : tie.Need-add-n Inv-loop μ-loop
+add-n c = search needs
+
+-- src/listing.rt:82:5
+loop-less : tie.Need-loop-less Inv-loop μ-loop
+loop-less c = search needs
+
+-- src/listing.rt:82:5
+loop-again : tie.Need-loop-again Inv-loop μ-loop
+loop-again c = (omega arith, omega arith)
+
+-- src/listing.rt:82:5
+loop-less-2 : tie.Need-loop-less-2 Inv-loop μ-loop
+loop-less-2 c = search needs
+
+-- src/listing.rt:82:5
+loop-again-2 : tie.Need-loop-again-2 Inv-loop μ-loop
+loop-again-2 c = (omega arith, omega arith)
+
+-- src/listing.rt:79:1
+returns : tie.Need-returns Inv-loop μ-loop
+returns c = search needs
+
+pub splits-spec : {M : Type 1} → statement M
+splits-spec =
+    tie.close
+    (tie.spec
+    Inv-loop
+    μ-loop
+    loop-holds
+    slice-aggregate-joined-ends-with-l
+    sub-joined-ends-with-l
+    part-joined-ends-with-l-start
+    part-joined-ends-with-l-end
+    joined-ends-with-l-requires
+    add-k
+    add-n
+    loop-less
+    loop-again
+    loop-less-2
+    loop-again-2
+    returns)
