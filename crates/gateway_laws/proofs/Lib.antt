@@ -2,3 +2,4 @@ pub mod Found
 pub mod Proper
 pub mod Others
 pub mod Laws
+pub mod View
