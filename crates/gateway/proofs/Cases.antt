@@ -30,7 +30,7 @@ use Rattle.line.specs.declared.Turn.{Turn}
 use Rattle.line.specs.declared.Turn.the-variants.{Refused, Again, Missed, Overlong, InTurn}
 use Rattle.line.proofs.Limits.{within-facts}
 use Rattle.line.proofs.Turns.{in-turn-due}
-use Rattle.gateway.specs.Views.{frameBytes, joinedText, Ready}
+use Rattle.gateway.specs.Views.{frameBytes, joinedText, Own}
 use Rattle.gateway.specs.Looks.{endLook, turnLook, shapeLook, frameLook, neutralLook, waitingLook, insideLook, byState, passedLook, byteLook, secondsLook, lookOf}
 use Rattle.gateway.specs.Settled.{TextFits}
 use Rattle.gateway.specs.declared.Kind.{Kind}
@@ -93,29 +93,29 @@ module _ (P : Look → Type 0) (l : Line) (c : Cases P l) where
   by-turn Overlong number end n text h e = c .overlong
   by-turn InTurn number end n text h e = by-end end n text (h, in-turn-due l number n e .room)
 
-  module _ (i : ℕ) (u f : List ℕ) (ready : Ready l i u f) where
-    by-shape : (b : ℕ) (s : Shape) → shapeOf frameLimit (frameBytes l i b f) ≡ s → P (shapeLook s l i u f)
+  module _ (t f : List ℕ) (own : Own l t f) where
+    by-shape : (b : ℕ) (s : Shape) → shapeOf frameLimit (frameBytes l b f) ≡ s → P (shapeLook s l t f)
     by-shape b NotEnded e = c .unended
     by-shape b IsTorn e = c .torn
     by-shape b Unchecked e = c .unchecked
     by-shape b Foreign e = c .foreign
     by-shape b Unnumbered e = c .unnumbered
     by-shape b (Whole number end n) e =
-        let size = accepted-size frameLimit (frameBytes l i b f) number end n e in
-        by-turn (turnOf l number n) number end n (joinedText l i n u f) (omega (arith, size, length-frame l i b u f ready)) refl
+        let size = accepted-size frameLimit (frameBytes l b f) number end n e in
+        by-turn (turnOf l number n) number end n (joinedText l n t f) (omega (arith, size, length-frame l b t f own)) refl
 
-    by-frame : (b : ℕ) → P (frameLook l i b u f)
+    by-frame : (b : ℕ) → P (frameLook l b t f)
     unfolding frameLook
-    by-frame b = by-shape b (shapeOf frameLimit (frameBytes l i b f)) refl
+    by-frame b = by-shape b (shapeOf frameLimit (frameBytes l b f)) refl
 
     -- inside and not judged: there is room for one byte more
     by-room : (t : Bool) (x : Look) → eqb (l .collected) mostCollected ≡ t → P x → P (cond t x (Done Collects))
     by-room true x e p = p
-    by-room false x e p = c .collects (omega (arith, within-facts l (ready .within), eqb-false (l .collected) mostCollected e))
+    by-room false x e p = c .collects (omega (arith, within-facts l (own .within), eqb-false (l .collected) mostCollected e))
 
-    by-inside : (b : ℕ) → P (insideLook l i b u f)
+    by-inside : (b : ℕ) → P (insideLook l b t f)
     unfolding insideLook
-    by-inside b = by-test (is lf b) _ _ (by-frame b) (by-room (eqb (l .collected) mostCollected) (frameLook l i b u f) refl (by-frame b))
+    by-inside b = by-test (is lf b) _ _ (by-frame b) (by-room (eqb (l .collected) mostCollected) (frameLook l b t f) refl (by-frame b))
 
     by-neutral : (b : ℕ) → P (neutralLook b)
     unfolding neutralLook
@@ -129,7 +129,7 @@ module _ (P : Look → Type 0) (l : Line) (c : Cases P l) where
     unfolding waitingLook
     by-waiting b = by-test (is stx b) _ _ (c .begins) (by-test (is eot b) _ _ (by-closing (eqb (l .joined) 0)) (by-test (is enq b) _ _ (c .busy) (c .ignored)))
 
-    pub every-look : (k : Kind) → P (lookOf l i k u f)
+    pub every-look : (k : Kind) → P (lookOf l k t f)
     unfolding byteLook secondsLook
     every-look (Byte b) = by-states (l .state) _ _ _ (by-neutral b) (by-waiting b) (by-inside b)
     every-look (Seconds s) = by-states (l .state) _ _ _ (c .ignored) (by-seconds s) (by-seconds s)

@@ -13,7 +13,7 @@ use Rattle.journal.specs.declared.Verdict.{Verdict as Judgement}
 use Rattle.journal.specs.declared.Verdict.the-variants.{Fits, NoRoom as Full, Broken as Damaged, NoLine as Nowhere, OtherSize, NoText}
 use Rattle.line.specs.declared.Line.{Line}
 use Rattle.line.specs.declared.Answer.the-variants.{NoMessage}
-use Rattle.gateway.specs.Views.{Ready}
+use Rattle.gateway.specs.Views.{Own}
 use Rattle.gateway.specs.Looks.{lookOf}
 use Rattle.gateway.specs.Verdicts.{roomVerdict, decisionOf}
 use Rattle.gateway.specs.Settled.{ledgerAfter, journalAfter, TextFits, Fitting}
@@ -80,8 +80,8 @@ module _ (l : Line) where
     decides = λ n t. t;
   }
 
-  pub look-fits : (i : ℕ) (u f : List ℕ) → Ready l i u f → (k : Kind) → LookFits (lookOf l i k u f) l
-  look-fits i u f ready k = every-look (λ k. LookFits k l) l fitting i u f ready k
+  pub look-fits : (texts frames : List ℕ) → Own l texts frames → (k : Kind) → LookFits (lookOf l k texts frames) l
+  look-fits texts frames own k = every-look (λ k. LookFits k l) l fitting texts frames own k
 
 -- a decision fits as its text does
 room-fits : (l : Line) (q : Judgement) (n : ℕ) → TextFits l n → Fitting (roomVerdict q n) l

@@ -12,18 +12,18 @@ use Rattle.gateway.specs.Looks.{neutralLook, waitingLook, insideLook, by
 use Rattle.gateway.specs.declared.Look.the-variants.{Done}
 use Rattle.gateway.specs.declared.Verdict.the-variants.{Left}
 
-module _ (l : Line) (i b : ℕ) (unfinished frames : List ℕ) where
-  pub byte-neutral : l .state ≡ Neutral → byteLook l i b unfinished frames ≡ neutralLook b
+module _ (l : Line) (b : ℕ) (texts frames : List ℕ) where
+  pub byte-neutral : l .state ≡ Neutral → byteLook l b texts frames ≡ neutralLook b
   unfolding byteLook
-  byte-neutral e = ap (λ (s : State). byState s (neutralLook b) (waitingLook l b) (insideLook l i b unfinished frames)) e
+  byte-neutral e = ap (λ (s : State). byState s (neutralLook b) (waitingLook l b) (insideLook l b texts frames)) e
 
-  pub byte-waiting : l .state ≡ Waiting → byteLook l i b unfinished frames ≡ waitingLook l b
+  pub byte-waiting : l .state ≡ Waiting → byteLook l b texts frames ≡ waitingLook l b
   unfolding byteLook
-  byte-waiting e = ap (λ (s : State). byState s (neutralLook b) (waitingLook l b) (insideLook l i b unfinished frames)) e
+  byte-waiting e = ap (λ (s : State). byState s (neutralLook b) (waitingLook l b) (insideLook l b texts frames)) e
 
-  pub byte-inside : l .state ≡ Inside → byteLook l i b unfinished frames ≡ insideLook l i b unfinished frames
+  pub byte-inside : l .state ≡ Inside → byteLook l b texts frames ≡ insideLook l b texts frames
   unfolding byteLook
-  byte-inside e = ap (λ (s : State). byState s (neutralLook b) (waitingLook l b) (insideLook l i b unfinished frames)) e
+  byte-inside e = ap (λ (s : State). byState s (neutralLook b) (waitingLook l b) (insideLook l b texts frames)) e
 
 module _ (l : Line) (s : ℕ) where
   pub seconds-neutral : l .state ≡ Neutral → secondsLook l s ≡ Done (Left Nothing)

@@ -14,17 +14,18 @@ use Rattle.memory.proofs.Parts.{part-lent, part-start, part-splice, length-part
 use Rattle.memory.proofs.Moves.{lent-back, copied-fits}
 use Rattle.line.specs.declared.Line.{Line}
 use Rattle.line.proofs.Limits.{within-facts}
-use Rattle.gateway.specs.Views.{frameStart, textStart, frameText, unfinishedText, joinedText, Ready}
+use Rattle.gateway.specs.Views.{frameStart, textStart, framesOf, textsOf, frameText, unfinishedText, joinedText, Ready}
 use Rattle.gateway.specs.Settled.{withText, TextFits}
+use Rattle.gateway.proofs.Views.{own-parts, lent-unfinished, lent-text}
 
 module _ (l : Line) (i n : ℕ) (u f : List ℕ) (ready : Ready l i u f) (fits : TextFits l n) where
-  pub length-text : length (frameText i n f) ≡ n
-  length-text = length-part f (frameStart i + 1) n (omega (arith, ready, fits, within-facts l (ready .within)))
+  pub length-text : length (frameText n (framesOf i f)) ≡ n
+  length-text = length-part (framesOf i f) 1 n (omega (arith, fits, own-parts l i u f ready, within-facts l (ready .within)))
 
-  pub length-old : length (unfinishedText l i u) ≡ l .joined
-  length-old = length-part u (textStart i) (l .joined) (omega (arith, ready, within-facts l (ready .within)))
+  pub length-old : length (unfinishedText l (textsOf i u)) ≡ l .joined
+  length-old = length-part (textsOf i u) 0 (l .joined) (omega (arith, own-parts l i u f ready, within-facts l (ready .within)))
 
-  room : textStart i + l .joined + length (frameText i n f) ≤ length u
+  room : textStart i + l .joined + length (frameText n (framesOf i f)) ≤ length u
   room = omega (arith, ready, fits, length-text)
 
   -- the part of the unfinished texts that was lent to the copier is back
@@ -32,8 +33,8 @@ module _ (l : Line) (i n : ℕ) (u f : List ℕ) (ready : Ready l i u f) (fits :
       → Copied m 0 (take (frameStart i + 1 + n - (frameStart i + 1)) (drop (frameStart i + 1) f)) r b
       → take (textStart i + l .joined) u ++ (b ++ drop (length u - (textStart i + l .joined)) (drop (textStart i + l .joined) u)) ≡ withText l i n u f
   text-written m b r e c =
-      let c₁ = rw (part-lent f (frameStart i + 1) n) at c in
-      copied-fits u (textStart i + l .joined) (frameText i n f) (lent-back u (textStart i + l .joined) (frameText i n f) m b r room e c₁) room .1
+      let c₁ = rw (part-lent f (frameStart i + 1) n, lent-text l i u f ready n (fits .0)) at c in
+      copied-fits u (textStart i + l .joined) (frameText n (framesOf i f)) (lent-back u (textStart i + l .joined) (frameText n (framesOf i f)) m b r room e c₁) room .1
 
 -- two texts copied one behind the other into a place that holds both
 pub both-copied : (z old new x y : List ℕ) (q r : Bool) → length old + length new ≤ length z → Copied z 0 old q x → Copied x (length old) new r y
@@ -54,12 +55,12 @@ module _ (l : Line) (i n : ℕ) (u f : List ℕ) (ready : Ready l i u f) (fits :
   pub pieces-joined : (z x y : List ℕ) (q r : Bool) → length z ≡ messageLimit
       → Copied z 0 (take (textStart i + l .joined - textStart i) (drop (textStart i) u)) q x
       → Copied x (l .joined) (take (frameStart i + 1 + n - (frameStart i + 1)) (drop (frameStart i + 1) f)) r y
-      → (length y ≡ length z) × (take (l .joined + n) y ≡ joinedText l i n u f)
+      → (length y ≡ length z) × (take (l .joined + n) y ≡ joinedText l n (textsOf i u) (framesOf i f))
   pieces-joined z x y q r h c d =
-      let old : length (unfinishedText l i u) ≡ l .joined = length-old l i n u f ready fits in
-      let new : length (frameText i n f) ≡ n = length-text l i n u f ready fits in
-      let c₁ = rw (part-lent u (textStart i) (l .joined)) at c in
-      let d₁ = rw (part-lent f (frameStart i + 1) n) at d in
-      let d₂ : Copied x (length (unfinishedText l i u)) (frameText i n f) r y = rw old d₁ in
-      let (long, both) = both-copied z (unfinishedText l i u) (frameText i n f) x y q r (omega arith) c₁ d₂ in
-      (long, ap (λ (k : ℕ). take (k + n) y) (sym old) ∙ ap (λ (k : ℕ). take (length (unfinishedText l i u) + k) y) (sym new) ∙ both)
+      let old : length (unfinishedText l (textsOf i u)) ≡ l .joined = length-old l i n u f ready fits in
+      let new : length (frameText n (framesOf i f)) ≡ n = length-text l i n u f ready fits in
+      let c₁ = rw (part-lent u (textStart i) (l .joined), lent-unfinished l i u f ready) at c in
+      let d₁ = rw (part-lent f (frameStart i + 1) n, lent-text l i u f ready n (fits .0)) at d in
+      let d₂ : Copied x (length (unfinishedText l (textsOf i u))) (frameText n (framesOf i f)) r y = rw old d₁ in
+      let (long, both) = both-copied z (unfinishedText l (textsOf i u)) (frameText n (framesOf i f)) x y q r (omega arith) c₁ d₂ in
+      (long, ap (λ (k : ℕ). take (k + n) y) (sym old) ∙ ap (λ (k : ℕ). take (length (unfinishedText l (textsOf i u)) + k) y) (sym new) ∙ both)

@@ -22,9 +22,9 @@ use Rattle.line.specs.Line.{withinLimits}
 use Rattle.line.specs.declared.Line.{Line}
 use Rattle.line.specs.declared.Answer.{Answer}
 use Rattle.line.specs.declared.Answer.the-variants.{NoMessage, NoLine, WrongSize, BeyondLimits}
-use Rattle.gateway.specs.Views.{joinedText, Ready}
+use Rattle.gateway.specs.Views.{framesOf, textsOf, joinedText}
 use Rattle.gateway.specs.Looks.{lookOf}
-use Rattle.gateway.specs.Verdicts.{roomVerdict, decisionOf, decided, workOf, rightSizes, verdictOf, answerOf}
+use Rattle.gateway.specs.Verdicts.{roomVerdict, decisionOf, decided, ownWork, workOf, rightSizes, verdictOf, answerOf}
 use Rattle.gateway.specs.Settled.{lineAfter, textsAfter, framesAfter, ledgerAfter, journalAfter}
 use Rattle.gateway.specs.Decided.{Decision}
 use Rattle.gateway.specs.Events.{AfterStep, settle, stepOf, Leaves, memoryOf, Stepping, Working, Finished, lineAt, eventOf, Handling, tookAnswer, takeOf, Taking}
@@ -63,15 +63,15 @@ decision-text shares d i n text j = by-message (isMessage standard (text n)) (ju
 
 module _ (l : Line) (d : Ledger) (e : Event) (j u f : List ℕ) where
   -- the verdict that the work comes to
-  work-is : (k : Look) → lookOf l (e .line) (e .kind) u f ≡ k → workOf todaysShares l d e j u f ≡ decided k todaysShares l d (e .line) j u f
-  unfolding workOf
-  work-is k h = ap (λ (x : Look). decided x todaysShares l d (e .line) j u f) h
+  work-is : (k : Look) → lookOf l (e .kind) (textsOf (e .line) u) (framesOf (e .line) f) ≡ k → workOf todaysShares l d e j u f ≡ decided k todaysShares l d (e .line) j (textsOf (e .line) u) (framesOf (e .line) f)
+  unfolding ownWork
+  work-is k h = ap (λ (x : Look). decided x todaysShares l d (e .line) j (textsOf (e .line) u) (framesOf (e .line) f)) h
 
-  pub work-done : (v : Verdict) (r : Stepped) (u′ f′ : List ℕ) → lookOf l (e .line) (e .kind) u f ≡ Done v → Quiet v
+  pub work-done : (v : Verdict) (r : Stepped) (u′ f′ : List ℕ) → lookOf l (e .kind) (textsOf (e .line) u) (framesOf (e .line) f) ≡ Done v → Quiet v
       → Finished v (e .kind) l d (e .line) u f r u′ f′ → Working l d e j u f r j u′ f′
   work-done v r u′ f′ h q s =
       let w : workOf todaysShares l d e j u f ≡ v = work-is (Done v) h in
-      let (ledger, journal) = quiet-keeps v d (e .line) (λ n. joinedText l (e .line) n u f) j q in
+      let (ledger, journal) = quiet-keeps v d (e .line) (λ n. joinedText l n (textsOf (e .line) u) (framesOf (e .line) f)) j q in
       record {
         result = s .result ∙ ap (λ (x : Ledger). record { line = lineAfter v l; ledger = x; answer = answerOf v }) (sym ledger) ∙ ap (λ (x : Verdict). settle x l d e (memoryOf j u f) .stepped) (sym w);
         journal = sym journal ∙ ap (λ (x : Verdict). settle x l d e (memoryOf j u f) .memory .journal) (sym w);
@@ -79,11 +79,11 @@ module _ (l : Line) (d : Ledger) (e : Event) (j u f : List ℕ) where
         frames = s .frames ∙ ap (λ (x : Verdict). framesAfter x (e .kind) l (e .line) f) (sym w);
       }
 
-  pub work-decided : (n : ℕ) (c : Decided) (j′ : List ℕ) (r : Stepped) (u′ f′ : List ℕ) → lookOf l (e .line) (e .kind) u f ≡ Decides n
-      → Decision d (e .line) n (joinedText l (e .line) n u f) j c j′ → Finished (c .verdict) (e .kind) l (c .ledger) (e .line) u f r u′ f′
+  pub work-decided : (n : ℕ) (c : Decided) (j′ : List ℕ) (r : Stepped) (u′ f′ : List ℕ) → lookOf l (e .kind) (textsOf (e .line) u) (framesOf (e .line) f) ≡ Decides n
+      → Decision d (e .line) n (joinedText l n (textsOf (e .line) u) (framesOf (e .line) f)) j c j′ → Finished (c .verdict) (e .kind) l (c .ledger) (e .line) u f r u′ f′
       → Working l d e j u f r j′ u′ f′
   work-decided n c j′ r u′ f′ h t s =
-      let text : ℕ → List ℕ = λ m. joinedText l (e .line) m u f in
+      let text : ℕ → List ℕ = λ m. joinedText l m (textsOf (e .line) u) (framesOf (e .line) f) in
       let v : Verdict = decisionOf todaysShares d (e .line) n (text n) j in
       let w : workOf todaysShares l d e j u f ≡ v = work-is (Decides n) h in
       let (ledger, journal) = decision-text todaysShares d (e .line) n text j in

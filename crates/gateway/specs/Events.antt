@@ -20,7 +20,7 @@ use Rattle.line.specs.declared.State.the-variants.{Neutral}
 use Rattle.line.specs.declared.Last.the-variants.{NoneYet}
 use Rattle.line.specs.declared.Answer.{Answer}
 use Rattle.line.specs.declared.Answer.the-variants.{Taken, NoLine, WrongSize, Broken, NothingWaiting, BufferShort}
-use Rattle.gateway.specs.Views.{joinedText}
+use Rattle.gateway.specs.Views.{framesOf, textsOf, joinedText}
 use Rattle.gateway.specs.Verdicts.{workOf, verdictOf, answerOf}
 use Rattle.gateway.specs.Settled.{lineAfter, framesAfter, textsAfter, ledgerAfter, journalAfter}
 use Rattle.gateway.specs.declared.Event.{Event}
@@ -43,7 +43,7 @@ pub record AfterStep : Type 0 where
 -- what a verdict leaves
 abbrev pub settle : Verdict → Line → Ledger → Event → Memory → AfterStep
 settle v l d e m =
-    let text : ℕ → List ℕ = λ n. joinedText l (e .line) n (m .unfinished) (m .frames) in
+    let text : ℕ → List ℕ = λ n. joinedText l n (textsOf (e .line) (m .unfinished)) (framesOf (e .line) (m .frames)) in
     record {
       stepped = record { line = lineAfter v l; ledger = ledgerAfter v d (e .line) text; answer = answerOf v };
       memory = record {

@@ -1,4 +1,4 @@
--- What an event comes to, read off its own line: the record, its collected bytes and its unfinished text. The journal is not looked at.
+-- What an event comes to, read off its own line alone: the record, and its parts of the unfinished texts and of the frames. Neither the journal nor another line is looked at.
 -- Assumes nothing.
 use Prim.Native.Nat.{ℕ}
 use mathlib.Core.Bool.{Bool, cond, _||_}
@@ -47,17 +47,17 @@ turnLook Overlong end n text = Done (Refuses TooLong)
 turnLook InTurn end n text = endLook end n text
 
 -- a frame, by its shape: 21 to 25
-abbrev pub shapeLook : Shape → Line → ℕ → List ℕ → List ℕ → Look
-shapeLook NotEnded l i unfinished frames = Done (Refuses Unended)
-shapeLook IsTorn l i unfinished frames = Done (Refuses Torn)
-shapeLook Unchecked l i unfinished frames = Done (Refuses WrongCheck)
-shapeLook Foreign l i unfinished frames = Done (Refuses BadText)
-shapeLook Unnumbered l i unfinished frames = Done (Refuses BadNumber)
-shapeLook (Whole number end n) l i unfinished frames = turnLook (turnOf l number n) end n (joinedText l i n unfinished frames)
+abbrev pub shapeLook : Shape → Line → List ℕ → List ℕ → Look
+shapeLook NotEnded l texts frames = Done (Refuses Unended)
+shapeLook IsTorn l texts frames = Done (Refuses Torn)
+shapeLook Unchecked l texts frames = Done (Refuses WrongCheck)
+shapeLook Foreign l texts frames = Done (Refuses BadText)
+shapeLook Unnumbered l texts frames = Done (Refuses BadNumber)
+shapeLook (Whole number end n) l texts frames = turnLook (turnOf l number n) end n (joinedText l n texts frames)
 
 -- the frame that the byte b ends
-unfoldable pub frameLook : Line → ℕ → ℕ → List ℕ → List ℕ → Look
-frameLook l i b unfinished frames = shapeLook (shapeOf frameLimit (frameBytes l i b frames)) l i unfinished frames
+unfoldable pub frameLook : Line → ℕ → List ℕ → List ℕ → Look
+frameLook l b texts frames = shapeLook (shapeOf frameLimit (frameBytes l b frames)) l texts frames
 
 -- a byte on a neutral line, on a waiting one, and inside a frame
 unfoldable pub neutralLook : ℕ → Look
@@ -70,10 +70,10 @@ waitingLook l b =
     (cond (is enq b) (Done (Left Busy)) (Done (Left Nothing))))
 
 -- a frame is judged at its first LF, or at the last byte of the limit
-unfoldable pub insideLook : Line → ℕ → ℕ → List ℕ → List ℕ → Look
-insideLook l i b unfinished frames =
-    cond (is lf b) (frameLook l i b unfinished frames)
-    (cond (eqb (l .collected) mostCollected) (frameLook l i b unfinished frames) (Done Collects))
+unfoldable pub insideLook : Line → ℕ → List ℕ → List ℕ → Look
+insideLook l b texts frames =
+    cond (is lf b) (frameLook l b texts frames)
+    (cond (eqb (l .collected) mostCollected) (frameLook l b texts frames) (Done Collects))
 
 abbrev pub byState : {A : Type 0} → State → A → A → A → A
 byState Neutral neutral waiting inside = neutral
@@ -86,12 +86,12 @@ passedLook (Counted n) = Done (Counts n)
 passedLook RanOut = Done (Closes TimedOut)
 
 -- a byte, and seconds, by the line's state
-unfoldable pub byteLook : Line → ℕ → ℕ → List ℕ → List ℕ → Look
-byteLook l i b unfinished frames = byState (l .state) (neutralLook b) (waitingLook l b) (insideLook l i b unfinished frames)
+unfoldable pub byteLook : Line → ℕ → List ℕ → List ℕ → Look
+byteLook l b texts frames = byState (l .state) (neutralLook b) (waitingLook l b) (insideLook l b texts frames)
 
 unfoldable pub secondsLook : Line → ℕ → Look
 secondsLook l s = byState (l .state) (Done (Left Nothing)) (passedLook (passedOf l s)) (passedLook (passedOf l s))
 
-abbrev pub lookOf : Line → ℕ → Kind → List ℕ → List ℕ → Look
-lookOf l i (Byte b) unfinished frames = byteLook l i b unfinished frames
-lookOf l i (Seconds s) unfinished frames = secondsLook l s
+abbrev pub lookOf : Line → Kind → List ℕ → List ℕ → Look
+lookOf l (Byte b) texts frames = byteLook l b texts frames
+lookOf l (Seconds s) texts frames = secondsLook l s

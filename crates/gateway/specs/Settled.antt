@@ -10,7 +10,7 @@ use Rattle.journal.specs.Storage.{grown, appended}
 use Rattle.journal.specs.declared.Ledger.{Ledger}
 use Rattle.line.specs.Line.{mostCollected, mostSeconds, freshLine, openedLine, begunLine, collectedLine, countedLine, waitingLine, acceptedLine, refusingLine}
 use Rattle.line.specs.declared.Line.{Line}
-use Rattle.gateway.specs.Views.{frameStart, textStart, frameText}
+use Rattle.gateway.specs.Views.{frameStart, textStart, framesOf, frameText}
 use Rattle.gateway.specs.declared.Kind.{Kind}
 use Rattle.gateway.specs.declared.Kind.the-variants.{Byte, Seconds}
 use Rattle.gateway.specs.declared.Verdict.{Verdict}
@@ -50,7 +50,7 @@ framesAfter (Against a n) k l i frames = withByte k l i frames
 
 -- the frame's text is written behind the joined text
 abbrev pub withText : Line → ℕ → ℕ → List ℕ → List ℕ → List ℕ
-withText l i n unfinished frames = splice unfinished (textStart i + l .joined) (frameText i n frames)
+withText l i n unfinished frames = splice unfinished (textStart i + l .joined) (frameText n (framesOf i frames))
 
 -- the unfinished texts: 2, 4, 30 and 31 write the text
 abbrev pub textsAfter : Verdict → Line → ℕ → List ℕ → List ℕ → List ℕ

@@ -17,9 +17,10 @@ use Rattle.line.specs.Line.{withinLimits}
 use Rattle.line.specs.declared.Line.{Line}
 use Rattle.line.specs.declared.Answer.{Answer}
 use Rattle.line.specs.declared.Answer.the-variants.{Nothing, Opened, Accepted, Stored, NoMessage, NoRoom, NoLine, WrongSize, BeyondLimits, Broken}
-use Rattle.gateway.specs.Views.{joinedText}
+use Rattle.gateway.specs.Views.{framesOf, textsOf, joinedText}
 use Rattle.gateway.specs.Looks.{lookOf}
 use Rattle.gateway.specs.declared.Event.{Event}
+use Rattle.gateway.specs.declared.Kind.{Kind}
 use Rattle.gateway.specs.declared.Look.{Look}
 use Rattle.gateway.specs.declared.Look.the-variants.{Done, Decides}
 use Rattle.gateway.specs.declared.Verdict.{Verdict}
@@ -40,13 +41,16 @@ decisionOf shares d i n text journal =
     unless (isMessage standard text) (Against NoMessage n) (roomVerdict (judgeOf d shares i (length text) journal) n)
 
 abbrev pub decided : Look → List ℕ → Line → Ledger → ℕ → List ℕ → List ℕ → List ℕ → Verdict
-decided (Done v) shares l d i journal unfinished frames = v
-decided (Decides n) shares l d i journal unfinished frames = decisionOf shares d i n (joinedText l i n unfinished frames) journal
+decided (Done v) shares l d i journal texts frames = v
+decided (Decides n) shares l d i journal texts frames = decisionOf shares d i n (joinedText l n texts frames) journal
 
--- the work: the look, and the decision where the look comes to one
-unfoldable pub workOf : List ℕ → Line → Ledger → Event → List ℕ → List ℕ → List ℕ → Verdict
+-- the work on the line's own parts: the look, and the decision where the look comes to one
+unfoldable pub ownWork : List ℕ → Line → Ledger → ℕ → Kind → List ℕ → List ℕ → List ℕ → Verdict
+ownWork shares l d i k journal texts frames = decided (lookOf l k texts frames) shares l d i journal texts frames
+
+abbrev pub workOf : List ℕ → Line → Ledger → Event → List ℕ → List ℕ → List ℕ → Verdict
 workOf shares l d e journal unfinished frames =
-    decided (lookOf l (e .line) (e .kind) unfinished frames) shares l d (e .line) journal unfinished frames
+    ownWork shares l d (e .line) (e .kind) journal (textsOf (e .line) unfinished) (framesOf (e .line) frames)
 
 abbrev pub rightSizes : List ℕ → List ℕ → List ℕ → Bool
 rightSizes journal unfinished frames = eqb (length journal) journalSize && (eqb (length unfinished) unfinishedSize && eqb (length frames) framesSize)

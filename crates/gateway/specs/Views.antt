@@ -24,20 +24,26 @@ framesOf i frames = part frames (frameStart i) framePart
 abbrev pub textsOf : ℕ → List ℕ → List ℕ
 textsOf i unfinished = part unfinished (textStart i) messageLimit
 
--- the bytes collected, with the one that has come; and the unfinished text
-abbrev pub frameBytes : Line → ℕ → ℕ → List ℕ → List ℕ
-frameBytes l i b frames = part frames (frameStart i) (l .collected) ++ (b ∷ [])
+-- Of its own parts: the bytes collected, with the one that has come; and the unfinished text
+abbrev pub frameBytes : Line → ℕ → List ℕ → List ℕ
+frameBytes l b frames = part frames 0 (l .collected) ++ (b ∷ [])
 
-abbrev pub unfinishedText : Line → ℕ → List ℕ → List ℕ
-unfinishedText l i unfinished = part unfinished (textStart i) (l .joined)
+abbrev pub unfinishedText : Line → List ℕ → List ℕ
+unfinishedText l texts = part texts 0 (l .joined)
 
--- n bytes behind the digit of the line's frame: its text
-abbrev pub frameText : ℕ → ℕ → List ℕ → List ℕ
-frameText i n frames = part frames (frameStart i + 1) n
+-- n bytes behind the digit of its frame: the frame's text
+abbrev pub frameText : ℕ → List ℕ → List ℕ
+frameText n frames = part frames 1 n
 
 -- the text that the line has then
-abbrev pub joinedText : Line → ℕ → ℕ → List ℕ → List ℕ → List ℕ
-joinedText l i n unfinished frames = unfinishedText l i unfinished ++ frameText i n frames
+abbrev pub joinedText : Line → ℕ → List ℕ → List ℕ → List ℕ
+joinedText l n texts frames = unfinishedText l texts ++ frameText n frames
+
+-- a record within its limits, and parts of a line's sizes
+pub record Own (l : Line) (texts frames : List ℕ) : Type 0 where
+  pub within : withinLimits l ≡ true
+  pub texts-long : length texts ≡ messageLimit
+  pub frames-long : length frames ≡ framePart
 
 -- what 40, 41 and 42 have left: a line, its record within its limits, and memory of the right sizes
 pub record Ready (l : Line) (i : ℕ) (unfinished frames : List ℕ) : Type 0 where

@@ -2,7 +2,7 @@
 ghost use Prim.Native.Nat.{_<_, _≤_};
 ghost use mathlib.Core.Path.{_≡_};
 ghost use Rattle.memory.specs.Sizes.{lines};
-ghost use Rattle.gateway.specs.Views.{Ready, joinedText};
+ghost use Rattle.gateway.specs.Views.{Ready, framesOf, textsOf, joinedText};
 ghost use Rattle.gateway.specs.Settled.{TextFits};
 ghost use Rattle.gateway.specs.Verdicts.{roomVerdict};
 ghost use Rattle.gateway.specs.Decided.{Decision};
@@ -27,7 +27,7 @@ pub fn complete(
     frames: &[u8],
 ) -> Decided
     requires { ⌜ Ready line i (now unfinished) (now frames) × TextFits line n ⌝ }
-    ensures { λ r. ⌜ Decision ledger i n (joinedText line i n (now (unfinished .entry)) (now (frames .entry))) (now (journal .entry)) r (now (journal .exit)) ⌝ }
+    ensures { λ r. ⌜ Decision ledger i n (joinedText line n (textsOf i (now (unfinished .entry))) (framesOf i (now (frames .entry)))) (now (journal .entry)) r (now (journal .exit)) ⌝ }
 {
     let joined = line.joined as usize;
     let text = i * memory::MESSAGE_LIMIT;

@@ -4,7 +4,7 @@ ghost use mathlib.Core.List.{_++_};
 ghost use Prim.Native.Nat.{_+_, _≤_};
 ghost use Rattle.record.specs.Records.{endsWithCr};
 ghost use Rattle.line.specs.Turn.{turnOf};
-ghost use Rattle.gateway.specs.Views.{Ready, joinedText};
+ghost use Rattle.gateway.specs.Views.{Ready, framesOf, textsOf, joinedText};
 ghost use Rattle.gateway.specs.Looks.{neutralLook, waitingLook, insideLook, frameLook, turnLook, endLook, passedLook, byteLook, secondsLook, lookOf};
 use super::Kind;
 use super::Look;
@@ -24,7 +24,7 @@ use line::Turn;
 
 pub fn look(line: Line, i: usize, kind: Kind, unfinished: &[u8], frames: &[u8]) -> Look
     requires { ⌜ Ready line i (now unfinished) (now frames) ⌝ }
-    ensures { λ r. ⌜ r ≡ lookOf line i kind (now (unfinished .entry)) (now (frames .entry)) ⌝ }
+    ensures { λ r. ⌜ r ≡ lookOf line kind (textsOf i (now (unfinished .entry))) (framesOf i (now (frames .entry))) ⌝ }
 {
     match kind {
         Kind::Byte(b) => look_byte(line, i, b, unfinished, frames),
@@ -34,7 +34,7 @@ pub fn look(line: Line, i: usize, kind: Kind, unfinished: &[u8], frames: &[u8]) 
 
 fn look_byte(line: Line, i: usize, b: u8, unfinished: &[u8], frames: &[u8]) -> Look
     requires { ⌜ Ready line i (now unfinished) (now frames) ⌝ }
-    ensures { λ r. ⌜ r ≡ byteLook line i b (now (unfinished .entry)) (now (frames .entry)) ⌝ }
+    ensures { λ r. ⌜ r ≡ byteLook line b (textsOf i (now (unfinished .entry))) (framesOf i (now (frames .entry))) ⌝ }
 {
     let state = line.state;
     match state {
@@ -73,7 +73,7 @@ fn look_waiting(line: Line, b: u8) -> Look
 
 fn look_inside(line: Line, i: usize, b: u8, unfinished: &[u8], frames: &[u8]) -> Look
     requires { ⌜ Ready line i (now unfinished) (now frames) ⌝ }
-    ensures { λ r. ⌜ r ≡ insideLook line i b (now (unfinished .entry)) (now (frames .entry)) ⌝ }
+    ensures { λ r. ⌜ r ≡ insideLook line b (textsOf i (now (unfinished .entry))) (framesOf i (now (frames .entry))) ⌝ }
 {
     if b == LF {
         return look_frame(line, i, b, unfinished, frames);
@@ -107,7 +107,7 @@ fn look_passed(passed: Passed) -> Look
 // The frame that the byte ends: its shape, then its turn.
 fn look_frame(line: Line, i: usize, b: u8, unfinished: &[u8], frames: &[u8]) -> Look
     requires { ⌜ Ready line i (now unfinished) (now frames) ⌝ }
-    ensures { λ r. ⌜ r ≡ frameLook line i b (now (unfinished .entry)) (now (frames .entry)) ⌝ }
+    ensures { λ r. ⌜ r ≡ frameLook line b (textsOf i (now (unfinished .entry))) (framesOf i (now (frames .entry))) ⌝ }
 {
     let start = i * memory::FRAME_PART;
     let end = start + line.collected as usize;
@@ -132,7 +132,7 @@ fn look_turn(
     frames: &[u8],
 ) -> Look
     requires { ⌜ Ready line i (now unfinished) (now frames) × (n + 5 ≤ line .collected) ⌝ }
-    ensures { λ r. ⌜ r ≡ turnLook (turnOf line number n) end n (joinedText line i n (now (unfinished .entry)) (now (frames .entry))) ⌝ }
+    ensures { λ r. ⌜ r ≡ turnLook (turnOf line number n) end n (joinedText line n (textsOf i (now (unfinished .entry))) (framesOf i (now (frames .entry)))) ⌝ }
 {
     match line.in_turn(number, n) {
         Turn::Refused => Look::Done(Verdict::Refuses(Answer::Refusing)),

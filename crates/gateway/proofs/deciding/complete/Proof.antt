@@ -9,7 +9,7 @@ use denote.Ref.{now}
 use lib.ListN.{length, take, length-take}
 use Rattle.line.proofs.Limits.{within-facts}
 use Rattle.memory.specs.Sizes.{messageLimit}
-use Rattle.gateway.specs.Views.{joinedText}
+use Rattle.gateway.specs.Views.{joinedText, textsOf, framesOf}
 use Rattle.gateway.specs.Decided.{Decision}
 use Rattle.gateway.proofs.Pieces.{pieces-joined}
 use Rattle.gateway.proofs.deciding.complete.Statement.{statement}
@@ -22,7 +22,7 @@ long c =
     let a = start .args in
     pieces-joined (a .line) (a .i) (a .n) (now (a .unfinished)) (now (a .frames)) (start .pre .0) (start .pre .1) _ _ _ _ _ refl (c .before .before .before .before .copy .ensures) (c .copy-at .ensures) .0
 
-joined : (c : tie.After-copy-at) → take (c .before .before .before .before .before .before .before .before .before .before .before .args .line .joined + c .before .before .before .before .before .before .before .before .before .before .before .args .n) (c .copy-at .last .0) ≡ joinedText (c .before .before .before .before .before .before .before .before .before .before .before .args .line) (c .before .before .before .before .before .before .before .before .before .before .before .args .i) (c .before .before .before .before .before .before .before .before .before .before .before .args .n) (now (c .before .before .before .before .before .before .before .before .before .before .before .args .unfinished)) (now (c .before .before .before .before .before .before .before .before .before .before .before .args .frames))
+joined : (c : tie.After-copy-at) → take (c .before .before .before .before .before .before .before .before .before .before .before .args .line .joined + c .before .before .before .before .before .before .before .before .before .before .before .args .n) (c .copy-at .last .0) ≡ joinedText (c .before .before .before .before .before .before .before .before .before .before .before .args .line) (c .before .before .before .before .before .before .before .before .before .before .before .args .n) (textsOf (c .before .before .before .before .before .before .before .before .before .before .before .args .i) (now (c .before .before .before .before .before .before .before .before .before .before .before .args .unfinished))) (framesOf (c .before .before .before .before .before .before .before .before .before .before .before .args .i) (now (c .before .before .before .before .before .before .before .before .before .before .before .args .frames)))
 joined c =
     let start = c .before .before .before .before .before .before .before .before .before .before .before in
     let a = start .args in

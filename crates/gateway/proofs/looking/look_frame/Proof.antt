@@ -12,17 +12,18 @@ use Rattle.memory.specs.Sizes.{frameLimit}
 use Rattle.memory.proofs.Parts.{part-lent}
 use Rattle.frame.specs.Shape.{shapeOf}
 use Rattle.frame.proofs.Accepted.{accepted-size}
-use Rattle.gateway.specs.Views.{frameStart, frameBytes}
+use Rattle.gateway.specs.Views.{frameStart, framesOf, frameBytes}
 use Rattle.gateway.specs.Looks.{frameLook}
-use Rattle.gateway.proofs.Views.{length-frame}
+use Rattle.gateway.proofs.Views.{length-frame, own-parts, lent-collected}
 use Rattle.gateway.proofs.looking.look_frame.Statement.{statement}
 use Rattle.gateway.proofs.looking.look_frame.Tie as tie
 
 -- the shape is that of the frame's bytes
-shape : (c : tie.After-shape-of) → c .shape-of .result ≡ shapeOf frameLimit (frameBytes (c .before .before .before .before .before .args .line) (c .before .before .before .before .before .args .i) (c .before .before .before .before .before .args .b) (now (c .before .before .before .before .before .args .frames)))
+shape : (c : tie.After-shape-of) → c .shape-of .result ≡ shapeOf frameLimit (frameBytes (c .before .before .before .before .before .args .line) (c .before .before .before .before .before .args .b) (framesOf (c .before .before .before .before .before .args .i) (now (c .before .before .before .before .before .args .frames))))
 shape c =
-    let a = c .before .before .before .before .before .args in
-    c .shape-of .ensures ∙ ap (λ bs. shapeOf frameLimit (bs ++ (a .b ∷ []))) (part-lent (now (a .frames)) (frameStart (a .i)) (a .line .collected))
+    let start = c .before .before .before .before .before in
+    let a = start .args in
+    c .shape-of .ensures ∙ ap (λ bs. shapeOf frameLimit (bs ++ (a .b ∷ []))) (part-lent (now (a .frames)) (frameStart (a .i)) (a .line .collected) ∙ lent-collected (a .line) (a .i) (now (a .unfinished)) (now (a .frames)) (start .pre))
 
 part-shape-of-end : tie.Need-part-shape-of-end
 part-shape-of-end c = omega (arith, within-facts (c .before .before .before .args .line) (c .before .before .before .pre .within), c .before .before .before .pre)
@@ -30,8 +31,8 @@ part-shape-of-end c = omega (arith, within-facts (c .before .before .before .arg
 look-turn-requires : tie.Need-look-turn-requires
 look-turn-requires c κs = let a = c .before .before .before .before .before .before .before .before .args in
     let is = sym (shape (c .before .before .before)) ∙ c .before .number .given .1 in
-    let size = accepted-size frameLimit (frameBytes (a .line) (a .i) (a .b) (now (a .frames))) _ _ _ is in
-    (c .before .before .before .before .before .before .before .before .pre, omega (arith, size, length-frame (a .line) (a .i) (a .b) (now (a .unfinished)) (now (a .frames)) (c .before .before .before .before .before .before .before .before .pre)))
+    let size = accepted-size frameLimit (frameBytes (a .line) (a .b) (framesOf (a .i) (now (a .frames)))) _ _ _ is in
+    (c .before .before .before .before .before .before .before .before .pre, omega (arith, size, length-frame (a .line) (a .b) _ _ (own-parts (a .line) (a .i) (now (a .unfinished)) (now (a .frames)) (c .before .before .before .before .before .before .before .before .pre))))
 
 returns : tie.Need-returns
 unfolding frameLook

@@ -8,6 +8,7 @@ use Rattle.line.proofs.Limits.{within-facts}
 use Rattle.memory.proofs.Parts.{part-lent}
 use Rattle.gateway.specs.Views.{textStart, frameStart}
 use Prim.Native.Nat.{_+_}
+use Rattle.gateway.proofs.Views.{lent-unfinished, lent-text}
 use Rattle.gateway.proofs.looking.look_turn.Statement.{statement}
 use Rattle.gateway.proofs.looking.look_turn.Tie as tie
 
@@ -30,9 +31,12 @@ returns-4 : tie.Need-returns-4
 returns-4 c = rw (sym (c .before .before .in-turn .ensures) ∙ c .enum-told4 .given .1)
 
 returns-5 : tie.Need-returns-5
-returns-5 c = let a = c .before .before .before .before .before .before .before .before .before .args in
+returns-5 c = let start = c .before .before .before .before .before .before .before .before .before in
+    let a = start .args in
     rw (
       sym (c .before .before .before .before .before .before .in-turn .ensures) ∙ c .before .before .before .before .enum-told5 .given .1,
+      ← lent-unfinished (a .line) (a .i) (now (a .unfinished)) (now (a .frames)) (start .pre .0),
+      ← lent-text (a .line) (a .i) (now (a .unfinished)) (now (a .frames)) (start .pre .0) (a .n) (start .pre .1),
       ← part-lent (now (a .unfinished)) (textStart (a .i)) (a .line .joined),
       ← part-lent (now (a .frames)) (frameStart (a .i) + 1) (a .n),
     )

@@ -5,10 +5,10 @@ use mathlib.Core.Path.{_≡_, sym, subst, _∙_}
 use denote.Ref.{now}
 use Rattle.line.specs.declared.Line.{Line}
 use Rattle.journal.specs.Room.{todaysShares}
-use Rattle.gateway.specs.Views.{joinedText}
 use Rattle.gateway.specs.Settled.{Fitting, TextFits}
 use Rattle.gateway.specs.declared.Look.{Look}
 use Rattle.gateway.specs.declared.Verdict.{Verdict}
+use Rattle.gateway.proofs.Views.{own-parts}
 use Rattle.gateway.proofs.Fits.{LookFits, look-fits, decision-fits}
 use Rattle.gateway.proofs.Steps.{work-done, work-decided}
 use Rattle.gateway.proofs.working.work.Statement.{statement}
@@ -19,7 +19,7 @@ fits : (c : tie.After-look) → LookFits (c .look .result) (c .before .before .b
 fits c =
     let start = c .before .before .before .before .before .before .before in
     let a = start .args in
-    subst (λ (k : Look). LookFits k (a .line)) (sym (c .look .ensures)) (look-fits (a .line) (a .e .line) (now (a .unfinished)) (now (a .frames)) (start .pre) (a .e .kind))
+    subst (λ (k : Look). LookFits k (a .line)) (sym (c .look .ensures)) (look-fits (a .line) _ _ (own-parts (a .line) (a .e .line) (now (a .unfinished)) (now (a .frames)) (start .pre)) (a .e .kind))
 
 fits-as : {k m : Look} (l : Line) → k ≡ m → LookFits k l → LookFits m l
 fits-as {k} {m} l e h = subst (λ (x : Look). LookFits x l) e h
