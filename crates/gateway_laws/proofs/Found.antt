@@ -15,9 +15,9 @@ use Rattle.line.specs.Line.{withinLimits}
 use Rattle.line.specs.declared.Line.{Line}
 use Rattle.line.specs.declared.Answer.{Answer}
 use Rattle.line.specs.declared.Answer.the-variants.{NoLine, WrongSize, BeyondLimits}
-use Rattle.gateway.specs.Views.{joinedText, Ready}
+use Rattle.gateway.specs.Views.{framesOf, textsOf, joinedText, Ready}
 use Rattle.gateway.specs.Looks.{lookOf}
-use Rattle.gateway.specs.Verdicts.{decided, workOf, rightSizes, verdictOf}
+use Rattle.gateway.specs.Verdicts.{decided, ownWork, workOf, rightSizes, verdictOf}
 use Rattle.gateway.specs.Settled.{Fitting}
 use Rattle.gateway.specs.declared.Event.{Event}
 use Rattle.gateway.specs.declared.Look.{Look}
@@ -25,6 +25,7 @@ use Rattle.gateway.specs.declared.Look.the-variants.{Done, Decides}
 use Rattle.gateway.specs.declared.Verdict.{Verdict}
 use Rattle.gateway.specs.declared.Verdict.the-variants.{Left}
 use Rattle.gateway_laws.specs.Classes.{classOf, quiet}
+use Rattle.gateway.proofs.Views.{own-parts}
 use Rattle.gateway.proofs.Fits.{LookFits, look-fits, decision-fits}
 
 -- the sizes, as facts
@@ -49,12 +50,12 @@ module _ (shares : List ℕ) (l : Line) (d : Ledger) (e : Event) (j u f : List �
     worked : {v : Verdict} → Worked v → Found v
 
   work-fits : Ready l (e .line) u f → Fitting (workOf shares l d e j u f) l
-  unfolding workOf
-  work-fits r = by-look (lookOf l (e .line) (e .kind) u f) (look-fits l (e .line) u f r (e .kind))
+  unfolding ownWork
+  work-fits r = by-look (lookOf l (e .kind) (textsOf (e .line) u) (framesOf (e .line) f)) (look-fits l _ _ (own-parts l (e .line) u f r) (e .kind))
     where
-      by-look : (k : Look) → LookFits k l → Fitting (decided k shares l d (e .line) j u f) l
+      by-look : (k : Look) → LookFits k l → Fitting (decided k shares l d (e .line) j (textsOf (e .line) u) (framesOf (e .line) f)) l
       by-look (Done v) h = h .0
-      by-look (Decides n) h = decision-fits l shares d (e .line) n (joinedText l (e .line) n u f) j h
+      by-look (Decides n) h = decision-fits l shares d (e .line) n (joinedText l n (textsOf (e .line) u) (framesOf (e .line) f)) j h
 
   pub verdict-found : Found (verdictOf shares l d e j u f)
   unfolding verdictOf

@@ -21,7 +21,7 @@ use Rattle.line.specs.declared.Answer.the-variants.{Nothing, Stored, NoLine}
 use Rattle.line.proofs.Limits.{Within, within-facts, within-of, fresh-within, opened-within, begun-within, collected-within, counted-within, waiting-within, accepted-within, refusing-within}
 use Rattle.gateway.specs.Views.{framesOf, textsOf, joinedText}
 use Rattle.gateway.specs.Looks.{lookOf}
-use Rattle.gateway.specs.Verdicts.{decided, workOf, rightSizes, verdictOf, answerOf}
+use Rattle.gateway.specs.Verdicts.{decided, ownWork, workOf, rightSizes, verdictOf, answerOf}
 use Rattle.gateway.specs.Settled.{lineAfter, withByte, Fitting}
 use Rattle.gateway.specs.Events.{Memory, AfterStep, settle, stepOf, lineAt, noRecord, AfterEvent, putBack, eventOf, takeOf}
 use Rattle.gateway.specs.declared.Event.{Event}
@@ -111,8 +111,8 @@ module _ (shares : List ℕ) (l : Line) (d : Ledger) (e : Event) (m : Memory) wh
   -- what 4 appends is the joined text, as the line's newest entry under its next serial
   pub record Storing : Type 0 where
     pub length-of : ℕ
-    pub ledger : stepOf shares l d e m .stepped .ledger ≡ grown d (e .line) (length (joinedText l (e .line) length-of (m .unfinished) (m .frames)))
-    pub journal : stepOf shares l d e m .memory .journal ≡ appended d (e .line) (joinedText l (e .line) length-of (m .unfinished) (m .frames)) (m .journal)
+    pub ledger : stepOf shares l d e m .stepped .ledger ≡ grown d (e .line) (length (joinedText l length-of (textsOf (e .line) (m .unfinished)) (framesOf (e .line) (m .frames))))
+    pub journal : stepOf shares l d e m .memory .journal ≡ appended d (e .line) (joinedText l length-of (textsOf (e .line) (m .unfinished)) (framesOf (e .line) (m .frames))) (m .journal)
     pub verdict : found ≡ Stores length-of
 
   pub stored-appends : stepOf shares l d e m .stepped .answer ≡ Stored → Storing
@@ -203,9 +203,9 @@ module _ (shares : List ℕ) (l : Line) (d : Ledger) (e : Event) (m : Memory) wh
       )
 
 -- an event that does not decide does not read the journal: with another ledger and another journal of the same size its verdict is the same
-pub quiet-verdict : (shares : List ℕ) (l : Line) (d d′ : Ledger) (e : Event) (j j′ u f : List ℕ) (v : Verdict) → length j ≡ length j′ → lookOf l (e .line) (e .kind) u f ≡ Done v
+pub quiet-verdict : (shares : List ℕ) (l : Line) (d d′ : Ledger) (e : Event) (j j′ u f : List ℕ) (v : Verdict) → length j ≡ length j′ → lookOf l (e .kind) (textsOf (e .line) u) (framesOf (e .line) f) ≡ Done v
     → verdictOf shares l d e j u f ≡ verdictOf shares l d′ e j′ u f
-unfolding verdictOf workOf
+unfolding verdictOf ownWork
 quiet-verdict shares l d d′ e j j′ u f v s h = rw (s, h)
 
 -- an event touches no other line's record; the event's own line has the step's

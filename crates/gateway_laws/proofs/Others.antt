@@ -26,15 +26,15 @@ module _ (l : Line) (i : ℕ) (u f : List ℕ) (ready : Ready l i u f) where
   byte-at = omega (arith, ready, within-facts l (ready .within))
 
   module _ (n : ℕ) (fits : TextFits l n) where
-    text-room : textStart i + l .joined + length (frameText i n f) ≤ length u
+    text-room : textStart i + l .joined + length (frameText n (framesOf i f)) ≤ length u
     text-room = omega (arith, ready, fits, length-text l i n u f ready fits)
 
     text-length : length (withText l i n u f) ≡ length u
-    text-length = length-splice u (textStart i + l .joined) (frameText i n f) text-room
+    text-length = length-splice u (textStart i + l .joined) (frameText n (framesOf i f)) text-room
 
     text-other : (k : ℕ) → i ≢ k → textsOf k (withText l i n u f) ≡ textsOf k u
     text-other k m =
-        part-elsewhere messageLimit u i k (l .joined) (frameText i n f) m (omega (arith, ready)) (omega (arith, fits, length-text l i n u f ready fits))
+        part-elsewhere messageLimit u i k (l .joined) (frameText n (framesOf i f)) m (omega (arith, ready)) (omega (arith, fits, length-text l i n u f ready fits))
 
   byte-length : (k : Kind) → length (withByte k l i f) ≡ length f
   byte-length (Byte b) = length-set f (frameStart i + l .collected) b

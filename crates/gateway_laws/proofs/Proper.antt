@@ -12,14 +12,15 @@ use Rattle.journal.specs.declared.Ledger.{Ledger}
 use Rattle.journal.specs.declared.Verdict.{Verdict as Judgement}
 use Rattle.journal.specs.declared.Verdict.the-variants.{Fits, NoRoom as Full, Broken as Damaged, NoLine as Nowhere, OtherSize, NoText}
 use Rattle.line.specs.declared.Line.{Line}
-use Rattle.gateway.specs.Views.{joinedText, Ready}
+use Rattle.gateway.specs.Views.{framesOf, textsOf, joinedText, Ready}
 use Rattle.gateway.specs.Looks.{lookOf}
-use Rattle.gateway.specs.Verdicts.{roomVerdict, decisionOf, decided, workOf, verdictOf, answerOf}
+use Rattle.gateway.specs.Verdicts.{roomVerdict, decisionOf, decided, ownWork, workOf, verdictOf, answerOf}
 use Rattle.gateway.specs.declared.Event.{Event}
 use Rattle.gateway.specs.declared.Look.{Look}
 use Rattle.gateway.specs.declared.Look.the-variants.{Done, Decides}
 use Rattle.gateway.specs.declared.Verdict.{Verdict}
 use Rattle.gateway.specs.declared.Verdict.the-variants.{Left}
+use Rattle.gateway.proofs.Views.{own-parts}
 use Rattle.gateway.proofs.Cases.{Cases, every-look}
 use Rattle.gateway_laws.specs.Classes.{classOf, verdictClass}
 use Rattle.gateway_laws.proofs.Found.{Found, refused, worked, Worked, verdict-found}
@@ -69,16 +70,19 @@ verdict-by-test true x y p q = p
 verdict-by-test false x y p q = q
 
 module _ (shares : List ℕ) (l : Line) (d : Ledger) (e : Event) (j u f : List ℕ) where
-  decided-proper : (k : Look) → LookProper k → Proper (decided k shares l d (e .line) j u f)
+  decided-proper : (texts frames : List ℕ) (k : Look) → LookProper k → Proper (decided k shares l d (e .line) j texts frames)
   unfolding decisionOf
-  decided-proper (Done v) p = p
-  decided-proper (Decides n) p =
-      let text = joinedText l (e .line) n u f in
+  decided-proper texts frames (Done v) p = p
+  decided-proper texts frames (Decides n) p =
+      let text = joinedText l n texts frames in
       verdict-by-test (isMessage standard text) _ _ (room-proper (judgeOf d shares (e .line) (length text) j) n) refl
 
   work-proper : Ready l (e .line) u f → Proper (workOf shares l d e j u f)
-  unfolding workOf
-  work-proper r = decided-proper (lookOf l (e .line) (e .kind) u f) (every-look LookProper l (proper l) (e .line) u f r (e .kind))
+  unfolding ownWork
+  work-proper r =
+      let texts = textsOf (e .line) u in
+      let frames = framesOf (e .line) f in
+      decided-proper texts frames (lookOf l (e .kind) texts frames) (every-look LookProper l (proper l) texts frames (own-parts l (e .line) u f r) (e .kind))
 
   pub verdict-proper : Proper (verdictOf shares l d e j u f)
   verdict-proper = by-found (verdictOf shares l d e j u f) (verdict-found shares l d e j u f)
