@@ -1,0 +1,4 @@
+pub mod Updates
+pub mod Runs
+pub mod Behind
+pub mod Theorem
