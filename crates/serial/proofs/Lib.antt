@@ -2,3 +2,8 @@ pub mod Updates
 pub mod Runs
 pub mod Behind
 pub mod Theorem
+pub mod Lists
+pub mod Kept
+pub mod Orders
+pub mod Model
+pub mod Toy

@@ -8,7 +8,7 @@ use mathlib.Core.Path.{_≡_}
 use mathlib.Core.Logic.{_≢_}
 use mathlib.Core.Bool.{Bool, true, false, cond}
 use mathlib.Core.List.{List, [], _∷_, _++_, map}
-use Prim.Native.Nat.{ℕ, _+_, _≤_, _<_}
+use Prim.Native.Nat.{ℕ, zero, suc, _+_, _≤_, _<_}
 use lib.Dec.{eqb}
 
 -- ---- runs
@@ -58,6 +58,14 @@ times l is = count (λ m. eqb m l) is
 pub record OrderOf (lines : ℕ) (order : List ℕ) : Type 0 where
   pub once : (l : ℕ) → l < lines → times l order ≡ 1
   pub no-others : (l : ℕ) → lines ≤ l → times l order ≡ 0
+
+-- m lines from line i on, and all lines, by their numbers
+abbrev pub countUp : ℕ → ℕ → List ℕ
+countUp i zero = []
+countUp i (suc m) = i ∷ countUp (suc i) m
+
+abbrev pub upTo : ℕ → List ℕ
+upTo lines = countUp 0 lines
 
 -- f, but a at i
 unfoldable pub upd : {X : Type 0} → (ℕ → X) → ℕ → X → ℕ → X
