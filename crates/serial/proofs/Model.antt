@@ -23,8 +23,8 @@ module _ {P J K N A : Type 0} (look : ℕ → P → K → Look P J A) (onTaking 
 
   keeps : (s : State P J) (e : Item K N) → Sound s → OnLine lines e → Sound ((step look onTaking s e) .1)
   keeps s (event i k) w o = (
-    upd-all (λ l p. U p) (s .lines) i _ (F .keeps-line i (s .lines i) k (s .journal) (w .0 i) (w .1)) (λ l n. w .0 l),
-    F .keeps-journal i (s .lines i) k (s .journal) (w .0 i) (w .1),
+    upd-all (λ l p. U p) (s .lines) _ _ (F .keeps-line i _ k (s .journal) (w .0 _) (w .1)) (λ l n. w .0 l),
+    F .keeps-journal i _ k (s .journal) (w .0 _) (w .1),
   )
   keeps s (taking i n) w o = (w .0, F .keeps-taking i n (s .journal) (w .1))
 
