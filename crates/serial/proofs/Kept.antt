@@ -10,7 +10,7 @@ use native.Mathlib.Omega.{arith}
 use native.Mathlib.Decide.{ℕ-discrete}
 use borrow.Author.Tests.{eq-eqb, ne-eqb}
 use Rattle.serial.specs.Serial.{Item, event, taking, items, Every, count, OrderOf, upd, stretch, out, left, rests, serial, serialize}
-use Rattle.serial.specs.Kept.{only, OnLine, isOf, isTaking, isEnd, Part, finished, took, Undecided, Proper, tell, tellAll, Whole, Rearranged}
+use Rattle.serial.specs.Kept.{only, OnLine, isOf, isTaking, isEnd, Part, finished, took, Undecided, Proper, tell, Whole, Rearranged}
 use Rattle.serial.proofs.Updates.{upd-all, upd-own, upd-other, stretch-append}
 use Rattle.serial.proofs.Lists.{only-append, count-append, mine, own-stretch, other-stretch, rests-own, rests-count}
 
@@ -29,20 +29,29 @@ module _ {K N A : Type 0} (i : ℕ) where
   ]
   one pending (taking l n) a d = sym (append-nil _)
 
+  -- what an item puts out and what is pending behind it are what was pending and the item
+  pub shift : (pending : ℕ → List (K × A)) (e : Item K N) (a : A) (d : Bool) (xs : List (Item K N × A))
+      → only (mine i) (out pending e a d) ++ (stretch i (left pending e a d i) ++ only (mine i) xs)
+      ≡ stretch i (pending i) ++ only (mine i) ((e, a) ∷ xs)
+  shift pending e a d xs =
+      let o : List (Item K N × A) = out pending e a d in
+      cc (
+        append-assoc (only (mine i) o) (stretch i (left pending e a d i)) (only (mine i) xs),
+        one pending e a d,
+        append-assoc (stretch i (pending i)) (only (mine i) ((e, a) ∷ [])) (only (mine i) xs),
+        only-append (mine i) ((e, a) ∷ []) xs,
+      )
+
   module _ (decides : A → Bool) (lines : ℕ) (order : List ℕ) (each : OrderOf lines order) (h : i < lines) where
     serial-line : (xs : List (Item K N × A)) (pending : ℕ → List (K × A))
         → only (mine i) (serial decides order pending xs) ≡ stretch i (pending i) ++ only (mine i) xs
     serial-line [] pending = rw append-nil (rests-own i pending order (each .once i h))
     serial-line (x ∷ xs) pending =
-        let o : List (Item K N × A) = out pending (x .0) (x .1) (decides (x .1)) in
         let after : ℕ → List (K × A) = left pending (x .0) (x .1) (decides (x .1)) in
         cc (
-          only-append (mine i) o (serial decides order after xs),
+          only-append (mine i) (out pending (x .0) (x .1) (decides (x .1))) (serial decides order after xs),
           serial-line xs after,
-          append-assoc (only (mine i) o) (stretch i (after i)) (only (mine i) xs),
-          one pending (x .0) (x .1) (decides (x .1)),
-          append-assoc (stretch i (pending i)) (only (mine i) (x ∷ [])) (only (mine i) xs),
-          only-append (mine i) (x ∷ []) xs,
+          shift pending (x .0) (x .1) (decides (x .1)) xs,
         )
 
     pub line-kept : (xs : List (Item K N × A)) → only (λ x. isOf i (x .0)) (serialize decides order xs) ≡ only (λ x. isOf i (x .0)) xs
@@ -90,11 +99,11 @@ module _ {K N A : Type 0} (decides : A → Bool) (pending : ℕ → List (K × A
 -- ---- the takings and the last events of the stretches, in their order: of any test that only these pass
 
 module _ {K N A : Type 0} (decides : A → Bool) (p : Item K N × A → Bool) (passes : (i : ℕ) (k : K) (a : A) → decides a ≡ false → p (event i k, a) ≡ false) where
-  stretch-passes : (i : ℕ) (xs : List (K × A)) → Undecided decides xs → only p (stretch i xs) ≡ []
+  pub stretch-passes : (i : ℕ) (xs : List (K × A)) → Undecided decides xs → only p (stretch i xs) ≡ []
   stretch-passes i [] h = refl
   stretch-passes i (x ∷ xs) h = rw (passes i (x .0) (x .1) (h .0)) (stretch-passes i xs (h .1))
 
-  rests-passes : (is : List ℕ) (pending : ℕ → List (K × A)) → ((i : ℕ) → Undecided decides (pending i)) → only p (rests pending is) ≡ []
+  pub rests-passes : (is : List ℕ) (pending : ℕ → List (K × A)) → ((i : ℕ) → Undecided decides (pending i)) → only p (rests pending is) ≡ []
   rests-passes [] pending h = refl
   rests-passes (i ∷ is) pending h = rw (only-append, stretch-passes i (pending i) (h i)) (rests-passes is pending h)
 
@@ -132,7 +141,7 @@ module _ {K N A : Type 0} (decides : A → Bool) (order : List ℕ) where
     rest = v .rest;
     proper = (h, v .proper);
     unfinished = v .unfinished;
-    told = ap (λ ys. tell b ++ ys) (v .told) ∙ sym (append-assoc (tell b) (tellAll (v .parts)) (rests (v .rest) order));
+    told = ap (λ ys. tell b ++ ys) (v .told);
   }
 
   serial-whole : (xs : List (Item K N × A)) (pending : ℕ → List (K × A)) → ((i : ℕ) → Undecided decides (pending i))

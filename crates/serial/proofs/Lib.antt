@@ -4,6 +4,7 @@ pub mod Behind
 pub mod Theorem
 pub mod Lists
 pub mod Kept
+pub mod Unique
 pub mod Orders
 pub mod Model
 pub mod Toy

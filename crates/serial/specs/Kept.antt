@@ -48,13 +48,15 @@ module _ {K N A : Type 0} where
   Proper decides (finished i xs k a) = Undecided decides xs × (decides a ≡ true)
   Proper decides (took i n a) = Unit {0}
 
+  -- its items with their answers
   abbrev pub tell : Part K N A → List (Item K N × A)
   tell (finished i xs k a) = stretch i (xs ++ ((k, a) ∷ []))
   tell (took i n a) = (taking i n, a) ∷ []
 
-  abbrev pub tellAll : List (Part K N A) → List (Item K N × A)
-  tellAll [] = []
-  tellAll (b ∷ bs) = tell b ++ tellAll bs
+  -- parts one behind the other, and zs at the end
+  abbrev pub tellAll : List (Part K N A) → List (Item K N × A) → List (Item K N × A)
+  tellAll [] zs = zs
+  tellAll (b ∷ bs) zs = tell b ++ tellAll bs zs
 
 -- a record that is told whole: stretches that stand undivided, and takings, in some order; then the lines' rests, in which nothing is decided
 pub record Whole {K N A : Type 0} (decides : A → Bool) (order : List ℕ) (zs : List (Item K N × A)) : Type 0 where
@@ -62,7 +64,7 @@ pub record Whole {K N A : Type 0} (decides : A → Bool) (order : List ℕ) (zs 
   pub rest : ℕ → List (K × A)
   pub proper : Every (Proper decides) parts
   pub unfinished : (i : ℕ) → Undecided decides (rest i)
-  pub told : zs ≡ tellAll parts ++ rests rest order
+  pub told : zs ≡ tellAll parts (rests rest order)
 
 -- zs is xs put in serial order: each line's events are those of xs, in their order; stretches are whole and rests are at the end;
 -- and the last events of the stretches and the takings follow each other as in xs.
