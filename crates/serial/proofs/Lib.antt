@@ -5,6 +5,7 @@ pub mod Theorem
 pub mod Lists
 pub mod Kept
 pub mod Unique
+pub mod Demand
 pub mod Orders
 pub mod Model
 pub mod Toy

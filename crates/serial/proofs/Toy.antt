@@ -2,7 +2,7 @@
 -- Assumes nothing.
 use mathlib.Core.Path.{_≡_, refl}
 use mathlib.Core.Bool.{Bool, true, false, cond}
-use mathlib.Core.List.{List, [], _∷_}
+use mathlib.Core.List.{List, [], _∷_, _++_}
 use Prim.Native.Nat.{ℕ}
 use native.Mathlib.Omega.{arith}
 use lib.Dec.{ltb}
@@ -51,12 +51,22 @@ pub toy-told : (order : List ℕ) → OrderOf 8 order → (es : List (Item Sign 
     → ToldAlike go start es (serialize decides order (annotate go start es))
 toy-told order each es o = model-told look pull decides Any Small fair 8 order each start es (λ i. tt, omega arith) o
 
--- lines 0 and 1 at once, a taking between their last events, and a rest on line 5
+-- lines 0 and 1 at once, a taking between their last events, and rests on lines 5 and 3
 abbrev example : List (Item Sign ℕ)
-example = event 0 (number 7) ∷ event 1 (number 8) ∷ event 0 finish ∷ taking 2 9 ∷ event 5 (number 3) ∷ event 1 (number 9) ∷ event 1 finish ∷ []
+example =
+    event 0 (number 7) ∷ event 1 (number 8) ∷ event 0 finish ∷ event 5 (number 3) ∷ taking 2 9 ∷ event 3 (number 6) ∷ event 1 (number 9) ∷ event 1 finish ∷ []
 
-example-serial : serialize decides (upTo 8) (annotate go start example)
-    ≡ ((event 0 (number 7), 2) ∷ (event 0 finish, 4) ∷ (taking 2 9, 8) ∷ (event 1 (number 8), 2) ∷ (event 1 (number 9), 2) ∷ (event 1 finish, 4)
-    ∷ (event 5 (number 3), 2) ∷ [])
+-- what is decided, and the takings
+abbrev decisions : List (Item Sign ℕ × ℕ)
+decisions =
+    (event 0 (number 7), 2) ∷ (event 0 finish, 4) ∷ (taking 2 9, 8) ∷ (event 1 (number 8), 2) ∷ (event 1 (number 9), 2) ∷ (event 1 finish, 4) ∷ []
+
+example-serial : serialize decides (upTo 8) (annotate go start example) ≡ decisions ++ ((event 3 (number 6), 2) ∷ (event 5 (number 3), 2) ∷ [])
 unfolding upd
 example-serial = refl
+
+-- the same with the rests in another order of the lines
+example-other : serialize decides (7 ∷ 5 ∷ 6 ∷ 0 ∷ 4 ∷ 3 ∷ 1 ∷ 2 ∷ []) (annotate go start example)
+    ≡ decisions ++ ((event 5 (number 3), 2) ∷ (event 3 (number 6), 2) ∷ [])
+unfolding upd
+example-other = refl
