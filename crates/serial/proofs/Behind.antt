@@ -5,7 +5,7 @@ use mathlib.Core.Path.{_≡_, refl, sym, _∙_}
 use mathlib.Core.Logic.{_≢_}
 use mathlib.Core.Bool.{Bool, true, false}
 use mathlib.Core.List.{List, [], _∷_, _++_}
-use Prim.Native.Nat.{ℕ, suc, _+_, _≤_, _<_}
+use Prim.Native.Nat.{ℕ, suc, _+_, _≤_}
 use native.Mathlib.Omega.{arith}
 use native.Mathlib.Decide.{ℕ-discrete, decLt}
 use Rattle.serial.specs.Serial.{Item, event, taking, upd, annotate, final, Every, times, OrderOf, stretch, out, left, rests, serial, serialize, Lined, Same}
@@ -14,23 +14,24 @@ use Rattle.serial.proofs.Runs.{Runs, runs-append}
 
 module _ {S P J K N A : Type 0} (lineOf : S → ℕ → P) (journalOf : S → J) (onEvent : ℕ → P → K → J → A × P × J) (onTaking : ℕ → N → J → A × J)
     (decides : A → Bool) (lines : ℕ) (step : S → Item K N → A × S) (Sound : S → Type 0) (May : Item K N → Type 0) where
-  -- the events xs of line i, all quiet, lead its private state from p to r
-  abbrev pub Lag : ℕ → P → List (K × A) → P → Type 0
+  -- the events xs of line i, all quiet, lead what it has from p to r
+  abbrev Lag : ℕ → P → List (K × A) → P → Type 0
   Lag i p [] r = p ≡ r
   Lag i p (x ∷ xs) r = (q : P) × May (event i (x .0)) × ((u : S) → Sound u → onEvent i p (x .0) (journalOf u) ≡ (x .1, q, journalOf u)) × Lag i q xs r
 
+  -- one more quiet event
   lag-snoc : (i : ℕ) (xs : List (K × A)) (p q r : P) (k : K) (a : A) → Lag i p xs q → May (event i k) → ((u : S) → Sound u → onEvent i q k (journalOf u) ≡ (a, r, journalOf u))
       → Lag i p (xs ++ ((k, a) ∷ [])) r
   lag-snoc i [] p q r k a g o h = (r, o, rw g h, refl)
   lag-snoc i (x ∷ xs) p q r k a g o h = (g .0, g .1, g .2, lag-snoc i xs (g .0) q r k a (g .3) o h)
 
   -- s lags behind t: the events that are pending are still to be done
-  pub record Behind (s : S) (pending : ℕ → List (K × A)) (t : S) : Type 0 where
-    pub journal : journalOf s ≡ journalOf t
-    pub lag : (i : ℕ) → Lag i (lineOf s i) (pending i) (lineOf t i)
-    pub none : (i : ℕ) → lines ≤ i → pending i ≡ []
+  record Behind (s : S) (pending : ℕ → List (K × A)) (t : S) : Type 0 where
+    journal : journalOf s ≡ journalOf t
+    lag : (i : ℕ) → Lag i (lineOf s i) (pending i) (lineOf t i)
+    none : (i : ℕ) → lines ≤ i → pending i ≡ []
 
-  -- t is s, but line i is at p
+  -- t is s, but line i has p
   record Moved (s : S) (i : ℕ) (p : P) (t : S) : Type 0 where
     sound : Sound t
     own : lineOf t i ≡ p
@@ -38,6 +39,7 @@ module _ {S P J K N A : Type 0} (lineOf : S → ℕ → P) (journalOf : S → J)
     journal : journalOf t ≡ journalOf s
 
   module _ (L : Lined lineOf journalOf onEvent onTaking decides lines step Sound May) where
+    -- pending events are done at last: their line comes to p, nothing else moves, and they get their answers
     flush : (i : ℕ) (xs : List (K × A)) (s : S) (p : P) → Sound s → Lag i (lineOf s i) xs p → (t : S) × Runs step s (stretch i xs) t × Moved s i p t
     flush i [] s p w g = (s, refl, record { sound = w; own = g; others = λ l n. refl; journal = refl })
     flush i (x ∷ xs) s p w g =
@@ -57,6 +59,7 @@ module _ {S P J K N A : Type 0} (lineOf : S → ℕ → P) (journalOf : S → J)
           },
         )
 
+    -- a run keeps a state sound
     pub final-sound : (es : List (Item K N)) (s : S) → Sound s → Every May es → Sound (final step s es)
     final-sound [] s w o = w
     final-sound (e ∷ es) s w o = final-sound es ((step s e) .1) (L .keeps s e w (o .0)) (o .1)
@@ -136,6 +139,7 @@ module _ {S P J K N A : Type 0} (lineOf : S → ℕ → P) (journalOf : S → J)
             },
           )
 
+      -- a taking: the journals are the same
       taken : (i : ℕ) (n : N) → May (taking i n) → Next s ((taking i n, (step t (taking i n)) .0) ∷ []) pending ((step t (taking i n)) .1)
       taken i n o = (
         (step s (taking i n)) .1,
@@ -152,8 +156,8 @@ module _ {S P J K N A : Type 0} (lineOf : S → ℕ → P) (journalOf : S → J)
       one : (e : Item K N) → May e → let a = (step t e) .0 in Next s (out pending e a (decides a)) (left pending e a (decides a)) ((step t e) .1)
       one (event i k) o = go (decides ((step t (event i k)) .0)) refl
         where
-          go : (c : Bool) → decides ((step t (event i k)) .0) ≡ c → let a = (step t (event i k)) .0 in let e : Item K N = event i k in
-              Next s (out pending e a c) (left pending e a c) ((step t (event i k)) .1)
+          go : (d : Bool) → decides ((step t (event i k)) .0) ≡ d → let a = (step t (event i k)) .0 in let e : Item K N = event i k in
+              Next s (out pending e a d) (left pending e a d) ((step t (event i k)) .1)
           go true e = cut i k o
           go false e = wait i k o e
       one (taking i n) o = taken i n o
@@ -167,7 +171,7 @@ module _ {S P J K N A : Type 0} (lineOf : S → ℕ → P) (journalOf : S → J)
           (λ l g. h .lag l)
 
       -- a run from t, told from a state that lags behind t
-      pub tells : (es : List (Item K N)) (s t : S) (pending : ℕ → List (K × A)) → Sound s → Sound t → Every May es → Behind s pending t
+      tells : (es : List (Item K N)) (s t : S) (pending : ℕ → List (K × A)) → Sound s → Sound t → Every May es → Behind s pending t
           → Reaches s (serial decides order pending (annotate step t es)) (final step t es)
       tells [] s t pending ws wt o h = last s t pending ws h
       tells (e ∷ es) s t pending ws wt o h =

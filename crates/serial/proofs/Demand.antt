@@ -1,11 +1,11 @@
 -- Demand 3 in its own words, of any machine that is `Lined`: every record that is a run's record put in serial order, the rests in whatever order of the lines,
 -- has the run's answers and its end; there is such a record; and nothing is lost in it and nothing added.
 -- Assumes nothing.
-use mathlib.Core.Path.{_≡_, sym, _∙_, ap}
+use mathlib.Core.Path.{_≡_}
 use mathlib.Core.Bool.{Bool}
 use mathlib.Core.List.{List, [], _∷_}
 use Prim.Native.Nat.{ℕ}
-use Rattle.serial.specs.Serial.{Item, event, taking, annotate, final, items, Every, ToldAlike, OrderOf, count, serialize, Lined, NothingElse}
+use Rattle.serial.specs.Serial.{Item, event, taking, annotate, items, Every, ToldAlike, OrderOf, count, serialize, Lined, NothingElse}
 use Rattle.serial.specs.Kept.{OnLine, Rearranged}
 use Rattle.serial.proofs.Runs.{items-annotate}
 use Rattle.serial.proofs.Theorem.{serial-told}

@@ -1,6 +1,6 @@
 -- The theorem of demand 3, of any machine that is `Lined`: a run and its serial form have the same answers and the same end.
 -- Assumes nothing.
-use mathlib.Core.Path.{_≡_, refl, sym, _∙_}
+use mathlib.Core.Path.{_≡_, _∙_}
 use mathlib.Core.Bool.{Bool}
 use mathlib.Core.List.{List}
 use Prim.Native.Nat.{ℕ}

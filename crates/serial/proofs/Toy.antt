@@ -8,7 +8,7 @@ use native.Mathlib.Omega.{arith}
 use lib.Dec.{ltb}
 use lib.ListN.{length, length-drop}
 use borrow.Author.Tests.{ltb-true}
-use Rattle.serial.specs.Serial.{Item, event, taking, annotate, items, Every, ToldAlike, OrderOf, upTo, serialize, upd}
+use Rattle.serial.specs.Serial.{Item, event, taking, annotate, Every, ToldAlike, OrderOf, upTo, serialize, upd}
 use Rattle.serial.specs.Kept.{OnLine}
 use Rattle.serial.specs.Model.{Look, State, onEvent, step, follow, ReachDecides, Fair}
 use Rattle.serial.specs.Toy.{Sign, number, finish, Journal, decides, look, pull, Small, start}

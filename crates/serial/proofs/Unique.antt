@@ -2,15 +2,15 @@
 -- Assumes nothing.
 use mathlib.Core.Path.{_≡_, refl, sym, _∙_, ap}
 use mathlib.Core.Logic.{_≢_}
-use mathlib.Core.Bool.{Bool, true, false, cond, true≢false}
+use mathlib.Core.Bool.{Bool, true, false, true≢false}
 use mathlib.Core.List.{List, [], _∷_, _++_, append-nil, append-assoc, map}
-use Prim.Native.Nat.{ℕ, suc, _+_, _≤_, _<_}
+use Prim.Native.Nat.{ℕ, _+_, _≤_, _<_}
 use native.Mathlib.Omega.{arith}
 use native.Mathlib.Decide.{ℕ-discrete, decLt}
 use borrow.Author.Tests.{eq-eqb, ne-eqb}
 use Rattle.serial.specs.Serial.{Item, event, taking, items, Every, times, OrderOf, upd, stretch, out, left, rests, serial, serialize}
 use Rattle.serial.specs.Kept.{only, OnLine, isEnd, Part, finished, took, Undecided, Proper, tell, tellAll, Rearranged}
-use Rattle.serial.proofs.Updates.{upd-own, upd-other, stretch-append, times-own, times-other}
+use Rattle.serial.proofs.Updates.{upd-own, upd-other, stretch-append, times-own}
 use Rattle.serial.proofs.Lists.{only-append, mine, own-stretch, other-stretch, rests-own}
 use Rattle.serial.proofs.Kept.{shift, left-undecided, stretch-passes, rests-passes}
 

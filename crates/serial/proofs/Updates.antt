@@ -8,7 +8,7 @@ use Prim.Native.Nat.{ℕ, suc}
 use native.Mathlib.Omega.{arith}
 use lib.Dec.{eqb}
 use borrow.Author.Tests.{eqb-true, eqb-false, eq-eqb, ne-eqb}
-use Rattle.serial.specs.Serial.{Item, event, upd, times, stretch}
+use Rattle.serial.specs.Serial.{event, upd, times, stretch}
 
 -- what holds of a at i, and elsewhere of f, holds of `upd f i a` everywhere
 pub upd-all : {X : Type 0} (Q : ℕ → X → Type 0) (f : ℕ → X) (i : ℕ) (a : X) → Q i a → ((l : ℕ) → l ≢ i → Q l (f l)) → (l : ℕ) → Q l (upd f i a l)

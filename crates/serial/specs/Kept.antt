@@ -1,11 +1,12 @@
 -- What it means that a record is another one put in serial order, in the demand's own words and without the definition of `serialize`.
+-- That there is one such record and no other is shown in proofs/Kept and proofs/Unique.
 -- Assumes nothing.
 use mathlib.Core.Path.{_≡_}
 use mathlib.Core.Bool.{Bool, true, false, cond}
 use mathlib.Core.List.{List, [], _∷_, _++_}
 use Prim.Native.Nat.{ℕ, _<_}
 use lib.Dec.{eqb}
-use Rattle.serial.specs.Serial.{Item, event, taking, items, Every, count, stretch, rests}
+use Rattle.serial.specs.Serial.{Item, event, taking, Every, stretch, rests}
 
 -- the members of a list that pass a test, in their order
 abbrev pub only : {X : Type 0} → (X → Bool) → List X → List X
