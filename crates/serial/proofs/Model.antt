@@ -43,7 +43,7 @@ module _ {P J K N A : Type 0} (look : ℕ → P → K → Look P J A) (onTaking 
         stays decides (look i (s .lines i) k) (s .journal) (F .reach-decides i (s .lines i) k (s .journal) (w .0 i) (w .1)) c (u .journal);
   }
 
-  nothing-else : NothingElse (λ (s : State P J). s .lines) (λ (s : State P J). s .journal) Sound
+  pub nothing-else : NothingElse (λ (s : State P J). s .lines) (λ (s : State P J). s .journal) Sound
   nothing-else s t ws wt e = λ z. record { lines = λ l. e .each l z; journal = e .journal z }
 
   pub model-told : (order : List ℕ) → OrderOf lines order → (s : State P J) (es : List (Item K N)) → Sound s → Every (OnLine lines) es
