@@ -1,0 +1,11 @@
+pub mod Updates
+pub mod Runs
+pub mod Behind
+pub mod Theorem
+pub mod Lists
+pub mod Kept
+pub mod Unique
+pub mod Demand
+pub mod Orders
+pub mod Model
+pub mod Toy

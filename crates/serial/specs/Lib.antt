@@ -1,0 +1,4 @@
+pub mod Serial
+pub mod Kept
+pub mod Model
+pub mod Toy
