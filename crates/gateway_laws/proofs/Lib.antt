@@ -3,3 +3,4 @@ pub mod Proper
 pub mod Others
 pub mod Laws
 pub mod View
+pub mod Takings

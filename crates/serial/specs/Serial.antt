@@ -3,7 +3,7 @@
 -- `serialize` cuts each line's events behind each one whose answer decides a message, and puts these stretches whole, in the order of their last events;
 -- takings stay in place among them, and the unfinished rests of the lines come at the end, in any order of the lines that is given.
 -- The theorem: of a machine that is `Lined`, that record is `ToldAlike` (proofs/Theorem), and so is every record that the demand's words allow (`Rearranged` of
--- specs/Kept; proofs/Demand). Decisions 62 to 64 settle what the demand leaves open.
+-- specs/Kept; proofs/Demand). What the demand leaves open is settled in docs/DECISIONS.md, "Runs".
 -- Assumes nothing.
 use mathlib.Core.Path.{_≡_}
 use mathlib.Core.Logic.{_≢_}
