@@ -1,26 +1,18 @@
-// The gateway run by hand: steps from the standard input, one to a line, each a letter, one hex digit and the rest; what events and takings answer, by document 01's numbers, and what they leave.
-//   = TITLE     shown; a fresh gateway, memory of the right sizes, all bytes 0
-//   # TEXT      shown
-//   B L HEX     bytes that come on line L
-//   A L N       the byte 41 N times on line L
-//   S L N       N seconds on line L; always shown
-//   T L N       a taking from line L with a buffer of N bytes
-// States that no run leaves, shown as they are:
+// The gateway run by hand: steps from the standard input, one to a line: a letter, one hex digit, the rest. Events and takings are shown with document 01's numbers and what they leave.
+//   = TITLE     a fresh gateway, memory of the right sizes, all bytes 0;   # TEXT   nothing
+//   B L HEX, A L N      bytes that come on line L; the byte 41 N times
+//   S L N, T L N        N seconds on line L; a taking from it with a buffer of N bytes
+// and for states that no run leaves:
 //   J 0 N, K 0 N, L 0 N     how many bytes of the journal, the unfinished text, the frames are lent
-//   P D N       D is added to the journal's byte N
-//   I 0 N, U L N, Z L N     the bytes in use, line L's used count, its next serial
-//   v L 0, w L 0, i L 0     line L is neutral, waiting, inside
-//   c L N, j L N, s L N     its collected, joined and second count
-//   n L N, l L N, o L 0, r L N      its next number, its last, no last, whether it refuses
+//   P D N, I 0 N            D is added to the journal's byte N; N bytes are in use
+//   U L N, Z L N            line L's used count, its next serial
+//   l L N, c, j, s, n, r    line L as an accepted frame N leaves it; its collected, joined and second count, next number, refusing
 ghost use Prim.Native.Nat.{_≤_, _<_};
 ghost use lib.ListN.{length};
 use gateway::Event;
 use gateway::Gateway;
 use gateway::Handled;
 use gateway::Kind;
-use line::Last;
-use line::Line;
-use line::State;
 
 mod showing;
 
@@ -51,13 +43,16 @@ fn answered(run: Run, line: u8, h: Handled, always: bool, j: &[u8], u: &[u8], f:
     let mut next = run;
     next.gateway = after;
     next.quiet = run.quiet % 1000000 + 1;
-    if showing::is_shown(always, answer) {
-        showing::answer(run.quiet, line, answer);
-        showing::side(b" <", before, line);
-        showing::side(b" >", after, line);
-        showing::memories(j, u, f);
-        next.quiet = 0;
+    if answer.number() == 0 {
+        if !always {
+            return next;
+        }
     }
+    next.quiet = 0;
+    showing::answer(run.quiet, line, answer);
+    showing::side(b" <", before, line);
+    showing::side(b" >", after, line);
+    showing::memories(j, u, f);
     next
 }
 
@@ -149,7 +144,8 @@ fn step(run: Run, words: &[u8], j: &mut [u8], u: &mut [u8], f: &mut [u8], out: &
     if letter == b'T' {
         return take(run, line, n, j, u, f, out);
     }
-    showing::line(words);
+    showing::show(words);
+    showing::show(b"\n");
     if letter == b'=' {
         clear(j);
         clear(u);
@@ -177,6 +173,7 @@ fn set(run: Run, letter: u8, l: usize, n: usize) -> Run {
     let mut next = run;
     let mut g = run.gateway;
     let mut ledger = g.ledger;
+    let mut r = g.lines[l];
     match letter {
         b'J' => next.journal = n,
         b'K' => next.unfinished = n,
@@ -184,41 +181,21 @@ fn set(run: Run, letter: u8, l: usize, n: usize) -> Run {
         b'I' => ledger.in_use = n,
         b'U' => ledger.used[l] = (n % 1000000) as u32,
         b'Z' => ledger.serials[l] = (n % 65536) as u16,
-        _ => (),
-    }
-    let r = record(g.lines[l], letter, n);
-    g.lines[l] = r;
-    g.ledger = ledger;
-    next.gateway = g;
-    next
-}
-
-fn record(before: Line, letter: u8, n: usize) -> Line {
-    let mut r = before;
-    let mut state = before.state;
-    let mut last = before.last;
-    match letter {
-        b'v' => state = State::Neutral,
-        b'w' => state = State::Waiting,
-        b'i' => state = State::Inside,
         b'c' => r.collected = (n % 65536) as u16,
         b'j' => r.joined = (n % 65536) as u16,
         b's' => r.seconds = (n % 256) as u8,
         b'n' => r.next = (n % 256) as u8,
-        b'l' => last = Last::Number((n % 256) as u8),
-        b'o' => last = Last::NoneYet,
         b'r' => r.refusing = 0 < n,
+        b'l' => {
+            r.next = (n % 256) as u8;
+            r = r.accepted(r.joined);
+        }
         _ => (),
     }
-    Line {
-        state,
-        collected: r.collected,
-        joined: r.joined,
-        seconds: r.seconds,
-        next: r.next,
-        last,
-        refusing: r.refusing,
-    }
+    g.lines[l] = r;
+    g.ledger = ledger;
+    next.gateway = g;
+    next
 }
 
 // The value of a hex digit, and some number for another byte.

@@ -7,25 +7,13 @@ use line::Line;
 use line::Reply;
 use line::State;
 
-fn show(s: &[u8]) {
+pub fn show(s: &[u8]) {
     io::write_all(1, s);
-}
-
-pub fn line(s: &[u8]) {
-    show(s);
-    show(b"\n");
 }
 
 fn word(n: u64) {
     show(b" ");
     io::print_decimal(1, n);
-}
-
-pub fn is_shown(always: bool, answer: Answer) -> bool {
-    if always {
-        return true;
-    }
-    0 < answer.number()
 }
 
 // How many answers 0 came since the last one shown, the line, the paper's number and reply byte, and for 8 the text's length and the serial.
@@ -103,20 +91,16 @@ pub fn buffer(s: &[u8]) {
     show(b"\n");
 }
 
-fn digest(s: &[u8]) {
-    show(b" ");
-    io::print_hex(1, remainder(s), 8);
-}
-
 // The bytes as one number behind a 1, modulo the largest prime below 2^32, so that a change of any byte shows.
-fn remainder(s: &[u8]) -> u64 {
+fn digest(s: &[u8]) {
     let mut sum: u64 = 1;
     let mut i = 0;
     while i < s.len() {
         sum = (sum * 256 + wide(s[i])) % 4294967291;
         i += 1;
     }
-    sum
+    show(b" ");
+    io::print_hex(1, sum, 8);
 }
 
 fn wide(b: u8) -> u64
