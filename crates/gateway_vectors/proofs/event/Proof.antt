@@ -1,0 +1,27 @@
+-- `event` is safe and ends: what it lends of its slices lies within them.
+-- Assumes nothing.
+use native.Mathlib.Omega.{arith}
+use lib.ListN.{length-take}
+use borrow.Author.Needs.{needs}
+use Rattle.gateway_vectors.proofs.event.Statement.{statement}
+use Rattle.gateway_vectors.proofs.event.Tie as tie
+
+pub event-spec : {M : Type 1} → statement M
+event-spec =
+    tie.close
+    (tie.spec
+    (λ c. search needs)
+    (λ c. search needs)
+    (λ c. search needs)
+    (λ c. search needs)
+    (λ c. rw length-take (omega arith))
+    (λ c. search needs)
+    (λ c. rw length-take (omega arith))
+    (λ c. search needs)
+    (λ c. rw length-take (omega arith))
+    (λ c κs. search needs)
+    (λ c κs. search needs)
+    (λ c. search needs)
+    (λ c. search needs)
+    (λ c. search needs)
+    (λ c. search needs))

@@ -1,0 +1,33 @@
+-- `digest` is safe and ends. The loop's invariant: the sum stays below its modulus.
+-- Assumes nothing.
+use Prim.Native.Nat.{_-_, _<_}
+use native.Mathlib.Omega.{arith}
+use lib.ListN.{length}
+use borrow.Author.Needs.{needs}
+use Rattle.gateway_vectors.proofs.showing.digest.Statement.{statement}
+use Rattle.gateway_vectors.proofs.showing.digest.Tie as tie
+
+abbrev Inv-loop : tie.InvT-loop
+Inv-loop s sum₀ i₀ t4 sum i = sum < 4294967291
+
+abbrev μ-loop : tie.MeasureT-loop
+μ-loop s sum₀ i₀ t4 sum i = length s - i
+
+pub digest-spec : {M : Type 1} → statement M
+digest-spec =
+    tie.close
+    (tie.spec
+    Inv-loop
+    μ-loop
+    (λ c. omega arith)
+    (λ c. omega arith)
+    (λ c. omega arith)
+    (λ c κs. tt)
+    (λ c. omega arith)
+    (λ c. omega arith)
+    (λ c. omega arith)
+    (λ c. omega arith)
+    (λ c. search needs)
+    (λ c κs. search needs)
+    (λ c κs. search needs)
+    (λ c. search needs))
