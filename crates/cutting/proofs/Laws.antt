@@ -1,8 +1,8 @@
 -- What cutting leaves of a text: its bytes, in pieces that fit a frame, each record ended by the only ETX among its pieces.
 -- Assumes nothing.
 use mathlib.Core.Path.{_≡_, refl, sym, ap, _∙_}
-use mathlib.Core.Bool.{Bool, true, false, cond, not, _&&_}
-use mathlib.Core.List.{List, [], _∷_, _++_, append-assoc}
+use mathlib.Core.Bool.{Bool, true, false, cond, _&&_}
+use mathlib.Core.List.{List, [], _∷_, _++_}
 use Prim.Native.Nat.{ℕ, suc, _+_, _-_, _*_, _≤_, _<_}
 use native.Mathlib.Omega.{arith}
 use borrow.Author.Tests.{le-leb, leb-true, leb-false, not-true}
@@ -13,10 +13,11 @@ use Rattle.memory.specs.Tests.{is, between, all}
 use Rattle.memory.proofs.Tests.{and-left, and-right, and-both}
 use Rattle.frame.specs.Control.{cr}
 use Rattle.frame.specs.Shape.{aroundText}
+use Rattle.frame.specs.declared.End.{End}
 use Rattle.frame.specs.declared.End.the-variants.{Etb, Etx}
 use Rattle.record.specs.Records.{isNotCr}
-use Rattle.cutting.specs.Pieces.{Piece, piece, onto, pieceSize, piecesFrom, piecesOf, bytesOf, every, isSized, goesOn}
-use Rattle.cutting.specs.Frames.{framesFrom, cutOf}
+use Rattle.cutting.specs.Pieces.{Piece, piece, onto, pieceSize, piecesFrom, piecesOf, bytesOf, every, isSized, isEtb, goesOn}
+use Rattle.cutting.specs.Frames.{firstNumber, cutOf}
 use Rattle.cutting.proofs.Written.{frames-long}
 
 bytes-onto : (b : ℕ) (ps : List Piece) → bytesOf (onto b ps) ≡ b ∷ bytesOf ps
@@ -41,7 +42,7 @@ pieces-bytes limit text = bytes-from (pieceSize limit) text (pieceSize limit)
 -- the output is as long as the text and 7 for each frame
 pub cut-long : (limit : ℕ) (text : List ℕ) → length (cutOf limit text) ≡ length text + aroundText * length (piecesOf limit text)
 unfolding cutOf
-cut-long limit text = frames-long 1 (piecesOf limit text) ∙ ap (λ (l : List ℕ). length l + aroundText * length (piecesOf limit text)) (pieces-bytes limit text)
+cut-long limit text = frames-long firstNumber (piecesOf limit text) ∙ ap (λ (l : List ℕ). length l + aroundText * length (piecesOf limit text)) (pieces-bytes limit text)
 
 -- the first piece has at most `room` bytes, the others `size`
 abbrev sized : ℕ → ℕ → List Piece → Bool
@@ -89,6 +90,11 @@ pub record RecordCut (ps : List Piece) (r : List ℕ) (behind : List Piece) : Ty
   pub whole : ps ≡ front ++ piece Etx last ∷ behind
   pub going : every goesOn front ≡ true
   pub bytes : bytesOf front ++ last ≡ r ++ cr ∷ []
+
+-- a piece that goes on ends with ETB
+pub ends-etb : (end : End) → isEtb end ≡ true → end ≡ Etb
+ends-etb Etb e = refl
+ends-etb Etx e = let z : _≡_ {A = ℕ} 0 1 = cc in absurd (omega arith)
 
 cut-onto : (b : ℕ) (ps : List Piece) (r : List ℕ) (behind : List Piece) → RecordCut ps r behind → RecordCut (onto b ps) (b ∷ r) behind
 cut-onto b ps r behind c = by-front (c .front) (c .whole) (c .going) (c .bytes)

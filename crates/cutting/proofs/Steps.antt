@@ -2,15 +2,13 @@
 -- Assumes nothing.
 use mathlib.Core.Path.{_≡_, refl, sym, ap, _∙_}
 use mathlib.Core.Bool.{Bool, true, false, cond}
-use mathlib.Core.List.{List, [], _∷_, _++_}
+use mathlib.Core.List.{List, [], _∷_}
 use Prim.Native.Nat.{ℕ, zero, suc, _+_, _-_, _≤_, _<_}
 use native.Mathlib.Omega.{arith}
 use borrow.Author.Tests.{lt-leb}
-use lib.Dec.{leb}
 use lib.ListN.{length, getD, take, drop, length-drop, length-take}
 use lib.Seq.{drop-drop}
 use Rattle.memory.specs.Tests.{is, find}
-use Rattle.memory.proofs.Tests.{find-le}
 use Rattle.frame.specs.Control.{cr}
 use Rattle.frame.specs.Shape.{aroundText}
 use Rattle.record.proofs.Scans.{tailAt, rest-part}

@@ -3,20 +3,20 @@
 use mathlib.Core.Path.{_≡_, refl, sym, ap, _∙_}
 use mathlib.Core.Bool.{Bool, true, false}
 use mathlib.Core.List.{List, [], _∷_, _++_, append-nil}
-use Prim.Native.Nat.{ℕ, suc, _+_, _-_, _*_, _≤_, _<_}
+use Prim.Native.Nat.{ℕ, _+_, _-_, _*_, _≤_, _<_}
 use native.Mathlib.Nat.{add-zero}
 use native.Mathlib.Omega.{arith}
 use borrow.Author.Tests.{le-leb, lt-leb, lt-ltb, le-ltb}
-use lib.ListN.{length, getD, take, drop, length-append, length-drop, drop-of-length-le, take-append-drop}
+use lib.ListN.{length, take, drop, length-append, length-drop, drop-of-length-le, take-append-drop}
 use lib.Seq.{take-all, length-take-le}
 use Rattle.memory.specs.Parts.{splice}
 use Rattle.memory.specs.Tests.{all}
-use Rattle.memory.proofs.Parts.{splice-from, splice-join, splice-nil, length-splice}
+use Rattle.memory.proofs.Parts.{splice-from, splice-join, length-splice}
 use Rattle.memory.proofs.Tests.{and-left, and-right, all-append}
 use Rattle.frame.specs.Allowed.{allowed}
 use Rattle.frame.specs.Number.{mostNumber, nextNumber}
 use Rattle.frame.specs.Shape.{aroundText}
-use Rattle.frame.specs.Writing.{frameOf, isFrame, writtenOf, frameIn, FrameWritten}
+use Rattle.frame.specs.Writing.{frameOf, frameIn, FrameWritten}
 use Rattle.frame.specs.declared.End.{End}
 use Rattle.frame.specs.declared.Written.{Written}
 use Rattle.frame.proofs.Put.{length-collected, by-text}

@@ -59,12 +59,12 @@ abbrev pub isSized : ℕ → Piece → Bool
 isSized size p = between 1 size (length (p .bytes))
 
 -- more of the piece's record follows
+abbrev pub isEtb : End → Bool
+isEtb Etb = true
+isEtb Etx = false
+
 abbrev pub goesOn : Piece → Bool
 goesOn p = isEtb (p .end)
-  where
-    isEtb : End → Bool
-    isEtb Etb = true
-    isEtb Etx = false
 
 -- the bytes through the first CR, or all where there is none
 abbrev pub throughCr : List ℕ → ℕ

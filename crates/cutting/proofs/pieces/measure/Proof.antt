@@ -14,8 +14,9 @@ use Rattle.cutting.proofs.pieces.measure.Tie as tie
 
 abbrev Inv-loop : tie.InvT-loop
 Inv-loop limit text at₀ total₀ at total =
-    (at ≤ length text) × (total ≤ 8 * at)
+    (at ≤ length text)
     × (total + (length text - at) + aroundText * length (piecesOf limit (drop at text)) ≡ length text + aroundText * length (piecesOf limit text))
+    × (total ≤ 8 * at)
 
 abbrev μ-loop : tie.MeasureT-loop
 μ-loop limit text at₀ total₀ at total = length text - at
@@ -47,14 +48,14 @@ loop-again c =
     let l = c .before .before .before .loop in
     let t = turned c in
     let one-less : length (piecesOf (a .limit) (drop (l .at) (now (a .text)))) ≡ suc (length (piecesOf (a .limit) (drop (l .at + c .piece-length .result) (now (a .text))))) = ap length (t .cut) in
-    (omega (arith, t .within), omega (arith, t .some), omega (arith, t .within, one-less))
+    (omega (arith, t .within), omega (arith, t .within, one-less), omega (arith, t .some))
 
 returns : tie.Need-returns Inv-loop μ-loop
 unfolding piecesOf
 returns c =
     let text = now (c .before .before .before .args .text) in
     let past : length text ≤ c .before .loop .at = omega arith in
-    let z = rw (drop-of-length-le text past) at (c .before .loop .inv .2) in
+    let z = rw (drop-of-length-le text past) at (c .before .loop .inv .1) in
     omega (arith, z)
 
 pub measure-spec : {M : Type 1} → statement M

@@ -1,13 +1,8 @@
 -- `cutting::pieces::through_cr` meets its contract: the scan stops at the first CR, or at the end.
 -- Assumes nothing.
-use mathlib.Core.Path.{_≡_, sym, ap, _∙_}
-use Prim.Native.Nat.{_+_, _≤_, _<_}
 use native.Mathlib.Omega.{arith}
 use borrow.Author.Needs.{needs}
 use denote.Ref.{now}
-use lib.ListN.{length}
-use Rattle.memory.specs.Tests.{is, find}
-use Rattle.frame.specs.Control.{cr}
 use Rattle.cutting.proofs.Steps.{through-found, through-none}
 use Rattle.cutting.proofs.pieces.through_cr.Statement.{statement}
 use Rattle.cutting.proofs.pieces.through_cr.Tie as tie

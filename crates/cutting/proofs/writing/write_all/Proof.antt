@@ -1,15 +1,14 @@
 -- `cutting::writing::write_all` meets its contract: what is written and what is left to write are all frames.
 -- Assumes nothing.
-use mathlib.Core.Path.{_≡_, refl, sym, ap, _∙_}
-use mathlib.Core.Bool.{true}
+use mathlib.Core.Path.{_≡_, refl, sym, _∙_}
 use Prim.Native.Nat.{_+_, _-_, _≤_}
 use native.Mathlib.Omega.{arith}
 use borrow.Author.Needs.{needs}
 use denote.Ref.{now}
-use lib.ListN.{length, take, length-drop}
+use lib.ListN.{length, length-drop}
 use Rattle.memory.specs.Parts.{splice}
-use Rattle.memory.proofs.Parts.{splice-nil, length-splice}
-use Rattle.frame.specs.Number.{mostNumber, nextNumber}
+use Rattle.memory.proofs.Parts.{splice-nil}
+use Rattle.frame.specs.Number.{mostNumber}
 use Rattle.record.proofs.Scans.{tailAt, rest-part}
 use Rattle.cutting.specs.Frames.{cutOf}
 use Rattle.cutting.proofs.Steps.{Turn, turn}
