@@ -95,8 +95,8 @@ module _ (limit : ℕ) (text : List ℕ) (at n number : ℕ) (t : Turn limit tex
       → done + length (left limit text at number) ≡ length (cutOf limit text) → splice out done (left limit text at number) ≡ splice out₀ 0 (cutOf limit text)
       → out′ ≡ splice out done (turnFrame text at n number) → next ≡ nextNumber number
       → (at + n ≤ length text) × (next ≤ mostNumber) × (length out′ ≡ length out₀)
-      × (done + (n + aroundText) + length (left limit text (at + n) next) ≡ length (cutOf limit text))
       × (splice out′ (done + (n + aroundText)) (left limit text (at + n) next) ≡ splice out₀ 0 (cutOf limit text))
+      × (done + (n + aroundText) + length (left limit text (at + n) next) ≡ length (cutOf limit text))
   written-on same room ahead whole w e =
       let long = left-long limit text at n number t in
       let size = frame-long limit text at n number t in
@@ -104,8 +104,8 @@ module _ (limit : ℕ) (text : List ℕ) (at n number : ℕ) (t : Turn limit tex
         t .within,
         next-few number,
         length-splice out done (turnFrame text at n number) (omega arith) ∙ same,
-        omega arith,
         written-turn limit text at n number t out done (omega arith) ∙ whole,
+        omega arith,
       )
 
 pub left-none : (limit : ℕ) (text : List ℕ) (at number : ℕ) → length text ≤ at → left limit text at number ≡ []

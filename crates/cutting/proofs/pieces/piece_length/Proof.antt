@@ -12,7 +12,7 @@ use Rattle.cutting.proofs.pieces.piece_length.Tie as tie
 slice-aggregate-through-cr : tie.Need-slice-aggregate-through-cr
 slice-aggregate-through-cr c =
     let a = c .before .before .before .args in
-    sym (length-take-le (pieceSize (a .limit)) (now (a .text)) (omega arith))
+    sym (length-take-le _ (now (a .text)) (omega arith))
 
 returns-2 : tie.Need-returns-2
 returns-2 c =

@@ -19,15 +19,15 @@ use Rattle.cutting.proofs.writing.write_all.Tie as tie
 abbrev Inv-loop : tie.InvT-loop
 Inv-loop limit text out₀ at₀ done₀ number₀ out at done number =
     (at ≤ length text) × (number ≤ mostNumber) × (length out ≡ length out₀)
-    × (done + length (left limit text at number) ≡ length (cutOf limit text))
     × (splice out done (left limit text at number) ≡ splice out₀ 0 (cutOf limit text))
+    × (done + length (left limit text at number) ≡ length (cutOf limit text))
 
 abbrev μ-loop : tie.MeasureT-loop
 μ-loop limit text out₀ at₀ done₀ number₀ out at done number = length text - at
 
 loop-holds : tie.Need-loop-holds Inv-loop μ-loop
 unfolding cutOf
-loop-holds c = (omega arith, omega arith, refl, omega arith, refl)
+loop-holds c = (omega arith, omega arith, refl, refl, omega arith)
 
 -- the turn of the piece that was found
 turned : (c : tie.After-piece-length Inv-loop μ-loop) → Turn (c .before .before .before .before .before .before .args .limit) (now (c .before .before .before .before .before .before .args .text)) (c .before .before .before .loop .at) (c .piece-length .result)
@@ -44,7 +44,7 @@ write-piece-requires c κs =
     let n = c .before .piece-length .result in
     let long : length (tailAt text (l .at)) ≡ length text - l .at = rw (rest-part, length-drop) in
     let ahead = left-long (s .args .limit) text (l .at) n (l .number) t in
-    (t .some, omega (arith, t .within, long), t .short, l .inv .1, turn-clean (s .args .limit) text (l .at) n (l .number) t (s .pre .1), omega (arith, ahead, l .inv .2, l .inv .3, s .pre .2))
+    (t .some, omega (arith, t .within, long), t .short, l .inv .1, turn-clean (s .args .limit) text (l .at) n (l .number) t (s .pre .1), omega (arith, ahead, l .inv .2, l .inv .4, s .pre .2))
 
 add-done : tie.Need-add-done Inv-loop μ-loop
 add-done c = let t = turned (c .before .before .before .before) in omega (arith, t .short)
@@ -55,7 +55,7 @@ add-done-2 c =
     let l = c .before .before .before .before .before .before .before .loop in
     let p = c .before .before .before .before in
     let ahead = left-long (s .args .limit) (now (s .args .text)) (l .at) (p .piece-length .result) (l .number) (turned p) in
-    omega (arith, ahead, l .inv .3, s .pre .2)
+    omega (arith, ahead, l .inv .4, s .pre .2)
 
 add-at : tie.Need-add-at Inv-loop μ-loop
 add-at c = let t = turned (c .before .before .before .before) in omega (arith, t .within)
@@ -70,7 +70,7 @@ loop-again c =
     let l = c .before .before .before .before .before .before .before .before .loop in
     let p = c .before .before .before .before .before in
     written-on (a .limit) (now (a .text)) (l .at) (p .piece-length .result) (l .number) (turned p) (l .out) (now (a .out)) (l .done)
-    (l .inv .2) (s .pre .2) (l .inv .3) (l .inv .4) (c .before .before .before .write-piece .ensures) (c .next-number .ensures)
+    (l .inv .2) (s .pre .2) (l .inv .4) (l .inv .3) (c .before .before .before .write-piece .ensures) (c .next-number .ensures)
 
 same-length : tie.Need-same-length Inv-loop μ-loop
 same-length c = c .before .loop .inv .2
@@ -80,7 +80,7 @@ returns c =
     let s = c .before .before .before .before in
     let l = c .before .loop in
     let past : length (now (s .args .text)) ≤ l .at = omega arith in
-    let z = rw (left-none (s .args .limit) (now (s .args .text)) (l .at) (l .number) past) at (l .inv .4) in
+    let z = rw (left-none (s .args .limit) (now (s .args .text)) (l .at) (l .number) past) at (l .inv .3) in
     sym (splice-nil (l .out) (l .done)) ∙ z
 
 pub write-all-spec : {M : Type 1} → statement M
