@@ -1,0 +1,4 @@
+pub mod Steps
+pub mod Written
+pub mod Laws
+pub mod OneOutcome

@@ -1,0 +1,45 @@
+-- `cutting::writing::write_piece` meets its contract: the part that was lent for the frame is back in its place.
+-- Assumes nothing.
+use mathlib.Core.Path.{_≡_, refl, sym, ap, _∙_}
+use native.Mathlib.Omega.{arith}
+use borrow.Author.Needs.{needs}
+use denote.Ref.{now}
+use lib.ListN.{length, take}
+use lib.Seq.{length-take-le}
+use Rattle.memory.specs.Parts.{splice}
+use Rattle.frame.specs.Writing.{frameOf}
+use Rattle.frame.specs.declared.End.{End}
+use Rattle.cutting.proofs.Written.{frame-back}
+use Rattle.cutting.proofs.writing.write_piece.Statement.{statement}
+use Rattle.cutting.proofs.writing.write_piece.Tie as tie
+
+slice-aggregate-write-frame : tie.Need-slice-aggregate-write-frame
+slice-aggregate-write-frame c =
+    let a = c .before .before .before .before .before .args in
+    sym (length-take-le (a .n) (now (a .text)) (c .before .before .before .before .before .pre .1))
+
+returns : tie.Need-returns
+returns c =
+    let s = c .before .before .before .before .before .before .before .before .before in
+    let a = s .args in
+    let text = take (a .n) (now (a .text)) in
+    let long : length text ≡ a .n = length-take-le (a .n) (now (a .text)) (s .pre .1) in
+    let ended = c .before .before .before .before .before .end-after in
+    frame-back (a .limit) (a .number) (ended .result) text (now (a .out)) _ _ (a .done) _ (s .pre .3) (omega (arith, s .pre .2)) (s .pre .4) (omega (arith, s .pre .5)) refl
+    (c .before .before .write-frame .ensures)
+    ∙ ap (λ (end : End). splice (now (a .out)) (a .done) (frameOf (a .number) end text)) (ended .ensures)
+
+pub write-piece-spec : {M : Type 1} → statement M
+write-piece-spec =
+    tie.close
+    (tie.spec
+    (λ c. search needs)
+    (λ c. search needs)
+    (λ c κs. search needs)
+    slice-aggregate-write-frame
+    (λ c. search needs)
+    (λ c. search needs)
+    (λ c. search needs)
+    (λ c κs. search needs)
+    (λ c. search needs)
+    returns)

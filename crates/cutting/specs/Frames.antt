@@ -1,0 +1,59 @@
+-- A message cut into frames in lent memory.
+-- Assumes nothing.
+use Prim.Native.Nat.{ℕ, _+_}
+use mathlib.Core.Path.{_≡_}
+use mathlib.Core.Bool.{Bool, cond, _&&_}
+use mathlib.Core.List.{List, [], _∷_, _++_}
+use mathlib.Core.Option.{Option, none, some}
+use lib.ListN.{length}
+use lib.Dec.{leb, ltb}
+use Rattle.memory.specs.Parts.{splice}
+use Rattle.memory.specs.Tests.{unless}
+use Rattle.frame.specs.Number.{nextNumber}
+use Rattle.frame.specs.Shape.{aroundText}
+use Rattle.frame.specs.Writing.{frameOf}
+use Rattle.record.specs.Delimiters.{standard}
+use Rattle.record.specs.Faults.{isMessage}
+use Rattle.cutting.specs.Pieces.{Piece, piecesOf}
+use Rattle.cutting.specs.declared.Framed.{Framed}
+use Rattle.cutting.specs.declared.Framed.the-variants.{Length, NoMessage, NoRoom}
+
+-- the number of a message's first frame
+abbrev pub firstNumber : ℕ
+firstNumber = 1
+
+-- a frame for each piece, the first with this number; the numbers run on over the records
+abbrev pub framesFrom : ℕ → List Piece → List ℕ
+framesFrom number [] = []
+framesFrom number (p ∷ ps) = frameOf number (p .end) (p .bytes) ++ framesFrom (nextNumber number) ps
+
+-- the frames of a text, one behind the other
+unfoldable pub cutOf : ℕ → List ℕ → List ℕ
+cutOf limit text = framesFrom firstNumber (piecesOf limit text)
+
+-- the text is a message, and the limit leaves room for a byte of it in a frame
+unfoldable pub isCuttable : ℕ → List ℕ → Bool
+isCuttable limit text = ltb aroundText limit && isMessage standard text
+
+abbrev pub holds : List ℕ → List ℕ → Bool
+holds out bs = leb (length bs) (length out)
+
+-- the length of the frames, or why there are none
+unfoldable pub cutAnswer : ℕ → List ℕ → List ℕ → Framed
+cutAnswer limit text out =
+    unless (isCuttable limit text) NoMessage (unless (holds out (cutOf limit text)) NoRoom (Length (length (cutOf limit text))))
+
+-- the memory after it: the frames over its start, and unchanged where there are none
+unfoldable pub cutIn : ℕ → List ℕ → List ℕ → List ℕ
+cutIn limit text out = cond (isCuttable limit text && holds out (cutOf limit text)) (splice out 0 (cutOf limit text)) out
+
+-- what cutting says: the answer, and the memory after it
+pub record CutInto (limit : ℕ) (text out : List ℕ) (r : Framed) (out′ : List ℕ) : Type 0 where
+  pub answer : r ≡ cutAnswer limit text out
+  pub after : out′ ≡ cutIn limit text out
+
+-- the paper's number of each refusal
+abbrev pub refusedBy : Framed → Option ℕ
+refusedBy NoMessage = some 46
+refusedBy NoRoom = some 47
+refusedBy (Length n) = none
