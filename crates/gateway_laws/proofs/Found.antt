@@ -49,7 +49,7 @@ module _ (shares : List ℕ) (l : Line) (d : Ledger) (e : Event) (j u f : List �
     refused : (a : Answer) → classOf a ≡ quiet → Found (Left a)
     worked : {v : Verdict} → Worked v → Found v
 
-  work-fits : Ready l (e .line) u f → Fitting (workOf shares l d e j u f) l
+  pub work-fits : Ready l (e .line) u f → Fitting (workOf shares l d e j u f) l
   unfolding ownWork
   work-fits r = by-look (lookOf l (e .kind) (textsOf (e .line) u) (framesOf (e .line) f)) (look-fits l _ _ (own-parts l (e .line) u f r) (e .kind))
     where

@@ -170,7 +170,7 @@ module _ (shares : List ℕ) (l : Line) (d : Ledger) (e : Event) (m : Memory) wh
         ap (λ (x : AfterStep). length (x .memory .frames)) (step-is v p) ∙ frames-length l (e .line) (m .unfinished) (m .frames) (w .ready) v (e .kind),
       )
 
-  line-within : (v : Verdict) → Within l → Fitting v l → Within (lineAfter v l)
+  pub line-within : (v : Verdict) → Within l → Fitting v l → Within (lineAfter v l)
   line-within (Left a) w t = w
   line-within Opens w t = within-facts openedLine opened-within
   line-within (Closes a) w t = within-facts freshLine fresh-within

@@ -1,0 +1,106 @@
+-- Every item keeps a state sound, and a fresh gateway is sound.
+-- Assumes nothing.
+use mathlib.Core.Path.{_≡_, refl, sym, ap, subst, _∙_}
+use mathlib.Core.Logic.{_⊎_, inl, inr}
+use mathlib.Core.Bool.{true}
+use mathlib.Core.List.{List, []}
+use Prim.Native.Nat.{ℕ, _<_}
+use native.Mathlib.Decide.{ℕ-discrete}
+use native.Mathlib.Omega.{arith}
+use lib.ListN.{length, getD, set, length-set, length-replicate, getD-replicate}
+use lib.Seq.{getD-set-other, getD-set-same}
+use Rattle.memory.specs.Sizes.{lines, journalSize, unfinishedSize, framesSize}
+use Rattle.journal.specs.Room.{todaysShares}
+use Rattle.journal.specs.Removal.{AfterTaking, takeOf as takeEntry}
+use Rattle.journal.proofs.Cases.{Gives, Keeps, take-cases}
+use Rattle.journal.proofs.Guarantees.{fresh-today}
+use Rattle.line.specs.Line.{withinLimits, freshLine}
+use Rattle.line.proofs.Limits.{within-facts, within-of, fresh-within}
+use Rattle.gateway.specs.Views.{framesOf, textsOf}
+use Rattle.gateway.specs.Looks.{lookOf}
+use Rattle.gateway.specs.Verdicts.{ownWork}
+use Rattle.gateway.specs.Settled.{lineAfter}
+use Rattle.gateway.specs.Events.{Memory, memoryOf, settle, lineAt, noRecord, AfterEvent, putBack, takeOf, freshGateway}
+use Rattle.gateway.specs.declared.Kind.{Kind}
+use Rattle.gateway.proofs.Views.{own-parts}
+use Rattle.gateway.proofs.Fits.{look-fits}
+use Rattle.gateway_laws.proofs.Laws.{line-within}
+use Rattle.gateway_laws.proofs.Others.{texts-length, frames-length}
+use Rattle.serial.specs.Serial.{Item, event, taking}
+use Rattle.promises.specs.Machine.{State, onLine, afterEvent, afterTake, step, GatewayItem, Sound, May}
+use Rattle.promises.specs.Runs.{RightSizes, fresh}
+use Rattle.promises.proofs.Sound.{work, ready, fitting, event-is}
+use Rattle.promises.proofs.Decided.{Holds, look-holds}
+
+module _ (s : State) (w : Sound s) where
+  module _ (i : ℕ) (k : Kind) (h : i < lines) where
+    -- what an event leaves
+    abbrev after : State
+    after = (afterEvent (putBack (s .gateway) i (settle (work s w i k h) (lineAt (s .gateway) i) (s .gateway .ledger) (onLine i k) (s .memory)))) .1
+
+    own-within : withinLimits (lineAfter (work s w i k h) (lineAt (s .gateway) i)) ≡ true
+    own-within =
+        within-of (lineAfter (work s w i k h) (lineAt (s .gateway) i))
+        (line-within todaysShares (lineAt (s .gateway) i) (s .gateway .ledger) (onLine i k) (s .memory) (work s w i k h) (within-facts (lineAt (s .gateway) i) (w .within i h)) (fitting s w i k h))
+
+    each-within : (l : ℕ) → l < lines → withinLimits (lineAt (after .gateway) l) ≡ true
+    each-within l m = elim (ℕ-discrete l i) [
+      | yes q ↦ rw (q, getD-set-same (s .gateway .lines) i (lineAfter (work s w i k h) (lineAt (s .gateway) i)) noRecord (omega (arith, w .as-many))) own-within
+      | no q ↦ rw (getD-set-other (s .gateway .lines) i l (lineAfter (work s w i k h) (lineAt (s .gateway) i)) noRecord q) (w .within l m)
+    ]
+
+    holds : Holds (after .gateway .ledger) (after .memory .journal)
+    unfolding ownWork
+    holds =
+        let texts = textsOf i (s .memory .unfinished) in
+        let frames = framesOf i (s .memory .frames) in
+        let l = lineAt (s .gateway) i in
+        look-holds (s .gateway .ledger) i (s .memory .journal) (w .entries) (w .held) h l texts frames (lookOf l k texts frames)
+        (look-fits l texts frames (own-parts l i (s .memory .unfinished) (s .memory .frames) (ready s w i k h)) k)
+
+    event-sound : Sound ((step s (event i k)) .1)
+    event-sound =
+        subst (λ (x : AfterEvent). Sound ((afterEvent x) .1)) (sym (event-is s w i k h))
+        (record {
+          as-many = length-set (s .gateway .lines) i (lineAfter (work s w i k h) (lineAt (s .gateway) i)) ∙ w .as-many;
+          within = each-within;
+          texts = texts-length (lineAt (s .gateway) i) i (s .memory .unfinished) (s .memory .frames) (ready s w i k h) (work s w i k h) (fitting s w i k h) ∙ w .texts;
+          frames = frames-length (lineAt (s .gateway) i) i (s .memory .unfinished) (s .memory .frames) (ready s w i k h) (work s w i k h) k ∙ w .frames;
+          entries = holds .entries;
+          held = holds .held;
+        })
+
+  -- what a taking leaves
+  abbrev taken : AfterTaking → State
+  taken x = record {
+    gateway = record { lines = s .gateway .lines; ledger = x .taking .ledger };
+    memory = memoryOf (x .journal) (s .memory .unfinished) (s .memory .frames);
+  }
+
+  module _ (i : ℕ) (b : List ℕ) where
+    taking-holds : Gives todaysShares (s .gateway .ledger) i (s .memory .journal) b (w .entries) ⊎ Keeps (s .gateway .ledger) i (s .memory .journal) b
+        → Sound (taken (takeEntry (s .gateway .ledger) i (s .memory .journal) b))
+    taking-holds (inl g) =
+        subst (λ (x : AfterTaking). Sound (taken x)) (sym (g .is)) (record { as-many = w .as-many; within = w .within; texts = w .texts; frames = w .frames; entries = _; held = g .held })
+    taking-holds (inr q) =
+        subst (λ (x : AfterTaking). Sound (taken x)) (sym (q .is))
+        (record { as-many = w .as-many; within = w .within; texts = w .texts; frames = w .frames; entries = w .entries; held = w .held })
+
+    taking-sound : Sound ((step s (taking i b)) .1)
+    unfolding takeOf
+    taking-sound = taking-holds (take-cases todaysShares (s .gateway .ledger) i (s .memory .journal) b (w .entries) (w .held))
+
+pub keeps : (s : State) (e : GatewayItem) → Sound s → May e → Sound ((step s e) .1)
+keeps s (event i k) w m = event-sound s w i k m
+keeps s (taking i b) w m = taking-sound s w i b
+
+-- a fresh gateway is sound
+pub fresh-sound : (m : Memory) → RightSizes m → Sound (fresh m)
+fresh-sound m z = record {
+  as-many = length-replicate lines freshLine;
+  within = λ i h. rw (getD-replicate lines i freshLine noRecord h) fresh-within;
+  texts = z .texts;
+  frames = z .frames;
+  entries = [];
+  held = fresh-today (m .journal) (z .journal);
+}

@@ -1,0 +1,5 @@
+pub mod Sound
+pub mod Decided
+pub mod Kept
+pub mod Runs
+pub mod Stretches

@@ -1,0 +1,79 @@
+-- The gateway's states in a run: every item keeps them sound, and is told by its line's parts and the store.
+-- Assumes nothing.
+use mathlib.Core.Path.{_≡_, refl, sym, ap, ap₂, subst, _∙_}
+use mathlib.Core.Logic.{_≢_, _⊎_, inl, inr}
+use mathlib.Core.Bool.{Bool, true, false, cond}
+use mathlib.Core.List.{List, []}
+use Prim.Native.Nat.{ℕ, _≤_, _<_}
+use native.Mathlib.Omega.{arith}
+use borrow.Author.Tests.{lt-ltb, eq-eqb}
+use lib.Dec.{ltb, eqb}
+use lib.ListN.{length, getD, set}
+use lib.Seq.{getD-set-other, getD-set-same}
+use Rattle.memory.specs.Sizes.{lines, journalSize, unfinishedSize, framesSize}
+use Rattle.journal.specs.Room.{todaysShares}
+use Rattle.journal.specs.declared.Ledger.{Ledger}
+use Rattle.line.specs.declared.Line.{Line}
+use Rattle.gateway.specs.Views.{framesOf, textsOf, Ready, Own}
+use Rattle.gateway.specs.Verdicts.{ownWork, verdictOf, answerOf}
+use Rattle.gateway.specs.Settled.{lineAfter, framesAfter, textsAfter, Fitting}
+use Rattle.gateway.specs.Events.{Memory, memoryOf, settle, stepOf, lineAt, noRecord, AfterEvent, putBack, eventOf, takeOf}
+use Rattle.gateway.specs.declared.Gateway.{Gateway}
+use Rattle.gateway.specs.declared.Kind.{Kind}
+use Rattle.gateway.specs.declared.Verdict.{Verdict}
+use Rattle.gateway.proofs.Views.{own-parts}
+use Rattle.gateway_laws.proofs.Found.{work-fits}
+use Rattle.gateway_laws.proofs.Others.{texts-other, frames-other}
+use Rattle.gateway_laws.proofs.View.{texts-own, frames-own}
+use Rattle.serial.specs.Serial.{Item, event, taking}
+use Rattle.promises.specs.Machine.{State, Told, told, onLine, afterEvent, step, Parts, partsOf, Store, storeOf, onEvent, onTaking, Sound, May}
+
+same-parts : (p q : Parts) → p .line ≡ q .line → p .texts ≡ q .texts → p .frames ≡ q .frames → p ≡ q
+same-parts p q l t f = λ z. record { line = l z; texts = t z; frames = f z }
+
+-- an event of a sound state is its work: 40 to 42 do not come
+module _ (s : State) (w : Sound s) (i : ℕ) (k : Kind) (h : i < lines) where
+  abbrev own : Line
+  own = lineAt (s .gateway) i
+
+  abbrev pub work : Verdict
+  work = ownWork todaysShares own (s .gateway .ledger) i k (s .memory .journal) (textsOf i (s .memory .unfinished)) (framesOf i (s .memory .frames))
+
+  pub ready : Ready own i (s .memory .unfinished) (s .memory .frames)
+  ready = record { line = h; within = w .within i h; texts = w .texts; bytes = w .frames }
+
+  pub fitting : Fitting work own
+  fitting = work-fits todaysShares own (s .gateway .ledger) (onLine i k) (s .memory .journal) (s .memory .unfinished) (s .memory .frames) ready
+
+  pub event-is : eventOf todaysShares (s .gateway) (onLine i k) (s .memory) ≡ putBack (s .gateway) i (settle work own (s .gateway .ledger) (onLine i k) (s .memory))
+  unfolding eventOf stepOf verdictOf
+  event-is =
+      rw (
+        lt-ltb i lines h,
+        eq-eqb (length (s .memory .journal)) journalSize (w .held .long),
+        eq-eqb (length (s .memory .unfinished)) unfinishedSize (w .texts),
+        eq-eqb (length (s .memory .frames)) framesSize (w .frames),
+        w .within i h,
+      )
+
+  pub event-answer : (step s (event i k)) .0 ≡ (onEvent i (partsOf s i) k (storeOf s)) .0
+  event-answer = ap (λ (x : AfterEvent). (afterEvent x) .0) event-is
+
+  pub event-journal : storeOf ((step s (event i k)) .1) ≡ (onEvent i (partsOf s i) k (storeOf s)) .2
+  event-journal = ap (λ (x : AfterEvent). storeOf ((afterEvent x) .1)) event-is
+
+  -- its own line has what acting leaves of its parts
+  pub event-own : partsOf ((step s (event i k)) .1) i ≡ (onEvent i (partsOf s i) k (storeOf s)) .1
+  event-own =
+      let records = getD-set-same (s .gateway .lines) i (lineAfter work own) noRecord (omega (arith, w .as-many)) in
+      let texts = texts-own own i (s .memory .unfinished) (s .memory .frames) ready work fitting in
+      let frames = frames-own own i (s .memory .unfinished) (s .memory .frames) ready work k in
+      ap (λ (x : AfterEvent). partsOf ((afterEvent x) .1) i) event-is ∙ same-parts _ _ records texts frames
+
+  -- and every other line what it had
+  pub event-others : (l : ℕ) → l ≢ i → partsOf ((step s (event i k)) .1) l ≡ partsOf s l
+  event-others l n =
+      let records = getD-set-other (s .gateway .lines) i l (lineAfter work own) noRecord n in
+      let texts = texts-other own i (s .memory .unfinished) (s .memory .frames) ready work fitting l (λ q. n (sym q)) in
+      let frames = frames-other own i (s .memory .unfinished) (s .memory .frames) ready work k l (λ q. n (sym q)) in
+      ap (λ (x : AfterEvent). partsOf ((afterEvent x) .1) l) event-is ∙ same-parts _ _ records texts frames

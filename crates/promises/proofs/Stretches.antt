@@ -1,0 +1,107 @@
+-- Demand 3, of the gateway: any mix of events on lines 0 to 7 and takings, from fresh, told stretch by stretch, has the same answers and the same final state.
+-- Assumes nothing.
+use mathlib.Core.Path.{_≡_, refl, sym, ap, _∙_}
+use mathlib.Core.Bool.{Bool, true, false, true≢false}
+use mathlib.Core.List.{List, []}
+use Prim.Native.Nat.{ℕ, _<_}
+use native.Mathlib.Omega.{arith}
+use lib.ListN.{length}
+use lib.Seq.{ext-getD}
+use Rattle.memory.specs.Sizes.{lines, messageLimit, framePart}
+use Rattle.memory.proofs.Lines.{equal-parts}
+use Rattle.journal.specs.Room.{todaysShares}
+use Rattle.gateway.specs.Views.{joinedText}
+use Rattle.gateway.specs.Looks.{lookOf}
+use Rattle.gateway.specs.Verdicts.{decided, ownWork}
+use Rattle.gateway.specs.Events.{Memory, noRecord, takeOf}
+use Rattle.gateway.specs.declared.Kind.{Kind}
+use Rattle.gateway.specs.declared.Look.{Look}
+use Rattle.gateway.specs.declared.Look.the-variants.{Done, Decides}
+use Rattle.gateway.proofs.Views.{own-parts}
+use Rattle.gateway.proofs.Fits.{LookFits, look-fits, quiet-keeps}
+use Rattle.serial.specs.Serial.{Item, event, taking, annotate, items, serialize, count, Every, OrderOf, Lined, Same, NothingElse, ToldAlike}
+use Rattle.serial.specs.Kept.{Rearranged}
+use Rattle.serial.proofs.Demand as serial
+use Rattle.promises.specs.Machine.{State, Told, GatewayItem, step, decides, Parts, partsOf, Store, storeOf, left, onEvent, onTaking, Sound, May}
+use Rattle.promises.specs.Runs.{RightSizes, fresh}
+use Rattle.promises.proofs.Sound.{ready, event-answer, event-own, event-others, event-journal}
+use Rattle.promises.proofs.Decided.{decision-decides}
+use Rattle.promises.proofs.Kept.{keeps, fresh-sound}
+
+-- an event that does not decide leaves the store, and would go the same at the store of any other sound state
+module _ (s u : State) (w : Sound s) (i : ℕ) (k : Kind) (h : i < lines) where
+  abbrev own : Parts
+  own = partsOf s i
+
+  abbrev at : Look → Store → Told × Parts × Store
+  at x j = left (decided x todaysShares (own .line) (j .ledger) i (j .journal) (own .texts) (own .frames)) i own k j
+
+  by-look : (x : Look) → LookFits x (own .line) → decides ((at x (storeOf s)) .0) ≡ false
+      → at x (storeOf u) ≡ ((at x (storeOf s)) .0, (at x (storeOf s)) .1, storeOf u)
+  by-look (Done v) y e =
+      let (ledger, journal) = quiet-keeps v (u .gateway .ledger) i (λ n. joinedText (own .line) n (own .texts) (own .frames)) (u .memory .journal) (y .1) in
+      λ z. ((at (Done v) (storeOf s)) .0, (at (Done v) (storeOf s)) .1, record { ledger = ledger z; journal = journal z })
+  by-look (Decides n) y e =
+      absurd (true≢false (sym (decision-decides (s .gateway .ledger) i (s .memory .journal) (w .entries) (w .held) h n (joinedText (own .line) n (own .texts) (own .frames))) ∙ e))
+
+  pub quiet : decides ((onEvent i own k (storeOf s)) .0) ≡ false
+      → onEvent i own k (storeOf u) ≡ ((onEvent i own k (storeOf s)) .0, (onEvent i own k (storeOf s)) .1, storeOf u)
+  unfolding ownWork
+  quiet e =
+      by-look (lookOf (own .line) k (own .texts) (own .frames))
+      (look-fits (own .line) (own .texts) (own .frames) (own-parts (own .line) i (s .memory .unfinished) (s .memory .frames) (ready s w i k h)) k) e
+
+-- a taking is told by the store alone
+taking-answer : (s : State) (i : ℕ) (b : List ℕ) → (step s (taking i b)) .0 ≡ (onTaking i b (storeOf s)) .0
+unfolding takeOf
+taking-answer s i b = refl
+
+taking-parts : (s : State) (i : ℕ) (b : List ℕ) (l : ℕ) → partsOf ((step s (taking i b)) .1) l ≡ partsOf s l
+unfolding takeOf
+taking-parts s i b l = refl
+
+taking-store : (s : State) (i : ℕ) (b : List ℕ) → storeOf ((step s (taking i b)) .1) ≡ (onTaking i b (storeOf s)) .1
+unfolding takeOf
+taking-store s i b = refl
+
+-- the gateway is a machine with lines
+pub lined : Lined partsOf storeOf onEvent onTaking decides lines step Sound May
+lined = record {
+  keeps = keeps;
+  on-line = λ i k m. m;
+  event-answer = λ s i k w m. event-answer s w i k m;
+  event-own = λ s i k w m. event-own s w i k m;
+  event-others = λ s i k w m l n. event-others s w i k m l n;
+  event-journal = λ s i k w m. event-journal s w i k m;
+  taking-answer = λ s i b w m. taking-answer s i b;
+  taking-lines = λ s i b w m l. taking-parts s i b l;
+  taking-journal = λ s i b w m. taking-store s i b;
+  quiet = λ s i k w m e u wu. quiet s u w i k m e;
+}
+
+-- records, ledger and every byte of the three memories: a sound state has nothing else
+pub nothing-else : NothingElse partsOf storeOf Sound
+nothing-else s t w v same =
+    let records = ext-getD noRecord (s .gateway .lines) (t .gateway .lines) (w .as-many ∙ sym (v .as-many)) (λ i h. ap (λ (p : Parts). p .line) (same .each i)) in
+    let texts = equal-parts messageLimit lines (s .memory .unfinished) (t .memory .unfinished) (w .texts) (v .texts) (λ i h. ap (λ (p : Parts). p .texts) (same .each i)) in
+    let frames = equal-parts framePart lines (s .memory .frames) (t .memory .frames) (w .frames) (v .frames) (λ i h. ap (λ (p : Parts). p .frames) (same .each i)) in
+    λ z. record {
+      gateway = record { lines = records z; ledger = same .journal z .ledger };
+      memory = record { journal = same .journal z .journal; unfinished = texts z; frames = frames z };
+    }
+
+-- Demand 3. Memory of the right sizes with any bytes, a fresh gateway, any events on lines 0 to 7 and any takings.
+module _ (m : Memory) (sizes : RightSizes m) (es : List GatewayItem) (may : Every May es) (order : List ℕ) (each : OrderOf lines order) where
+  abbrev run : List (GatewayItem × Told)
+  run = annotate step (fresh m) es
+
+  -- every record that the demand's words allow has the run's answers and its final state
+  pub stretches : (zs : List (GatewayItem × Told)) → Rearranged decides lines order run zs → ToldAlike step (fresh m) es zs
+  stretches = serial.demand _ _ _ _ _ _ _ _ _ lined order each (fresh m) es (fresh-sound m sizes) may nothing-else
+
+  -- there is one, and every item with its answer stands in it as often as in the run
+  pub stretches-met : Rearranged decides lines order run (serialize decides order run)
+  stretches-met = serial.demand-met _ _ _ _ _ _ _ _ _ lined order each (fresh m) es (fresh-sound m sizes) may
+
+  pub stretches-all : (zs : List (GatewayItem × Told)) → Rearranged decides lines order run zs → (p : GatewayItem × Told → Bool) → count p zs ≡ count p run
+  stretches-all = serial.nothing-lost _ _ _ _ _ _ _ _ _ lined order each (fresh m) es (fresh-sound m sizes) may

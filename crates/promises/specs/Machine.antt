@@ -1,0 +1,122 @@
+-- The gateway as a machine that runs events and takings: its state is the gateway and the three lent memories.
+-- A taking's buffer comes with it, and what the buffer holds afterwards is part of its answer.
+-- Assumes nothing.
+use Prim.Native.Nat.{ℕ, _<_}
+use mathlib.Core.Path.{_≡_}
+use mathlib.Core.Bool.{Bool, true, false}
+use mathlib.Core.List.{List, []}
+use lib.ListN.{length}
+use Rattle.memory.specs.Sizes.{lines, unfinishedSize, framesSize}
+use Rattle.journal.specs.Entries.{Entry}
+use Rattle.journal.specs.Room.{todaysShares}
+use Rattle.journal.specs.Removal.{takeOf as takeEntry}
+use Rattle.journal.specs.Held.{Held}
+use Rattle.journal.specs.declared.Ledger.{Ledger}
+use Rattle.line.specs.Line.{withinLimits}
+use Rattle.line.specs.declared.Line.{Line}
+use Rattle.line.specs.declared.Answer.{Answer}
+use Rattle.gateway.specs.Views.{framesOf, textsOf, joinedText}
+use Rattle.gateway.specs.Verdicts.{ownWork, answerOf}
+use Rattle.gateway.specs.Settled.{lineAfter, ledgerAfter, journalAfter}
+use Rattle.gateway.specs.Events.{Memory, memoryOf, AfterEvent, AfterTake, lineAt, eventOf, takeOf, tookAnswer}
+use Rattle.gateway.specs.declared.Event.{Event}
+use Rattle.gateway.specs.declared.Gateway.{Gateway}
+use Rattle.gateway.specs.declared.Kind.{Kind}
+use Rattle.gateway.specs.declared.Verdict.{Verdict}
+use Rattle.gateway_laws.specs.Classes.{Class, classOf, quiet, opening, closing, refusing, accepting, storing, against, taking as gives}
+use Rattle.gateway_laws.specs.Own.{ownFrames, ownTexts}
+use Rattle.serial.specs.Serial.{Item, event, taking}
+
+pub record State : Type 0 where
+  pub gateway : Gateway
+  pub memory : Memory
+
+-- the answer to an item, and what the buffer of a taking then holds
+pub record Told : Type 0 where
+  pub answer : Answer
+  pub buffer : List ℕ
+
+abbrev pub told : Answer → List ℕ → Told
+told a b = record { answer = a; buffer = b }
+
+-- an item: an event on a line, a byte or seconds; or a taking from a line into a buffer
+abbrev pub GatewayItem : Type 0
+GatewayItem = Item Kind (List ℕ)
+
+abbrev pub onLine : ℕ → Kind → Event
+onLine i k = record { line = i; kind = k }
+
+abbrev pub afterEvent : AfterEvent → Told × State
+afterEvent r = (told (r .handled .answer) [], record { gateway = r .handled .gateway; memory = r .memory })
+
+abbrev pub afterTake : Memory → AfterTake → Told × State
+afterTake m r = (told (r .handled .answer) (r .buffer), record { gateway = r .handled .gateway; memory = memoryOf (r .journal) (m .unfinished) (m .frames) })
+
+abbrev pub step : State → GatewayItem → Told × State
+step s (event i k) = afterEvent (eventOf todaysShares (s .gateway) (onLine i k) (s .memory))
+step s (taking i b) = afterTake (s .memory) (takeOf (s .gateway) i (s .memory .journal) b)
+
+-- 4, 30 and 31 store a message or finally refuse it
+abbrev pub isDecision : Class → Bool
+isDecision quiet = false
+isDecision opening = false
+isDecision closing = false
+isDecision refusing = false
+isDecision accepting = false
+isDecision storing = true
+isDecision against = true
+isDecision gives = false
+
+abbrev pub decides : Told → Bool
+decides t = isDecision (classOf (t .answer))
+
+-- what line i has to itself: its record and its parts of the lent memory
+pub record Parts : Type 0 where
+  pub line : Line
+  pub texts : List ℕ
+  pub frames : List ℕ
+
+abbrev pub partsOf : State → ℕ → Parts
+partsOf s i = record { line = lineAt (s .gateway) i; texts = textsOf i (s .memory .unfinished); frames = framesOf i (s .memory .frames) }
+
+-- what all lines share: the ledger and the journal
+pub record Store : Type 0 where
+  pub ledger : Ledger
+  pub journal : List ℕ
+
+abbrev pub storeOf : State → Store
+storeOf s = record { ledger = s .gateway .ledger; journal = s .memory .journal }
+
+-- an event by its line's parts and the store alone
+abbrev pub left : Verdict → ℕ → Parts → Kind → Store → Told × Parts × Store
+left v i p k j = (
+  told (answerOf v) [],
+  record { line = lineAfter v (p .line); texts = ownTexts v (p .line) (p .texts) (p .frames); frames = ownFrames v k (p .line) (p .frames) },
+  record {
+    ledger = ledgerAfter v (j .ledger) i (λ n. joinedText (p .line) n (p .texts) (p .frames));
+    journal = journalAfter v (j .ledger) i (λ n. joinedText (p .line) n (p .texts) (p .frames)) (j .journal);
+  },
+)
+
+abbrev pub onEvent : ℕ → Parts → Kind → Store → Told × Parts × Store
+onEvent i p k j = left (ownWork todaysShares (p .line) (j .ledger) i k (j .journal) (p .texts) (p .frames)) i p k j
+
+-- a taking by the store alone
+abbrev pub onTaking : ℕ → List ℕ → Store → Told × Store
+onTaking i b j =
+    let r = takeEntry (j .ledger) i (j .journal) b in
+    (told (tookAnswer (r .taking .answer)) (r .buffer), record { ledger = r .taking .ledger; journal = r .journal })
+
+-- what holds of every state of a run: eight records within their limits, memory of the right sizes, and a journal that is whole and keeps every share
+pub record Sound (s : State) : Type 0 where
+  pub as-many : length (s .gateway .lines) ≡ lines
+  pub within : (i : ℕ) → i < lines → withinLimits (lineAt (s .gateway) i) ≡ true
+  pub texts : length (s .memory .unfinished) ≡ unfinishedSize
+  pub frames : length (s .memory .frames) ≡ framesSize
+  pub entries : List Entry
+  pub held : Held todaysShares (s .gateway .ledger) (s .memory .journal) entries
+
+-- events come on lines 0 to 7; a taking may name any line
+abbrev pub May : GatewayItem → Type 0
+May (event i k) = i < lines
+May (taking i b) = Unit {0}
