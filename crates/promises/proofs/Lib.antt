@@ -2,4 +2,5 @@ pub mod Sound
 pub mod Decided
 pub mod Kept
 pub mod Runs
+pub mod Queue
 pub mod Stretches

@@ -26,7 +26,7 @@ use Rattle.gateway_laws.proofs.Found.{work-fits}
 use Rattle.gateway_laws.proofs.Others.{texts-other, frames-other}
 use Rattle.gateway_laws.proofs.View.{texts-own, frames-own}
 use Rattle.serial.specs.Serial.{Item, event, taking}
-use Rattle.promises.specs.Machine.{State, Told, told, onLine, afterEvent, step, Parts, partsOf, Store, storeOf, onEvent, onTaking, Sound, May}
+use Rattle.promises.specs.Machine.{State, Told, told, onLine, afterEvent, step, Parts, partsOf, storeOf, onEvent, onTaking, Sound, May}
 
 same-parts : (p q : Parts) → p .line ≡ q .line → p .texts ≡ q .texts → p .frames ≡ q .frames → p ≡ q
 same-parts p q l t f = λ z. record { line = l z; texts = t z; frames = f z }

@@ -10,6 +10,7 @@ use lib.Seq.{ext-getD}
 use Rattle.memory.specs.Sizes.{lines, messageLimit, framePart}
 use Rattle.memory.proofs.Lines.{equal-parts}
 use Rattle.journal.specs.Room.{todaysShares}
+use Rattle.journal.specs.Runs.{State as Store}
 use Rattle.gateway.specs.Views.{joinedText}
 use Rattle.gateway.specs.Looks.{lookOf}
 use Rattle.gateway.specs.Verdicts.{decided, ownWork}
@@ -22,7 +23,7 @@ use Rattle.gateway.proofs.Fits.{LookFits, look-fits, quiet-keeps}
 use Rattle.serial.specs.Serial.{Item, event, taking, annotate, items, serialize, count, Every, OrderOf, Lined, Same, NothingElse, ToldAlike}
 use Rattle.serial.specs.Kept.{Rearranged}
 use Rattle.serial.proofs.Demand as serial
-use Rattle.promises.specs.Machine.{State, Told, GatewayItem, step, decides, Parts, partsOf, Store, storeOf, left, onEvent, onTaking, Sound, May}
+use Rattle.promises.specs.Machine.{State, Told, GatewayItem, step, decides, Parts, partsOf, storeOf, left, onEvent, onTaking, Sound, May}
 use Rattle.promises.specs.Runs.{RightSizes, fresh}
 use Rattle.promises.proofs.Sound.{ready, event-answer, event-own, event-others, event-journal}
 use Rattle.promises.proofs.Decided.{decision-decides}

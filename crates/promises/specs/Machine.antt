@@ -11,6 +11,7 @@ use Rattle.journal.specs.Entries.{Entry}
 use Rattle.journal.specs.Room.{todaysShares}
 use Rattle.journal.specs.Removal.{takeOf as takeEntry}
 use Rattle.journal.specs.Held.{Held}
+use Rattle.journal.specs.Runs.{State as Store}
 use Rattle.journal.specs.declared.Ledger.{Ledger}
 use Rattle.line.specs.Line.{withinLimits}
 use Rattle.line.specs.declared.Line.{Line}
@@ -80,10 +81,6 @@ abbrev pub partsOf : State → ℕ → Parts
 partsOf s i = record { line = lineAt (s .gateway) i; texts = textsOf i (s .memory .unfinished); frames = framesOf i (s .memory .frames) }
 
 -- what all lines share: the ledger and the journal
-pub record Store : Type 0 where
-  pub ledger : Ledger
-  pub journal : List ℕ
-
 abbrev pub storeOf : State → Store
 storeOf s = record { ledger = s .gateway .ledger; journal = s .memory .journal }
 

@@ -1,0 +1,64 @@
+-- What goes in and comes out on one line of the gateway in a run, read off its answers and buffers.
+-- Assumes nothing.
+use Prim.Native.Nat.{ℕ, _<_}
+use mathlib.Core.Path.{_≡_}
+use mathlib.Core.Bool.{cond, _&&_}
+use mathlib.Core.List.{List, [], _∷_, _++_}
+use lib.Dec.{eqb}
+use lib.ListN.{getD, take}
+use Rattle.memory.specs.Sizes.{lines}
+use Rattle.journal.specs.Entries.{Entry}
+use Rattle.journal.specs.Room.{todaysShares}
+use Rattle.journal.specs.Held.{Held}
+use Rattle.journal.specs.Runs.{Numbered, numbered, waiting}
+use Rattle.line.specs.Paper.{valuesOf}
+use Rattle.gateway.specs.Views.{framesOf, textsOf}
+use Rattle.gateway.specs.Looks.{lookOf}
+use Rattle.gateway.specs.Events.{Memory, lineAt}
+use Rattle.gateway.specs.declared.Kind.{Kind}
+use Rattle.gateway.specs.declared.Look.{Look}
+use Rattle.gateway.specs.declared.Look.the-variants.{Done, Decides}
+use Rattle.serial.specs.Serial.{Item, event, taking, final}
+use Rattle.promises.specs.Machine.{State, Told, GatewayItem, step}
+use Rattle.promises.specs.Runs.{fresh, answered, textWith}
+
+-- the message that an event completes on its line; none where it completes none
+abbrev pub completedBy : State → ℕ → Look → List ℕ
+completedBy s i (Done v) = []
+completedBy s i (Decides n) = textWith s i n
+
+abbrev pub completed : State → ℕ → Kind → List ℕ
+completed s i k = completedBy s i (lookOf (lineAt (s .gateway) i) k (textsOf i (s .memory .unfinished)) (framesOf i (s .memory .frames)))
+
+-- what a taking gave: the values of 8 are the text's length in the buffer, and its serial
+abbrev pub gaveBy : List ℕ → List ℕ → List Numbered
+gaveBy [] buffer = []
+gaveBy (n ∷ values) buffer = record { serial = getD values 0 0; text = take n buffer } ∷ []
+
+abbrev pub gave : Told → List Numbered
+gave t = gaveBy (valuesOf (t .answer)) (t .buffer)
+
+-- the message that an item stores on line l: one that is answered 4
+abbrev pub storedOn : ℕ → State → GatewayItem → List (List ℕ)
+storedOn l s (event i k) = cond (eqb i l && eqb (answered ((step s (event i k)) .0)) 4) (completed s i k ∷ []) []
+storedOn l s (taking i b) = []
+
+-- what an item takes from line l
+abbrev pub takenOn : ℕ → State → GatewayItem → List Numbered
+takenOn l s (event i k) = []
+takenOn l s (taking i b) = cond (eqb i l) (gave ((step s (taking i b)) .0)) []
+
+-- in a whole run
+abbrev pub allStored : ℕ → State → List GatewayItem → List (List ℕ)
+allStored l s [] = []
+allStored l s (e ∷ es) = storedOn l s e ++ allStored l ((step s e) .1) es
+
+abbrev pub allTaken : ℕ → State → List GatewayItem → List Numbered
+allTaken l s [] = []
+allTaken l s (e ∷ es) = takenOn l s e ++ allTaken l ((step s e) .1) es
+
+-- what was stored on a line is what was taken from it, in order and byte for byte, and then what waits in the journal
+pub record NothingLost (m : Memory) (es : List GatewayItem) : Type 0 where
+  pub entries : List Entry
+  pub held : Held todaysShares (final step (fresh m) es .gateway .ledger) (final step (fresh m) es .memory .journal) entries
+  pub queue : (l : ℕ) → l < lines → numbered 0 (allStored l (fresh m) es) ≡ allTaken l (fresh m) es ++ waiting l entries
