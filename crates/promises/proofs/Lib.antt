@@ -4,3 +4,4 @@ pub mod Kept
 pub mod Runs
 pub mod Queue
 pub mod Stretches
+pub mod Examples

@@ -1,3 +1,4 @@
 pub mod Machine
 pub mod Runs
 pub mod Queue
+pub mod Examples

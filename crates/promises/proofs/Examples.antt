@@ -1,0 +1,26 @@
+-- The thirteen examples, by a single claim over their list.
+-- Assumes nothing.
+use mathlib.Core.Path.{_≡_, refl}
+use mathlib.Core.List.{List, map}
+use Prim.Native.Nat.{ℕ}
+use lib.ListN.{length}
+use Rattle.frame.specs.Allowed.{allowed}
+use Rattle.frame.specs.Check.{total, checkOf, hexDigit, digitsOf}
+use Rattle.frame.specs.Number.{nextNumber}
+use Rattle.frame.specs.Writing.{bodyOf, tailOf, collectedOf, frameOf}
+use Rattle.record.specs.Faults.{kindStep, recordStep, isHeader, headerStep, recordsFault, fault}
+use Rattle.record.specs.Kinds.{kindOf, typeOf, mayFollow}
+use Rattle.record.specs.Numbers.{numberOf}
+use Rattle.cutting.specs.Frames.{cutOf}
+use Rattle.cutting.specs.Pieces.{piecesOf}
+use Rattle.journal.specs.Header.{headSize}
+use Rattle.journal.specs.Room.{claims}
+use Rattle.journal.specs.Storage.{grown}
+use Rattle.promises.specs.Examples.{Example, examples}
+
+pub thirteen : length examples ≡ 13
+thirteen = refl
+
+pub shown : map (λ (x : Example). x .gives) examples ≡ map (λ (x : Example). x .says) examples
+unfolding allowed total checkOf hexDigit digitsOf nextNumber bodyOf tailOf collectedOf frameOf kindStep recordStep isHeader headerStep recordsFault fault kindOf typeOf mayFollow numberOf cutOf piecesOf headSize claims grown
+shown = refl
