@@ -38,14 +38,14 @@ module _ (number : ℕ) (end : End) (text : List ℕ) where
   abbrev digits : List ℕ
   digits = digitsOf (checkOf (bodyOf number end text)) .high ∷ digitsOf (checkOf (bodyOf number end text)) .low ∷ cr ∷ []
 
-  abbrev early : List ℕ
+  abbrev pub early : List ℕ
   early = bodyOf number end text ++ digits
 
-  spelt : collectedOf number end text ≡ early ++ (lf ∷ [])
+  pub spelt : collectedOf number end text ≡ early ++ (lf ∷ [])
   unfolding collectedOf tailOf
   spelt = sym (append-assoc (bodyOf number end text) digits (lf ∷ []))
 
-  long : length early ≡ length text + 5
+  pub long : length early ≡ length text + 5
   long = rw (length-append, length-body number end text) (omega arith)
 
   -- the bytes behind the body, counted from the end
@@ -63,7 +63,7 @@ module _ (number : ℕ) (end : End) (text : List ℕ) where
   counted : take (length early - 3) early ≡ bodyOf number end text
   counted = take-at (bodyOf number end text) digits (length early - 3) (omega (arith, long, length-body number end text))
 
-  the-text : part early 1 (length early - 5) ≡ text
+  pub the-text : part early 1 (length early - 5) ≡ text
   unfolding bodyOf part
   the-text =
       let size : length early - 5 ≡ length text = omega (arith, long) in

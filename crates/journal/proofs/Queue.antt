@@ -39,7 +39,7 @@ pub only-append : (k : ℕ) (ds es : List Entry) → only k (ds ++ es) ≡ only 
 only-append k [] es = refl
 only-append k (d ∷ ds) es = rw (only-append k ds es) (cond-append (eqb (d .line) k) d (only k ds) (only k es))
 
-texts-append : (ds es : List Entry) → texts (ds ++ es) ≡ texts ds ++ texts es
+pub texts-append : (ds es : List Entry) → texts (ds ++ es) ≡ texts ds ++ texts es
 texts-append [] es = refl
 texts-append (d ∷ ds) es = ap (λ (x : List Numbered). record { serial = d .serial; text = d .text } ∷ x) (texts-append ds es)
 
@@ -52,7 +52,7 @@ only-before : (l : ℕ) (es : List Entry) → only l (before l es) ≡ []
 only-before l [] = refl
 only-before l (e ∷ es) = none-before (eqb (e .line) l) l e (before l es) refl (only-before l es)
 
-only-from : (l : ℕ) (es : List Entry) → only l es ≡ only l (from l es)
+pub only-from : (l : ℕ) (es : List Entry) → only l es ≡ only l (from l es)
 only-from l es = ap (only l) (sym (before-from l es)) ∙ only-append l (before l es) (from l es) ∙ rw (only-before l es)
 
 module _ (l : ℕ) (es : List Entry) (e : Entry) (fs : List Entry) (is : from l es ≡ e ∷ fs) where

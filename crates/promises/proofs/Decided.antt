@@ -1,12 +1,12 @@
 -- What a complete message comes to where the journal is whole: 30, 31 or 4, and each of them decides.
 -- Assumes nothing.
 use mathlib.Core.Path.{_≡_, refl, sym, ap, subst, _∙_}
-use mathlib.Core.Bool.{Bool, true, false, cond}
+use mathlib.Core.Bool.{Bool, true, false, true≢false, cond}
 use mathlib.Core.List.{List, [], _∷_, _++_}
-use Prim.Native.Nat.{ℕ, _+_, _≤_, _<_}
+use Prim.Native.Nat.{ℕ, _≤_, _<_}
 use borrow.Author.Tests.{lt-ltb, eq-eqb, leb-true}
 use lib.Dec.{leb, eqb}
-use lib.ListN.{length, getD, getD-replicate}
+use lib.ListN.{length}
 use Rattle.memory.specs.Sizes.{lines, journalSize, messageLimit}
 use Rattle.memory.specs.Tests.{unless}
 use Rattle.memory.proofs.Tests.{and-left, and-right}
@@ -15,14 +15,13 @@ use Rattle.record.specs.Faults.{isMessage}
 use Rattle.journal.specs.Header.{entrySize}
 use Rattle.journal.specs.Entries.{Entry, isText}
 use Rattle.journal.specs.Chain.{isSome}
-use Rattle.journal.specs.Room.{share, todaysShares, fits, raised}
+use Rattle.journal.specs.Room.{todaysShares, fits, raised}
 use Rattle.journal.specs.Verdicts.{judgeOf}
 use Rattle.journal.specs.Held.{Held}
 use Rattle.journal.specs.declared.Ledger.{Ledger}
 use Rattle.journal.specs.declared.Verdict.{Verdict as Judgement}
 use Rattle.journal.specs.declared.Verdict.the-variants.{Fits, NoRoom as Full, NoText}
 use Rattle.journal.proofs.Keeps.{store-held}
-use Rattle.journal.proofs.Guarantees.{never-refused}
 use Rattle.line.specs.Paper.{numberOf}
 use Rattle.line.specs.declared.Line.{Line}
 use Rattle.line.specs.declared.Answer.the-variants.{NoMessage, NoRoom}
@@ -73,19 +72,26 @@ module _ (d : Ledger) (i : ℕ) (j : List ℕ) (es : List Entry) (h : Held today
     pub decision-decides : isDecision (classOf (answerOf (decisionOf todaysShares d i n text j))) ≡ true
     decision-decides = decision-cases (λ v. isDecision (classOf (answerOf v)) ≡ true) refl refl refl
 
-    -- within the line's own share it is not 31
-    pub within-share : getD (d .used) i 0 + entrySize (length text) ≤ share → eqb (numberOf (answerOf (decisionOf todaysShares d i n text j))) 31 ≡ false
+    -- the answer is 4 where there is room (x), else 31: another than 30 and than the one of the other case tells which it is
+    pub weighs : (x : Bool) (c : ℕ) → eqb 30 c ≡ false → eqb (cond x 31 4) c ≡ false → eqb (numberOf (answerOf (decisionOf todaysShares d i n text j))) c ≡ true
+        → fits todaysShares (raised (d .used) i (entrySize (length text))) ≡ x
     unfolding decisionOf
-    within-share room = by-message (isMessage standard text)
+    weighs x c not-30 not-other e = by-message (isMessage standard text) e
       where
-        by-length : (a : Bool) → isText (length text) ≡ a → eqb (numberOf (answerOf (roomVerdict (judgeOf d todaysShares i (length text) j) n))) 31 ≡ false
-        by-length true p =
-            rw (never-refused todaysShares d i (length text) j es h line (at-least text p) (at-most text p) (rw (getD-replicate lines i share 0 line) room))
-        by-length false p = rw (by-tests (length text), p)
+        by-room : (a b z : Bool) → fits todaysShares (raised (d .used) i (entrySize (length text))) ≡ b → eqb (cond z 31 4) c ≡ false
+            → eqb (numberOf (answerOf (roomVerdict (cond a (cond b Fits Full) NoText) n))) c ≡ true → fits todaysShares (raised (d .used) i (entrySize (length text))) ≡ z
+        by-room true true true q o e = q
+        by-room true true false q o e = absurd (true≢false (sym e ∙ o))
+        by-room true false true q o e = absurd (true≢false (sym e ∙ o))
+        by-room true false false q o e = q
+        by-room false b z q o e = absurd (true≢false (sym e ∙ not-30))
 
-        by-message : (m : Bool) → eqb (numberOf (answerOf (unless m (Against NoMessage n) (roomVerdict (judgeOf d todaysShares i (length text) j) n)))) 31 ≡ false
-        by-message true = by-length (isText (length text)) refl
-        by-message false = refl
+        by-message : (m : Bool) → eqb (numberOf (answerOf (unless m (Against NoMessage n) (roomVerdict (judgeOf d todaysShares i (length text) j) n)))) c ≡ true
+            → fits todaysShares (raised (d .used) i (entrySize (length text))) ≡ x
+        by-message true e =
+            by-room (isText (length text)) (fits todaysShares (raised (d .used) i (entrySize (length text)))) x refl not-other
+            (subst (λ (q : Judgement). eqb (numberOf (answerOf (roomVerdict q n))) c ≡ true) (by-tests (length text)) e)
+        by-message false e = absurd (true≢false (sym e ∙ not-30))
 
     -- and the journal is whole afterwards
     module _ (texts : ℕ → List ℕ) (is : texts n ≡ text) where

@@ -5,3 +5,11 @@ pub mod Runs
 pub mod Queue
 pub mod Stretches
 pub mod Examples
+pub mod Fronts
+pub mod Feeding
+pub mod Looked
+pub mod Delivered
+pub mod Walk
+pub mod Rooms
+pub mod Transfers
+pub mod InTurn

@@ -38,7 +38,6 @@ use Rattle.gateway.specs.declared.Look.the-variants.{Done, Decides}
 use Rattle.gateway.specs.declared.Verdict.{Verdict}
 use Rattle.gateway.specs.declared.Verdict.the-variants.{Against}
 use Rattle.gateway.proofs.Views.{own-parts}
-use Rattle.gateway.proofs.Cases.{Cases, every-look}
 use Rattle.gateway.proofs.Fits.{LookFits, look-fits, quiet-keeps}
 use Rattle.serial.specs.Serial.{Item, event, taking, final, Every}
 use Rattle.promises.specs.Machine.{State, Told, told, GatewayItem, step, storeOf, onEvent, partsOf, Sound, May}
@@ -46,26 +45,27 @@ use Rattle.promises.specs.Runs.{RightSizes, fresh, answered, textWith}
 use Rattle.promises.specs.Queue.{completedBy, gave, storedOn, takenOn, allStored, allTaken, NothingLost}
 use Rattle.promises.proofs.Sound.{ready, event-answer, event-journal}
 use Rattle.promises.proofs.Kept.{keeps, fresh-sound}
+use Rattle.promises.proofs.Runs.{HarmlessLook, looked}
 
 -- an operation of the journal, or none
-abbrev nextBy : Option Operation → Store → Store
+abbrev pub nextBy : Option Operation → Store → Store
 nextBy none j = j
 nextBy (some o) j = next todaysShares j o
 
-abbrev inBy : Option Operation → ℕ → Store → List (List ℕ)
+abbrev pub inBy : Option Operation → ℕ → Store → List (List ℕ)
 inBy none l j = []
 inBy (some o) l j = goesIn todaysShares l j o
 
-abbrev outBy : Option Operation → ℕ → Store → List Numbered
+abbrev pub outBy : Option Operation → ℕ → Store → List Numbered
 outBy none l j = []
 outBy (some o) l j = comesOut todaysShares l j o
 
 -- what an item does to the journal is that operation
-record Does (s : State) (e : GatewayItem) : Type 0 where
-  operation : Option Operation
-  store : storeOf ((step s e) .1) ≡ nextBy operation (storeOf s)
-  entering : (l : ℕ) → storedOn l s e ≡ inBy operation l (storeOf s)
-  leaving : (l : ℕ) → takenOn l s e ≡ outBy operation l (storeOf s)
+pub record Does (s : State) (e : GatewayItem) : Type 0 where
+  pub operation : Option Operation
+  pub store : storeOf ((step s e) .1) ≡ nextBy operation (storeOf s)
+  pub entering : (l : ℕ) → storedOn l s e ≡ inBy operation l (storeOf s)
+  pub leaving : (l : ℕ) → takenOn l s e ≡ outBy operation l (storeOf s)
 
 -- ---- takings
 
@@ -91,36 +91,6 @@ taking-does s i b = record {
 not-stored : (b : Bool) (t : List ℕ) → cond (b && false) (t ∷ []) [] ≡ []
 not-stored true t = refl
 not-stored false t = refl
-
--- no look comes to 4: a message is stored only where one is decided
-abbrev Unstored : Look → Type 0
-Unstored (Done v) = eqb (numberOf (answerOf v)) 4 ≡ false
-Unstored (Decides n) = Unit {0}
-
-unstored : (l : Line) → Cases Unstored l
-unstored l = record {
-  ignored = refl;
-  busy = refl;
-  opens = refl;
-  ended = refl;
-  dropped = refl;
-  timed-out = refl;
-  begins = refl;
-  counts = λ n h. refl;
-  collects = λ h. refl;
-  unended = refl;
-  torn = refl;
-  unchecked = refl;
-  foreign = refl;
-  unnumbered = refl;
-  refused = refl;
-  repeated = refl;
-  missed = refl;
-  overlong = refl;
-  no-cr = refl;
-  accepts = λ n t. refl;
-  decides = λ n t. tt;
-}
 
 module _ (s : State) (w : Sound s) (i : ℕ) (k : Kind) (h : i < lines) where
   abbrev own : Line
@@ -175,11 +145,11 @@ module _ (s : State) (w : Sound s) (i : ℕ) (k : Kind) (h : i < lines) where
         record { operation = some (put i text); store = room-store q; leaving = λ l. refl; entering = λ l. ap (λ (b : Bool). cond (eqb i l && b) (text ∷ []) []) (room-stored q) }
     by-message false = record { operation = none; store = refl; leaving = λ l. refl; entering = λ l. not-stored (eqb i l) text }
 
-  by-look : (x : Look) → LookFits x own → Unstored x → Comes x (decided x todaysShares own (s .gateway .ledger) i (s .memory .journal) texts frames)
+  by-look : (x : Look) → LookFits x own → HarmlessLook x → Comes x (decided x todaysShares own (s .gateway .ledger) i (s .memory .journal) texts frames)
   unfolding decisionOf
   by-look (Done v) y u =
       let (ledger, journal) = quiet-keeps v (s .gateway .ledger) i (λ n. textWith s i n) (s .memory .journal) (y .1) in
-      record { operation = none; store = λ z. record { ledger = ledger z; journal = journal z }; leaving = λ l. refl; entering = λ l. rw u (not-stored (eqb i l) []) }
+      record { operation = none; store = λ z. record { ledger = ledger z; journal = journal z }; leaving = λ l. refl; entering = λ l. rw (u .2) (not-stored (eqb i l) []) }
   by-look (Decides n) y u = by-message n (isMessage standard (textWith s i n))
 
   event-does : Does s (event i k)
@@ -187,7 +157,7 @@ module _ (s : State) (w : Sound s) (i : ℕ) (k : Kind) (h : i < lines) where
   event-does =
       let parts = own-parts own i (s .memory .unfinished) (s .memory .frames) (ready s w i k h) in
       let x = lookOf own k texts frames in
-      let c = by-look x (look-fits own texts frames parts k) (every-look Unstored own (unstored own) texts frames parts k) in
+      let c = by-look x (look-fits own texts frames parts k) (looked s w i k h) in
       record {
         operation = c .operation;
         store = event-journal s w i k h ∙ c .store;
@@ -195,18 +165,18 @@ module _ (s : State) (w : Sound s) (i : ℕ) (k : Kind) (h : i < lines) where
         leaving = c .leaving;
       }
 
-does : (s : State) (e : GatewayItem) → Sound s → May e → Does s e
+pub does : (s : State) (e : GatewayItem) → Sound s → May e → Does s e
 does s (event i k) w m = event-does s w i k m
 does s (taking i b) w m = taking-does s i b
 
 -- ---- runs
 
 -- a run of the gateway is a run of the journal
-record Runs (s : State) (es : List GatewayItem) : Type 0 where
-  operations : List Operation
-  store : storeOf (final step s es) ≡ after todaysShares (storeOf s) operations
-  entering : (l : ℕ) → allStored l s es ≡ allIn todaysShares l (storeOf s) operations
-  leaving : (l : ℕ) → allTaken l s es ≡ allOut todaysShares l (storeOf s) operations
+pub record Runs (s : State) (es : List GatewayItem) : Type 0 where
+  pub operations : List Operation
+  pub store : storeOf (final step s es) ≡ after todaysShares (storeOf s) operations
+  pub entering : (l : ℕ) → allStored l s es ≡ allIn todaysShares l (storeOf s) operations
+  pub leaving : (l : ℕ) → allTaken l s es ≡ allOut todaysShares l (storeOf s) operations
 
 runs-onto : (s : State) (e : GatewayItem) (es : List GatewayItem) (o : Option Operation) → storeOf ((step s e) .1) ≡ nextBy o (storeOf s)
     → ((l : ℕ) → storedOn l s e ≡ inBy o l (storeOf s)) → ((l : ℕ) → takenOn l s e ≡ outBy o l (storeOf s)) → Runs ((step s e) .1) es → Runs s (e ∷ es)
@@ -223,7 +193,7 @@ runs-onto s e es (some o) store entering leaving r = record {
   leaving = λ l. ap₂ _++_ (leaving l) (r .leaving l ∙ ap (λ (j : Store). allOut todaysShares l j (r .operations)) store);
 }
 
-runs : (s : State) (es : List GatewayItem) → Sound s → Every May es → Runs s es
+pub runs : (s : State) (es : List GatewayItem) → Sound s → Every May es → Runs s es
 runs s [] w o = record { operations = []; store = refl; entering = λ l. refl; leaving = λ l. refl }
 runs s (e ∷ es) w o =
     let d = does s e w (o .0) in

@@ -1,28 +1,29 @@
 -- What holds all along a run from fresh: the state is sound, 41, 42 and 43 never come, and 31 never comes within a line's own share.
 -- Assumes nothing.
 use mathlib.Core.Path.{_≡_, refl, sym, ap, _∙_}
-use mathlib.Core.Bool.{Bool, true, false, true≢false}
+use mathlib.Core.Bool.{Bool, true, false, true≢false, cond}
 use mathlib.Core.Logic.{_⊎_, inl, inr}
 use mathlib.Core.List.{List, [], _∷_}
 use Prim.Native.Nat.{ℕ, _+_, _≤_, _<_}
 use native.Mathlib.Decide.{decLe}
 use native.Mathlib.Omega.{arith}
-use borrow.Author.Tests.{eq-eqb}
+use borrow.Author.Tests.{eq-eqb, le-leb}
 use lib.Dec.{eqb}
-use lib.ListN.{length, getD}
-use Rattle.memory.specs.Sizes.{lines}
+use lib.ListN.{length, getD, getD-replicate}
+use Rattle.memory.specs.Sizes.{lines, journalSize}
 use Rattle.journal.specs.Header.{entrySize}
-use Rattle.journal.specs.Room.{share, todaysShares}
+use Rattle.journal.specs.Room.{share, todaysShares, claims, fits, raised}
 use Rattle.journal.specs.Removal.{AfterTaking, takeOf as takeEntry}
 use Rattle.journal.specs.Answers.{tookPaper}
 use Rattle.journal.specs.declared.Took.{Took}
 use Rattle.journal.specs.declared.Took.the-variants.{Taken, NothingWaiting, BufferShort, BrokenJournal, NoSuchLine, WrongSize}
 use Rattle.journal.proofs.Cases.{Gives, Keeps, take-cases}
+use Rattle.journal.proofs.Totals.{claims-own-share}
 use Rattle.line.specs.Paper.{numberOf}
 use Rattle.line.specs.declared.Line.{Line}
 use Rattle.gateway.specs.Views.{framesOf, textsOf, joinedText}
 use Rattle.gateway.specs.Looks.{lookOf}
-use Rattle.gateway.specs.Verdicts.{decided, ownWork, answerOf}
+use Rattle.gateway.specs.Verdicts.{decisionOf, decided, ownWork, answerOf}
 use Rattle.gateway.specs.Events.{Memory, lineAt, tookAnswer, takeOf}
 use Rattle.gateway.specs.declared.Kind.{Kind}
 use Rattle.gateway.specs.declared.Look.{Look}
@@ -32,43 +33,43 @@ use Rattle.gateway.proofs.Views.{own-parts}
 use Rattle.gateway.proofs.Cases.{Cases, every-look}
 use Rattle.serial.specs.Serial.{Item, event, taking, annotate, final, Every}
 use Rattle.promises.specs.Machine.{State, Told, GatewayItem, step, Sound, May}
-use Rattle.promises.specs.Runs.{RightSizes, fresh, answered, isFault, textWith, Overfull}
+use Rattle.promises.specs.Runs.{RightSizes, fresh, answered, isFault, textWith, Completes, Overfull, NoSpace, Space}
 use Rattle.promises.proofs.Sound.{work, ready, event-answer}
-use Rattle.promises.proofs.Decided.{decision-cases, within-share}
+use Rattle.promises.proofs.Decided.{decision-cases, weighs}
 use Rattle.promises.proofs.Kept.{keeps, fresh-sound}
 
 -- ---- 41, 42, 43
 
--- no look comes to 31 or to one of them
+-- no look comes to one of them, to 31 or to 4: only a message that is decided does
 abbrev Harmless : Verdict → Type 0
-Harmless v = (isFault (numberOf (answerOf v)) ≡ false) × (eqb (numberOf (answerOf v)) 31 ≡ false)
+Harmless v = (isFault (numberOf (answerOf v)) ≡ false) × (eqb (numberOf (answerOf v)) 31 ≡ false) × (eqb (numberOf (answerOf v)) 4 ≡ false)
 
-abbrev HarmlessLook : Look → Type 0
+abbrev pub HarmlessLook : Look → Type 0
 HarmlessLook (Done v) = Harmless v
 HarmlessLook (Decides n) = Unit {0}
 
 harmless : (l : Line) → Cases HarmlessLook l
 harmless l = record {
-  ignored = (refl, refl);
-  busy = (refl, refl);
-  opens = (refl, refl);
-  ended = (refl, refl);
-  dropped = (refl, refl);
-  timed-out = (refl, refl);
-  begins = (refl, refl);
-  counts = λ n h. (refl, refl);
-  collects = λ h. (refl, refl);
-  unended = (refl, refl);
-  torn = (refl, refl);
-  unchecked = (refl, refl);
-  foreign = (refl, refl);
-  unnumbered = (refl, refl);
-  refused = (refl, refl);
-  repeated = (refl, refl);
-  missed = (refl, refl);
-  overlong = (refl, refl);
-  no-cr = (refl, refl);
-  accepts = λ n t. (refl, refl);
+  ignored = (refl, refl, refl);
+  busy = (refl, refl, refl);
+  opens = (refl, refl, refl);
+  ended = (refl, refl, refl);
+  dropped = (refl, refl, refl);
+  timed-out = (refl, refl, refl);
+  begins = (refl, refl, refl);
+  counts = λ n h. (refl, refl, refl);
+  collects = λ h. (refl, refl, refl);
+  unended = (refl, refl, refl);
+  torn = (refl, refl, refl);
+  unchecked = (refl, refl, refl);
+  foreign = (refl, refl, refl);
+  unnumbered = (refl, refl, refl);
+  refused = (refl, refl, refl);
+  repeated = (refl, refl, refl);
+  missed = (refl, refl, refl);
+  overlong = (refl, refl, refl);
+  no-cr = (refl, refl, refl);
+  accepts = λ n t. (refl, refl, refl);
   decides = λ n t. tt;
 }
 
@@ -82,7 +83,7 @@ module _ (s : State) (w : Sound s) (i : ℕ) (k : Kind) (h : i < lines) where
   abbrev frames : List ℕ
   frames = framesOf i (s .memory .frames)
 
-  looked : HarmlessLook (lookOf own k texts frames)
+  pub looked : HarmlessLook (lookOf own k texts frames)
   looked = every-look HarmlessLook own (harmless own) texts frames (own-parts own i (s .memory .unfinished) (s .memory .frames) (ready s w i k h)) k
 
   no-fault : isFault (numberOf (answerOf (work s w i k h))) ≡ false
@@ -95,23 +96,53 @@ module _ (s : State) (w : Sound s) (i : ℕ) (k : Kind) (h : i < lines) where
           decision-cases (s .gateway .ledger) i (s .memory .journal) (w .entries) (w .held) h n (joinedText own n texts frames)
           (λ v. isFault (numberOf (answerOf v)) ≡ false) refl refl refl
 
-  -- ---- the own share
+  -- ---- 31 and 4
 
-  exceeds : eqb (numberOf (answerOf (work s w i k h))) 31 ≡ true → Overfull s i k
+  weighed : (x : Bool) (c : ℕ) → eqb 30 c ≡ false → eqb (cond x 31 4) c ≡ false → ((v : Verdict) → Harmless v → eqb (numberOf (answerOf v)) c ≡ false)
+      → answered ((step s (event i k)) .0) ≡ c → Completes s i k (λ n. fits todaysShares (raised (s .gateway .ledger .used) i (entrySize n)) ≡ x)
   unfolding ownWork
-  exceeds e = by-look (lookOf own k texts frames) refl looked e
+  weighed x c not-30 not-other no-look e = by-look (lookOf own k texts frames) refl looked (ap answered (sym (event-answer s w i k h)) ∙ e)
     where
-      by-look : (x : Look) → lookOf own k texts frames ≡ x → HarmlessLook x
-          → eqb (numberOf (answerOf (decided x todaysShares own (s .gateway .ledger) i (s .memory .journal) texts frames))) 31 ≡ true → Overfull s i k
-      by-look (Done v) q y e = absurd (true≢false (sym e ∙ y .1))
-      by-look (Decides n) q y e = elim (decLe (getD (s .gateway .ledger .used) i 0 + entrySize (length (joinedText own n texts frames))) share) [
-        | yes room ↦ absurd (true≢false (sym e ∙ within-share (s .gateway .ledger) i (s .memory .journal) (w .entries) (w .held) h n (joinedText own n texts frames) room))
-        | no room ↦ record { length-of = n; complete = q; over = omega arith }
-      ]
+      by-look : (y : Look) → lookOf own k texts frames ≡ y → HarmlessLook y
+          → numberOf (answerOf (decided y todaysShares own (s .gateway .ledger) i (s .memory .journal) texts frames)) ≡ c
+          → Completes s i k (λ n. fits todaysShares (raised (s .gateway .ledger .used) i (entrySize n)) ≡ x)
+      by-look (Done v) q y e = absurd (true≢false (sym (eq-eqb (numberOf (answerOf v)) c e) ∙ no-look v y))
+      by-look (Decides n) q y e =
+          let text = joinedText own n texts frames in
+          let d = s .gateway .ledger in
+          record {
+            from-frame = n;
+            complete = q;
+            such =
+                weighs d i (s .memory .journal) (w .entries) (w .held) h n text x c not-30 not-other
+                (eq-eqb (numberOf (answerOf (decisionOf todaysShares d i n text (s .memory .journal)))) c e);
+          }
 
-  -- 31 is given only to a message that does not fit in what is left of its line's own share
+  -- 31 is given only to a message for which there is no room, and 4 only to one for which there is
+  pub no-space : answered ((step s (event i k)) .0) ≡ 31 → NoSpace s i k
+  no-space e = weighed false 31 refl refl (λ v y. y .1) e
+
+  pub space : answered ((step s (event i k)) .0) ≡ 4 → Space s i k
+  space e = weighed true 4 refl refl (λ v y. y .2) e
+
+  -- there is room for all that fits in what is left of a line's own share
+  pub over-share : NoSpace s i k → Overfull s i k
+  over-share x =
+      let n = entrySize (length (textWith s i (x .from-frame))) in
+      let u = s .gateway .ledger .used in
+      record {
+        from-frame = x .from-frame;
+        complete = x .complete;
+        such = elim (decLe (getD u i 0 + n) share) [
+          | yes room ↦
+              let same = claims-own-share todaysShares u i n (w .held .lines-used) h (rw (getD-replicate lines i share 0 h) room) in
+              absurd (true≢false (sym (le-leb (claims todaysShares (raised u i n)) journalSize (rw same (w .held .claimed))) ∙ x .such))
+          | no room ↦ omega arith
+        ];
+      }
+
   pub own-share : answered ((step s (event i k)) .0) ≡ 31 → Overfull s i k
-  own-share e = exceeds (ap (λ (n : ℕ). eqb n 31) (ap answered (sym (event-answer s w i k h)) ∙ e))
+  own-share e = over-share (no-space e)
 
 -- ---- takings
 

@@ -1,4 +1,5 @@
 pub mod Machine
 pub mod Runs
 pub mod Queue
+pub mod Sending
 pub mod Examples

@@ -2,13 +2,13 @@
 -- Assumes nothing.
 use Prim.Native.Nat.{ℕ, _+_, _<_}
 use mathlib.Core.Path.{_≡_}
-use mathlib.Core.Bool.{Bool}
+use mathlib.Core.Bool.{Bool, true, false}
 use mathlib.Core.List.{List}
 use lib.ListN.{length, getD}
 use Rattle.memory.specs.Sizes.{journalSize, unfinishedSize, framesSize}
 use Rattle.memory.specs.Tests.{between}
 use Rattle.journal.specs.Header.{entrySize}
-use Rattle.journal.specs.Room.{share}
+use Rattle.journal.specs.Room.{share, todaysShares, fits, raised}
 use Rattle.line.specs.Paper.{numberOf}
 use Rattle.gateway.specs.Views.{framesOf, textsOf, joinedText}
 use Rattle.gateway.specs.Looks.{lookOf}
@@ -37,8 +37,34 @@ isFault n = between 41 43 n
 abbrev pub textWith : State → ℕ → ℕ → List ℕ
 textWith s i n = joinedText (lineAt (s .gateway) i) n (textsOf i (s .memory .unfinished)) (framesOf i (s .memory .frames))
 
--- the event completes a message on its line that, header counted, exceeds what is left of the line's own share
-pub record Overfull (s : State) (i : ℕ) (k : Kind) : Type 0 where
-  pub length-of : ℕ
-  pub complete : lookOf (lineAt (s .gateway) i) k (textsOf i (s .memory .unfinished)) (framesOf i (s .memory .frames)) ≡ Decides length-of
-  pub over : share < getD (s .gateway .ledger .used) i 0 + entrySize (length (textWith s i length-of))
+-- the event completes a message on its line, and the message's length is such a one
+pub record Completes (s : State) (i : ℕ) (k : Kind) (Such : ℕ → Type 0) : Type 0 where
+  pub from-frame : ℕ
+  pub complete : lookOf (lineAt (s .gateway) i) k (textsOf i (s .memory .unfinished)) (framesOf i (s .memory .frames)) ≡ Decides from-frame
+  pub such : Such (length (textWith s i from-frame))
+
+-- the bytes that line i uses, and would use with a text of n bytes: the header is counted
+abbrev pub usedBy : State → ℕ → ℕ
+usedBy s i = getD (s .gateway .ledger .used) i 0
+
+abbrev pub usedWith : State → ℕ → ℕ → ℕ
+usedWith s i n = usedBy s i + entrySize n
+
+-- it exceeds what is left of the line's own share
+abbrev pub Overfull : State → ℕ → Kind → Type 0
+Overfull s i k = Completes s i k (λ n. share < usedWith s i n)
+
+-- there is no room for it, and there is: with it, the lines' claims exceed the journal or do not
+abbrev pub NoSpace : State → ℕ → Kind → Type 0
+NoSpace s i k = Completes s i k (λ n. fits todaysShares (raised (s .gateway .ledger .used) i (entrySize n)) ≡ false)
+
+abbrev pub Space : State → ℕ → Kind → Type 0
+Space s i k = Completes s i k (λ n. fits todaysShares (raised (s .gateway .ledger .used) i (entrySize n)) ≡ true)
+
+-- it takes more room than a text of m bytes
+abbrev pub Larger : State → ℕ → Kind → ℕ → Type 0
+Larger s i k m = Completes s i k (λ n. entrySize m < entrySize n)
+
+-- what one line can use where the others use nothing: all but their shares
+abbrev pub mostAlone : ℕ
+mostAlone = 18432

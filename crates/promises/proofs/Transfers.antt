@@ -1,0 +1,289 @@
+-- Demand 2: messages that we cut and send on a fresh line, with room for them, are stored byte for byte, once each, in their order.
+-- Assumes nothing.
+use mathlib.Core.Path.{_≡_, refl, sym, ap, ap₂, subst, _∙_}
+use mathlib.Core.Logic.{_≢_}
+use mathlib.Core.Bool.{true}
+use mathlib.Core.List.{List, [], _∷_, _++_, map, append-assoc, append-nil}
+use Prim.Native.Nat.{ℕ, _≤_, _<_}
+use native.Mathlib.Omega.{arith}
+use lib.ListN.{length}
+use Rattle.memory.specs.Sizes.{lines, frameLimit, messageLimit}
+use Rattle.memory.proofs.Parts.{part-start}
+use Rattle.frame.specs.Number.{nextNumber}
+use Rattle.frame.specs.Writing.{frameOf}
+use Rattle.record.specs.Delimiters.{standard}
+use Rattle.record.specs.Faults.{isMessage}
+use Rattle.record.proofs.Messages.{message-some, message-short}
+use Rattle.cutting.specs.Pieces.{Piece, piecesOf}
+use Rattle.cutting.specs.Frames.{firstNumber, framesFrom, cutOf}
+use Rattle.line.specs.Line.{freshLine, openedLine}
+use Rattle.line.specs.Paper.{enq, eot}
+use Rattle.line.specs.declared.Line.{Line}
+use Rattle.line.specs.declared.Answer.the-variants.{Opened, Ended}
+use Rattle.journal.specs.Header.{entrySize}
+use Rattle.journal.specs.Entries.{Entry}
+use Rattle.journal.specs.Room.{todaysShares, fits, raised}
+use Rattle.journal.specs.Held.{Held}
+use Rattle.journal.specs.Runs.{State as Store}
+use Rattle.journal.proofs.Cases.{held-judged}
+use Rattle.gateway.specs.Views.{Own}
+use Rattle.gateway.specs.Events.{lineAt}
+use Rattle.gateway.specs.Looks.{byteLook, neutralLook, waitingLook}
+use Rattle.gateway.specs.Verdicts.{ownWork}
+use Rattle.gateway.specs.declared.Kind.{Kind}
+use Rattle.gateway.specs.declared.Kind.the-variants.{Byte}
+use Rattle.gateway.proofs.Views.{own-parts}
+use Rattle.serial.specs.Serial.{event, final, Every}
+use Rattle.promises.specs.Machine.{State, Told, told, step, Parts, partsOf, storeOf, onEvent, Sound, May}
+use Rattle.promises.specs.Sending.{bytesOn, answersTo, replies, sending, sendingReplies, piecesOfAll, transfer, repliesToAll, transferReplies, newEntries, Messages, sizesOf, HasRoom, Delivers}
+use Rattle.promises.proofs.Sound.{ready as is-ready, event-answer, event-own, event-others, event-journal}
+use Rattle.promises.proofs.Kept.{keeps}
+use Rattle.promises.proofs.Runs.{stays-sound}
+use Rattle.promises.proofs.Feeding.{feed, ready}
+use Rattle.promises.proofs.Delivered.{Open, Going}
+use Rattle.promises.proofs.Walk.{numberAfter, Delivered, walk}
+use Rattle.promises.proofs.Rooms.{room-first, room-then, storedAll, stored-append, room-before, room-after, messages-both, held-all}
+
+-- ---- bytes on one line
+
+-- they are told by the line's parts and the store, and leave the other lines
+record Fed (s : State) (i : ℕ) (bs : List ℕ) : Type 0 where
+  answers : answersTo s (bytesOn i bs) ≡ feed i (partsOf s i) (storeOf s) bs .0
+  own : partsOf (final step s (bytesOn i bs)) i ≡ feed i (partsOf s i) (storeOf s) bs .1
+  store : storeOf (final step s (bytesOn i bs)) ≡ feed i (partsOf s i) (storeOf s) bs .2
+  others : (l : ℕ) → l ≢ i → partsOf (final step s (bytesOn i bs)) l ≡ partsOf s l
+
+fed : (s : State) (i : ℕ) (bs : List ℕ) → Sound s → i < lines → Fed s i bs
+fed s i [] w h = record { answers = refl; own = refl; store = refl; others = λ l n. refl }
+fed s i (b ∷ bs) w h =
+    let k : Kind = Byte b in
+    let r = fed ((step s (event i k)) .1) i bs (keeps s (event i k) w h) h in
+    let parts = event-own s w i k h in
+    let store = event-journal s w i k h in
+    record {
+      answers = ap₂ (λ (t : Told) (ts : List Told). t ∷ ts) (event-answer s w i k h) (r .answers ∙ ap₂ (λ (p : Parts) (j : Store). feed i p j bs .0) parts store);
+      own = r .own ∙ ap₂ (λ (p : Parts) (j : Store). feed i p j bs .1) parts store;
+      store = r .store ∙ ap₂ (λ (p : Parts) (j : Store). feed i p j bs .2) parts store;
+      others = λ l n. r .others l n ∙ event-others s w i k h l n;
+    }
+
+pub bytes-may : (i : ℕ) → i < lines → (bs : List ℕ) → Every May (bytesOn i bs)
+bytes-may i h [] = tt
+bytes-may i h (b ∷ bs) = (h, bytes-may i h bs)
+
+final-append : (s : State) (i : ℕ) (bs cs : List ℕ) → final step s (bytesOn i (bs ++ cs)) ≡ final step (final step s (bytesOn i bs)) (bytesOn i cs)
+final-append s i [] cs = refl
+final-append s i (b ∷ bs) cs = final-append ((step s (event i (Byte b))) .1) i bs cs
+
+answers-append : (s : State) (i : ℕ) (bs cs : List ℕ)
+    → answersTo s (bytesOn i (bs ++ cs)) ≡ answersTo s (bytesOn i bs) ++ answersTo (final step s (bytesOn i bs)) (bytesOn i cs)
+answers-append s i [] cs = refl
+answers-append s i (b ∷ bs) cs =
+    let r = step s (event i (Byte b)) in
+    ap (λ (ts : List Told). r .0 ∷ ts) (answers-append (r .1) i bs cs)
+
+-- what bytes come to: the answers, the texts stored, and the line's record then
+record Went (s : State) (i : ℕ) (bs : List ℕ) (ts : List Told) (ms : List (List ℕ)) (Line-then : Line → Type 0) : Type 0 where
+  answers : answersTo s (bytesOn i bs) ≡ ts
+  store : storeOf (final step s (bytesOn i bs)) ≡ storedAll i ms (storeOf s)
+  others : (l : ℕ) → l ≢ i → partsOf (final step s (bytesOn i bs)) l ≡ partsOf s l
+  line : Line-then (lineAt (final step s (bytesOn i bs) .gateway) i)
+  sound : Sound (final step s (bytesOn i bs))
+
+-- and then others
+went-on : (s : State) (i : ℕ) (bs cs : List ℕ) (ts us : List Told) (ms ns : List (List ℕ)) (P Q : Line → Type 0)
+    → Went s i bs ts ms P → Went (final step s (bytesOn i bs)) i cs us ns Q → Went s i (bs ++ cs) (ts ++ us) (ms ++ ns) Q
+went-on s i bs cs ts us ms ns P Q x y =
+    let then = final-append s i bs cs in
+    record {
+      answers = answers-append s i bs cs ∙ ap₂ _++_ (x .answers) (y .answers);
+      store = ap storeOf then ∙ y .store ∙ ap (storedAll i ns) (x .store) ∙ sym (stored-append i ms ns (storeOf s));
+      others = λ l n. ap (λ (t : State). partsOf t l) then ∙ y .others l n ∙ x .others l n;
+      line = subst (λ (t : State). Q (lineAt (t .gateway) i)) (sym then) (y .line);
+      sound = subst Sound (sym then) (y .sound);
+    }
+
+-- ---- ENQ, the frames of a message, EOT
+
+opens : (i : ℕ) (texts frames : List ℕ) (j : Store)
+    → onEvent i (record { line = freshLine; texts = texts; frames = frames }) (Byte enq) j ≡ (told Opened [], record { line = openedLine; texts = texts; frames = frames }, j)
+unfolding ownWork byteLook neutralLook
+opens i texts frames j = refl
+
+closes : (i : ℕ) (l : Line) (texts frames : List ℕ) (j : Store) → l .joined ≡ 0
+    → onEvent i (ready i j l texts frames) (Byte eot) j ≡ (told Ended [], record { line = freshLine; texts = texts; frames = frames }, j)
+unfolding ownWork byteLook waitingLook
+closes i l texts frames j h = rw h
+
+-- where a line opens a transfer, it is open for frame 1
+opened-open : Open firstNumber openedLine
+opened-open = record { waits = refl; joined = refl; refusing = refl; new = refl; next = refl; low = omega arith }
+
+module _ (i : ℕ) (h : i < lines) where
+  -- one byte, by the line's parts
+  one-byte : (s : State) (b : ℕ) (t : Told) (p : Parts) (Line-then : Line → Type 0) → Sound s → onEvent i (partsOf s i) (Byte b) (storeOf s) ≡ (t, p, storeOf s) → Line-then (p .line)
+      → Went s i (b ∷ []) (t ∷ []) [] Line-then
+  one-byte s b t p Line-then w is l =
+      let f = fed s i (b ∷ []) w h in
+      record {
+        answers = f .answers ∙ ap (λ (r : Told × Parts × Store). r .0 ∷ []) is;
+        store = f .store ∙ ap (λ (r : Told × Parts × Store). r .2) is;
+        others = f .others;
+        line = subst (λ (q : Parts). Line-then (q .line)) (sym (f .own ∙ ap (λ (r : Told × Parts × Store). r .1) is)) l;
+        sound = stays-sound s (bytesOn i (b ∷ [])) w (bytes-may i h (b ∷ []));
+      }
+
+  opening : (s : State) → Sound s → lineAt (s .gateway) i ≡ freshLine → Went s i (enq ∷ []) (told Opened [] ∷ []) [] (Open firstNumber)
+  opening s w fresh =
+      let texts = partsOf s i .texts in
+      let frames = partsOf s i .frames in
+      let is = ap (λ (l : Line). onEvent i (record { line = l; texts = texts; frames = frames }) (Byte enq) (storeOf s)) fresh ∙ opens i texts frames (storeOf s) in
+      one-byte s enq (told Opened []) (record { line = openedLine; texts = texts; frames = frames }) (Open firstNumber) w is opened-open
+
+  closing : (s : State) (number : ℕ) → Sound s → Open number (lineAt (s .gateway) i) → Went s i (eot ∷ []) (told Ended [] ∷ []) [] (λ (l : Line). l ≡ freshLine)
+  closing s number w o =
+      let texts = partsOf s i .texts in
+      let frames = partsOf s i .frames in
+      let is =
+      ap (λ (l : Line). onEvent i (record { line = l; texts = texts; frames = frames }) (Byte eot) (storeOf s)) (o .waits)
+      ∙ closes i (lineAt (s .gateway) i) texts frames (storeOf s) (o .joined) in
+      one-byte s eot (told Ended []) (record { line = freshLine; texts = texts; frames = frames }) (λ (l : Line). l ≡ freshLine) w is refl
+
+  module _ (s : State) (w : Sound s) (number : ℕ) (o : Open number (lineAt (s .gateway) i)) (m : List ℕ) (message : isMessage standard m ≡ true)
+      (room : fits todaysShares (raised (s .gateway .ledger .used) i (entrySize (length m))) ≡ true) where
+    abbrev own : Line
+    own = lineAt (s .gateway) i
+
+    abbrev texts : List ℕ
+    texts = partsOf s i .texts
+
+    abbrev frames : List ℕ
+    frames = partsOf s i .frames
+
+    parts : Own own texts frames
+    parts = own-parts own i (s .memory .unfinished) (s .memory .frames) (is-ready s w i (Byte enq) h)
+
+    going : Going [] m number own texts frames
+    going = record {
+      message = message;
+      refusing = o .refusing;
+      new = o .new;
+      next = o .next;
+      low = o .low;
+      joined = o .joined;
+      texts-long = parts .texts-long;
+      frames-long = parts .frames-long;
+      held = part-start texts 0;
+    }
+
+    walked : Delivered i (storeOf s) m (piecesOf frameLimit m) (numberAfter number (piecesOf frameLimit m))
+        (feed i (partsOf s i) (storeOf s) (framesFrom number (piecesOf frameLimit m)))
+    walked =
+        let some = message-some standard m message in
+        let most = message-short standard m message in
+        let judged = sym (held-judged todaysShares (s .gateway .ledger) i m (s .memory .journal) (w .entries) (w .held) h some most true room) in
+        subst
+        (λ (l : Line). Delivered i (storeOf s) m (piecesOf frameLimit m) (numberAfter number (piecesOf frameLimit m))
+        (feed i (record { line = l; texts = texts; frames = frames }) (storeOf s) (framesFrom number (piecesOf frameLimit m))))
+        (sym (o .waits)) (walk i (storeOf s) (length m) [] m number own texts frames (omega arith) some going judged)
+
+    one-message : Went s i (framesFrom number (piecesOf frameLimit m)) (replies (piecesOf frameLimit m)) (m ∷ []) (Open (numberAfter number (piecesOf frameLimit m)))
+    one-message =
+        let f = fed s i (framesFrom number (piecesOf frameLimit m)) w h in
+        record {
+          answers = f .answers ∙ walked .answers;
+          store = f .store ∙ walked .store;
+          others = f .others;
+          line = subst (λ (p : Parts). Open (numberAfter number (piecesOf frameLimit m)) (p .line)) (sym (f .own)) (walked .line);
+          sound = stays-sound s (bytesOn i (framesFrom number (piecesOf frameLimit m))) w (bytes-may i h (framesFrom number (piecesOf frameLimit m)));
+        }
+
+  -- ---- any number of messages in one transfer
+
+  frames-append : (number : ℕ) (ps qs : List Piece) → framesFrom number (ps ++ qs) ≡ framesFrom number ps ++ framesFrom (numberAfter number ps) qs
+  frames-append number [] qs = refl
+  frames-append number (p ∷ ps) qs =
+      ap (λ (bs : List ℕ). frameOf number (p .end) (p .bytes) ++ bs) (frames-append (nextNumber number) ps qs)
+      ∙ sym (append-assoc (frameOf number (p .end) (p .bytes)) (framesFrom (nextNumber number) ps) (framesFrom (numberAfter (nextNumber number) ps) qs))
+
+  after-append : (number : ℕ) (ps qs : List Piece) → numberAfter number (ps ++ qs) ≡ numberAfter (numberAfter number ps) qs
+  after-append number [] qs = refl
+  after-append number (p ∷ ps) qs = after-append (nextNumber number) ps qs
+
+  all-messages : (ms : List (List ℕ)) (s : State) → Sound s → (number : ℕ) → Open number (lineAt (s .gateway) i) → Messages ms → HasRoom s i ms
+      → Went s i (framesFrom number (piecesOfAll ms)) (repliesToAll ms) ms (Open (numberAfter number (piecesOfAll ms)))
+  all-messages [] s w number o are room = record { answers = refl; store = refl; others = λ l n. refl; line = o; sound = w }
+  all-messages (m ∷ ms) s w number o are room =
+      let ps = piecesOf frameLimit m in
+      let first = room-first todaysShares (s .gateway .ledger .used) i (entrySize (length m)) (sizesOf ms) (w .held .lines-used) h room in
+      let one = one-message s w number o m (are .0) first in
+      let room-left =
+      ap (λ (j : Store). fits todaysShares (raised (j .ledger .used) i (sizesOf ms))) (one .store)
+      ∙ room-then i m ms (storeOf s) (w .held .lines-used) h room in
+      let rest = all-messages ms (final step s (bytesOn i (framesFrom number ps))) (one .sound) (numberAfter number ps) (one .line) (are .1) room-left in
+      let both = went-on s i (framesFrom number ps) (framesFrom (numberAfter number ps) (piecesOfAll ms)) (replies ps) (repliesToAll ms) (m ∷ []) ms _ _ one rest in
+      subst (λ (n : ℕ). Went s i (framesFrom number (ps ++ piecesOfAll ms)) (repliesToAll (m ∷ ms)) (m ∷ ms) (Open n)) (sym (after-append number ps (piecesOfAll ms)))
+      (subst (λ (bs : List ℕ). Went s i bs (repliesToAll (m ∷ ms)) (m ∷ ms) (Open (numberAfter (numberAfter number ps) (piecesOfAll ms))))
+      (sym (frames-append number ps (piecesOfAll ms))) both)
+
+  whole-transfer : (ms : List (List ℕ)) (s : State) → Sound s → lineAt (s .gateway) i ≡ freshLine → Messages ms → HasRoom s i ms
+      → Went s i (transfer ms) (transferReplies ms) ms (λ (l : Line). l ≡ freshLine)
+  whole-transfer ms s w fresh are room =
+      let a = opening s w fresh in
+      let s₁ = final step s (bytesOn i (enq ∷ [])) in
+      let room-then = ap (λ (j : Store). fits todaysShares (raised (j .ledger .used) i (sizesOf ms))) (a .store) ∙ room in
+      let b = all-messages ms s₁ (a .sound) firstNumber (a .line) are room-then in
+      let bs = framesFrom firstNumber (piecesOfAll ms) in
+      let c = closing (final step s₁ (bytesOn i bs)) (numberAfter firstNumber (piecesOfAll ms)) (b .sound) (b .line) in
+      let bc = went-on s₁ i bs (eot ∷ []) (repliesToAll ms) (told Ended [] ∷ []) ms [] _ _ b c in
+      let abc = went-on s i (enq ∷ []) (bs ++ (eot ∷ [])) (told Opened [] ∷ []) (repliesToAll ms ++ (told Ended [] ∷ [])) [] (ms ++ []) _ _ a bc in
+      subst (λ (ns : List (List ℕ)). Went s i (transfer ms) (transferReplies ms) ns (λ (l : Line). l ≡ freshLine)) (append-nil ms) abc
+
+  -- ---- the promises
+
+  delivers : (s : State) (w : Sound s) (bs : List ℕ) (ts : List Told) (ms : List (List ℕ)) (P : Line → Type 0) → Went s i bs ts ms P → Messages ms → HasRoom s i ms → Delivers s i bs ts ms (w .entries)
+  delivers s w bs ts ms P x are room = record {
+    answered = x .answers;
+    held =
+        subst (λ (j : Store). Held todaysShares (j .ledger) (j .journal) (w .entries ++ newEntries (s .gateway .ledger) i ms)) (sym (x .store))
+        (held-all i h ms (storeOf s) (w .entries) (w .held) are room);
+    others = x .others;
+  }
+
+  module _ (s : State) (w : Sound s) (fresh : lineAt (s .gateway) i ≡ freshLine) where
+    -- a message that is cut and sent to a fresh line, with room for it: 1, then 0 to each byte within a frame, 2 to each frame but the last and 4 to the last;
+    -- it is stored byte for byte, once, under the line's next serial
+    pub sent : (m : List ℕ) → isMessage standard m ≡ true → HasRoom s i (m ∷ []) → Delivers s i (sending m) (sendingReplies m) (m ∷ []) (w .entries)
+    unfolding cutOf
+    sent m message room =
+        let a = opening s w fresh in
+        let s₁ = final step s (bytesOn i (enq ∷ [])) in
+        let room-then = ap (λ (j : Store). fits todaysShares (raised (j .ledger .used) i (sizesOf (m ∷ [])))) (a .store) ∙ room in
+        let first = room-first todaysShares (s₁ .gateway .ledger .used) i (entrySize (length m)) 0 (a .sound .held .lines-used) h room-then in
+        let b = one-message s₁ (a .sound) firstNumber (a .line) m message first in
+        let ab = went-on s i (enq ∷ []) (framesFrom firstNumber (piecesOf frameLimit m)) (told Opened [] ∷ []) (replies (piecesOf frameLimit m)) [] (m ∷ []) _ _ a b in
+        delivers s w (sending m) (sendingReplies m) (m ∷ []) _ ab (message, tt) room
+
+    -- any number of messages in one transfer
+    pub transferred : (ms : List (List ℕ)) → Messages ms → HasRoom s i ms → Delivers s i (transfer ms) (transferReplies ms) ms (w .entries)
+    transferred ms are room = delivers s w (transfer ms) (transferReplies ms) ms _ (whole-transfer ms s w fresh are room) are room
+
+    -- and in two transfers, one after the other
+    pub transferred-twice : (ms ns : List (List ℕ)) → Messages ms → Messages ns → HasRoom s i (ms ++ ns)
+        → Delivers s i (transfer ms ++ transfer ns) (transferReplies ms ++ transferReplies ns) (ms ++ ns) (w .entries)
+    transferred-twice ms ns are are′ room =
+        let a = whole-transfer ms s w fresh are (room-before i ms ns (storeOf s) (w .held .lines-used) h room) in
+        let room-left =
+        ap (λ (j : Store). fits todaysShares (raised (j .ledger .used) i (sizesOf ns))) (a .store)
+        ∙ room-after i ms ns (storeOf s) (w .held .lines-used) h room in
+        let b = whole-transfer ns (final step s (bytesOn i (transfer ms))) (a .sound) (a .line) are′ room-left in
+        delivers s w (transfer ms ++ transfer ns) (transferReplies ms ++ transferReplies ns) (ms ++ ns) _
+        (went-on s i (transfer ms) (transfer ns) (transferReplies ms) (transferReplies ns) ms ns _ _ a b) (messages-both ms ns are are′) room
+
+    -- two messages, one after the other, in one transfer and in two: stored in order, once each
+    module _ (m n : List ℕ) (m-is : isMessage standard m ≡ true) (n-is : isMessage standard n ≡ true) (room : HasRoom s i (m ∷ n ∷ [])) where
+      pub in-one-transfer : Delivers s i (transfer (m ∷ n ∷ [])) (transferReplies (m ∷ n ∷ [])) (m ∷ n ∷ []) (w .entries)
+      in-one-transfer = transferred (m ∷ n ∷ []) (m-is, (n-is, tt)) room
+
+      pub in-two-transfers : Delivers s i (transfer (m ∷ []) ++ transfer (n ∷ [])) (transferReplies (m ∷ []) ++ transferReplies (n ∷ [])) (m ∷ n ∷ []) (w .entries)
+      in-two-transfers = transferred-twice (m ∷ []) (n ∷ []) (m-is, tt) (n-is, tt) room

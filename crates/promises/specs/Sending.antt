@@ -1,0 +1,92 @@
+-- Messages that are cut into frames and sent on one line: the bytes, their answers, and what is stored.
+-- Assumes nothing.
+use Prim.Native.Nat.{ℕ, _+_}
+use mathlib.Core.Path.{_≡_}
+use mathlib.Core.Logic.{_≢_}
+use mathlib.Core.Bool.{true}
+use mathlib.Core.List.{List, [], _∷_, _++_, map}
+use lib.ListN.{length, replicate}
+use Rattle.memory.specs.Sizes.{frameLimit}
+use Rattle.memory.specs.Parts.{splice}
+use Rattle.record.specs.Delimiters.{standard}
+use Rattle.record.specs.Faults.{isMessage}
+use Rattle.cutting.specs.Pieces.{Piece, piecesOf}
+use Rattle.cutting.specs.Frames.{firstNumber, framesFrom, cutOf}
+use Rattle.line.specs.Paper.{enq, eot}
+use Rattle.line.specs.declared.Answer.{Answer}
+use Rattle.line.specs.declared.Answer.the-variants.{Nothing, Opened, Accepted, Stored, Ended, Taken}
+use Rattle.journal.specs.Header.{entrySize}
+use Rattle.journal.specs.Entries.{Entry}
+use Rattle.journal.specs.Room.{todaysShares, fits, raised}
+use Rattle.journal.specs.Storage.{newEntry, grown}
+use Rattle.journal.specs.Held.{Held}
+use Rattle.journal.specs.declared.Ledger.{Ledger}
+use Rattle.gateway.specs.declared.Kind.the-variants.{Byte}
+use Rattle.serial.specs.Serial.{event, taking, annotate, final, Every}
+use Rattle.promises.specs.Machine.{State, Told, told, GatewayItem, step, partsOf}
+
+-- bytes that come on line i, one behind the other, and the answers to a run
+abbrev pub bytesOn : ℕ → List ℕ → List GatewayItem
+bytesOn i bs = map (λ (b : ℕ). event i (Byte b)) bs
+
+abbrev pub answersTo : State → List GatewayItem → List Told
+answersTo s es = map (λ (x : GatewayItem × Told). x .1) (annotate step s es)
+
+-- 0 to each byte of a frame but its last; to that 2, and 4 where no frame of the message follows
+abbrev pub lastAnswer : List Piece → Answer
+lastAnswer [] = Stored
+lastAnswer (p ∷ ps) = Accepted
+
+abbrev pub replies : List Piece → List Told
+replies [] = []
+replies (p ∷ ps) = replicate (length (p .bytes) + 6) (told Nothing []) ++ (told (lastAnswer ps) [] ∷ replies ps)
+
+-- one message: ENQ, and its frames as we cut them
+abbrev pub sending : List ℕ → List ℕ
+sending m = enq ∷ cutOf frameLimit m
+
+abbrev pub sendingReplies : List ℕ → List Told
+sendingReplies m = told Opened [] ∷ replies (piecesOf frameLimit m)
+
+-- a transfer of several: ENQ, the frames of each message behind those of the one before it with the numbers running on, EOT
+abbrev pub piecesOfAll : List (List ℕ) → List Piece
+piecesOfAll [] = []
+piecesOfAll (m ∷ ms) = piecesOf frameLimit m ++ piecesOfAll ms
+
+abbrev pub transfer : List (List ℕ) → List ℕ
+transfer ms = enq ∷ (framesFrom firstNumber (piecesOfAll ms) ++ (eot ∷ []))
+
+abbrev pub repliesToAll : List (List ℕ) → List Told
+repliesToAll [] = []
+repliesToAll (m ∷ ms) = replies (piecesOf frameLimit m) ++ repliesToAll ms
+
+abbrev pub transferReplies : List (List ℕ) → List Told
+transferReplies ms = told Opened [] ∷ (repliesToAll ms ++ (told Ended [] ∷ []))
+
+-- the entries that texts become on line i, one behind the other
+abbrev pub newEntries : Ledger → ℕ → List (List ℕ) → List Entry
+newEntries d i [] = []
+newEntries d i (m ∷ ms) = newEntry d i m ∷ newEntries (grown d i (length m)) i ms
+
+-- messages, and room for them all on line i, headers counted
+abbrev pub Messages : List (List ℕ) → Type 0
+Messages ms = Every (λ (m : List ℕ). isMessage standard m ≡ true) ms
+
+abbrev pub sizesOf : List (List ℕ) → ℕ
+sizesOf [] = 0
+sizesOf (m ∷ ms) = entrySize (length m) + sizesOf ms
+
+abbrev pub HasRoom : State → ℕ → List (List ℕ) → Type 0
+HasRoom s i ms = fits todaysShares (raised (s .gateway .ledger .used) i (sizesOf ms)) ≡ true
+
+-- the bytes bs on line i, from a state whose journal holds the entries es, get these answers; the journal then holds es and, behind them, one entry for each of
+-- the texts ms; and every other line has what it had
+pub record Delivers (s : State) (i : ℕ) (bs : List ℕ) (answers : List Told) (ms : List (List ℕ)) (es : List Entry) : Type 0 where
+  pub answered : answersTo s (bytesOn i bs) ≡ answers
+  pub held : Held todaysShares (final step s (bytesOn i bs) .gateway .ledger) (final step s (bytesOn i bs) .memory .journal) (es ++ newEntries (s .gateway .ledger) i ms)
+  pub others : (l : ℕ) → l ≢ i → partsOf (final step s (bytesOn i bs)) l ≡ partsOf s l
+
+-- a taking from line i into the buffer b gives the text m with this serial: both its length and the serial are answered, it stands at the start of the buffer,
+-- and the buffer's rest stays
+abbrev pub GivesBack : State → ℕ → List ℕ → ℕ → List ℕ → Type 0
+GivesBack s i b serial m = (step s (taking i b)) .0 ≡ told (Taken (length m) serial) (splice b 0 m)
