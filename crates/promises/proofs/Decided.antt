@@ -1,8 +1,8 @@
 -- What a complete message comes to where the journal is whole: 30, 31 or 4, and each of them decides.
 -- Assumes nothing.
-use mathlib.Core.Path.{_≡_, refl, sym, ap, subst, _∙_}
+use mathlib.Core.Path.{_≡_, refl, sym, subst, _∙_}
 use mathlib.Core.Bool.{Bool, true, false, true≢false, cond}
-use mathlib.Core.List.{List, [], _∷_, _++_}
+use mathlib.Core.List.{List}
 use Prim.Native.Nat.{ℕ, _≤_, _<_}
 use borrow.Author.Tests.{lt-ltb, eq-eqb, leb-true}
 use lib.Dec.{leb, eqb}
@@ -14,7 +14,6 @@ use Rattle.record.specs.Delimiters.{standard}
 use Rattle.record.specs.Faults.{isMessage}
 use Rattle.journal.specs.Header.{entrySize}
 use Rattle.journal.specs.Entries.{Entry, isText}
-use Rattle.journal.specs.Chain.{isSome}
 use Rattle.journal.specs.Room.{todaysShares, fits, raised}
 use Rattle.journal.specs.Verdicts.{judgeOf}
 use Rattle.journal.specs.Held.{Held}

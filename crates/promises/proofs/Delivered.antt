@@ -1,32 +1,28 @@
 -- The frames of a message, sent on a line that waits: every frame but the last is joined (2), and the last one stores the message (4).
 -- Assumes nothing.
-use mathlib.Core.Path.{_≡_, refl, sym, ap, ap₂, subst, _∙_}
+use mathlib.Core.Path.{_≡_, refl, sym, ap, _∙_}
 use mathlib.Core.Logic.{_≢_}
-use mathlib.Core.Bool.{Bool, true, false, cond, _&&_}
+use mathlib.Core.Bool.{true, false}
 use mathlib.Core.List.{List, [], _∷_, _++_, map, append-assoc}
-use Prim.Native.Nat.{ℕ, zero, suc, _+_, _-_, _%_, _≤_, _<_}
+use Prim.Native.Nat.{ℕ, _+_, _-_, _≤_}
 use native.Mathlib.Omega.{arith}
 use borrow.Author.Tests.{ne-eqb}
-use lib.Dec.{eqb}
-use lib.ListN.{length, getD, take, drop, length-append, take-append-drop, length-drop}
-use lib.Seq.{length-take-le}
-use Rattle.memory.specs.Sizes.{lines, frameLimit, framePart, messageLimit}
+use lib.ListN.{length, take, length-append}
+use Rattle.memory.specs.Sizes.{frameLimit, framePart, messageLimit}
 use Rattle.memory.specs.Parts.{part, splice}
-use Rattle.memory.specs.Tests.{is, all}
+use Rattle.memory.specs.Tests.{all}
 use Rattle.memory.proofs.Parts.{part-start, take-through, length-splice}
 use Rattle.memory.proofs.Tests.{and-left, and-right, all-append}
-use Rattle.frame.specs.Control.{stx, lf, cr}
+use Rattle.frame.specs.Control.{stx, lf}
 use Rattle.frame.specs.Allowed.{allowed}
 use Rattle.frame.specs.Number.{mostNumber, nextNumber}
 use Rattle.frame.specs.Shape.{aroundText}
 use Rattle.frame.specs.Writing.{frameOf}
 use Rattle.frame.specs.declared.End.{End}
-use Rattle.frame.specs.declared.End.the-variants.{Etb, Etx}
 use Rattle.frame.proofs.ReadBack.{early, long}
 use Rattle.record.specs.Delimiters.{standard}
 use Rattle.record.specs.Faults.{isMessage}
-use Rattle.record.specs.Records.{records, none, endsWithCr, endsWithL}
-use Rattle.record.proofs.Messages.{message-short, message-allowed, message-ends}
+use Rattle.record.proofs.Messages.{message-short, message-allowed}
 use Rattle.line.specs.Line.{acceptedLine}
 use Rattle.line.specs.Turn.{isLast}
 use Rattle.line.specs.declared.Line.{Line}
@@ -34,13 +30,10 @@ use Rattle.line.specs.declared.State.the-variants.{Waiting}
 use Rattle.line.specs.declared.Answer.the-variants.{Accepted}
 use Rattle.journal.specs.Runs.{State as Store}
 use Rattle.gateway.specs.Looks.{endLook}
-use Rattle.gateway.specs.declared.Kind.the-variants.{Byte}
-use Rattle.gateway.specs.declared.Look.{Look}
-use Rattle.gateway.specs.declared.Look.the-variants.{Done, Decides}
+use Rattle.gateway.specs.declared.Look.the-variants.{Done}
 use Rattle.gateway.specs.declared.Verdict.the-variants.{Accepts}
-use Rattle.promises.specs.Machine.{Told, told, Parts}
-use Rattle.promises.proofs.Fronts.{front-decided}
-use Rattle.promises.proofs.Feeding.{feed, feed-append, ended, unanswered, inside, ready, own-text, last, sent}
+use Rattle.promises.specs.Machine.{told}
+use Rattle.promises.proofs.Feeding.{feed, ended, unanswered, ready, own-text, last, sent}
 
 -- the line waits for a frame with this number, with nothing joined
 pub record Open (number : ℕ) (l : Line) : Type 0 where

@@ -1,8 +1,7 @@
 -- The thirteen examples, by a single claim over their list.
 -- Assumes nothing.
 use mathlib.Core.Path.{_≡_, refl}
-use mathlib.Core.List.{List, map}
-use Prim.Native.Nat.{ℕ}
+use mathlib.Core.List.{map}
 use lib.ListN.{length}
 use Rattle.frame.specs.Allowed.{allowed}
 use Rattle.frame.specs.Check.{total, checkOf, hexDigit, digitsOf}

@@ -7,7 +7,7 @@ use Prim.Native.Nat.{ℕ, suc, _+_, _-_, _/_, _%_, _≤_, _<_}
 use native.Mathlib.Decide.{ℕ-discrete}
 use native.Mathlib.Omega.{arith}
 use borrow.Author.Tests.{ne-eqb, eq-eqb, le-leb}
-use lib.Dec.{ltb, eqb}
+use lib.Dec.{ltb}
 use lib.ListN.{length}
 use Rattle.memory.specs.Sizes.{frameLimit, framePart, messageLimit}
 use Rattle.memory.specs.Parts.{part, splice}
@@ -26,7 +26,7 @@ use Rattle.frame.proofs.ReadBack.{early, spelt, long, the-text, read-back}
 use Rattle.line.specs.Line.{mostCollected}
 use Rattle.line.specs.Turn.{isLast, turnOf}
 use Rattle.line.specs.declared.Line.{Line}
-use Rattle.line.specs.declared.State.the-variants.{Neutral, Waiting, Inside}
+use Rattle.line.specs.declared.State.the-variants.{Waiting, Inside}
 use Rattle.line.specs.declared.Answer.the-variants.{Nothing}
 use Rattle.journal.specs.Room.{todaysShares}
 use Rattle.journal.specs.Runs.{State as Store}

@@ -1,10 +1,9 @@
 -- The front of a message that ends with a record: it is decided exactly if it is the whole message.
 -- Assumes nothing.
 use mathlib.Core.Path.{_≡_, refl, sym, ap, _∙_}
-use mathlib.Core.Bool.{Bool, true, false, true≢false, _&&_}
+use mathlib.Core.Bool.{true, false, true≢false}
 use mathlib.Core.List.{List, [], _∷_, _++_, append-assoc}
-use Prim.Native.Nat.{ℕ, _≤_, _<_}
-use native.Mathlib.Omega.{arith}
+use Prim.Native.Nat.{ℕ}
 use Rattle.memory.specs.Tests.{all}
 use Rattle.memory.proofs.Tests.{and-left, and-right}
 use Rattle.frame.specs.Control.{cr}

@@ -1,28 +1,28 @@
 -- An entry is given back in its turn: once the line's elder entries are taken, whatever else came in between on any line, the next taking gives it.
 -- Assumes nothing.
-use mathlib.Core.Path.{_≡_, refl, sym, ap, ap₂, subst, _∙_}
+use mathlib.Core.Path.{_≡_, refl, sym, ap, subst, _∙_}
 use mathlib.Core.Bool.{true}
 use mathlib.Core.List.{List, [], _∷_, _++_, append-assoc}
-use Prim.Native.Nat.{ℕ, suc, _≤_, _<_}
+use Prim.Native.Nat.{ℕ, _≤_, _<_}
 use native.Mathlib.Omega.{arith}
 use borrow.Author.Tests.{eq-eqb}
 use lib.ListN.{length, getD}
-use Rattle.memory.specs.Sizes.{lines, frameLimit}
+use Rattle.memory.specs.Sizes.{lines}
 use Rattle.memory.specs.Parts.{splice}
 use Rattle.record.specs.Delimiters.{standard}
 use Rattle.record.specs.Faults.{isMessage}
-use Rattle.journal.specs.Entries.{Entry, before, from}
+use Rattle.journal.specs.Entries.{Entry, from}
 use Rattle.journal.specs.Room.{todaysShares}
-use Rattle.journal.specs.Removal.{AfterTaking, takeOf as takeEntry}
+use Rattle.journal.specs.Removal.{AfterTaking}
 use Rattle.journal.specs.Held.{Held}
 use Rattle.journal.specs.Runs.{State as Store, Numbered, numbered, only, texts, waiting, allIn, allOut}
-use Rattle.journal.proofs.Cases.{Gives, take-gives}
+use Rattle.journal.proofs.Cases.{take-gives}
 use Rattle.journal.proofs.Queue.{only-append, texts-append, only-from, taken-own, runs as journal-runs}
 use Rattle.line.specs.Line.{freshLine}
 use Rattle.line.specs.declared.Answer.the-variants.{Taken}
 use Rattle.gateway.specs.Events.{lineAt, tookAnswer, takeOf}
-use Rattle.serial.specs.Serial.{event, taking, final, Every}
-use Rattle.promises.specs.Machine.{State, Told, told, GatewayItem, step, storeOf, Sound, May}
+use Rattle.serial.specs.Serial.{taking, final, Every}
+use Rattle.promises.specs.Machine.{State, told, GatewayItem, step, storeOf, Sound, May}
 use Rattle.promises.specs.Queue.{allTaken}
 use Rattle.promises.specs.Sending.{bytesOn, sending, HasRoom, GivesBack}
 use Rattle.promises.proofs.Runs.{stays-sound}

@@ -1,15 +1,15 @@
 -- Every item keeps a state sound, and a fresh gateway is sound.
 -- Assumes nothing.
-use mathlib.Core.Path.{_≡_, refl, sym, ap, subst, _∙_}
+use mathlib.Core.Path.{_≡_, sym, subst, _∙_}
 use mathlib.Core.Logic.{_⊎_, inl, inr}
 use mathlib.Core.Bool.{true}
 use mathlib.Core.List.{List, []}
 use Prim.Native.Nat.{ℕ, _<_}
 use native.Mathlib.Decide.{ℕ-discrete}
 use native.Mathlib.Omega.{arith}
-use lib.ListN.{length, getD, set, length-set, length-replicate, getD-replicate}
+use lib.ListN.{length-set, length-replicate, getD-replicate}
 use lib.Seq.{getD-set-other, getD-set-same}
-use Rattle.memory.specs.Sizes.{lines, journalSize, unfinishedSize, framesSize}
+use Rattle.memory.specs.Sizes.{lines}
 use Rattle.journal.specs.Room.{todaysShares}
 use Rattle.journal.specs.Removal.{AfterTaking, takeOf as takeEntry}
 use Rattle.journal.proofs.Cases.{Gives, Keeps, take-cases}
@@ -20,14 +20,14 @@ use Rattle.gateway.specs.Views.{framesOf, textsOf}
 use Rattle.gateway.specs.Looks.{lookOf}
 use Rattle.gateway.specs.Verdicts.{ownWork}
 use Rattle.gateway.specs.Settled.{lineAfter}
-use Rattle.gateway.specs.Events.{Memory, memoryOf, settle, lineAt, noRecord, AfterEvent, putBack, takeOf, freshGateway}
+use Rattle.gateway.specs.Events.{Memory, memoryOf, settle, lineAt, noRecord, AfterEvent, putBack, takeOf}
 use Rattle.gateway.specs.declared.Kind.{Kind}
 use Rattle.gateway.proofs.Views.{own-parts}
 use Rattle.gateway.proofs.Fits.{look-fits}
 use Rattle.gateway_laws.proofs.Laws.{line-within}
 use Rattle.gateway_laws.proofs.Others.{texts-length, frames-length}
-use Rattle.serial.specs.Serial.{Item, event, taking}
-use Rattle.promises.specs.Machine.{State, onLine, afterEvent, afterTake, step, GatewayItem, Sound, May}
+use Rattle.serial.specs.Serial.{event, taking}
+use Rattle.promises.specs.Machine.{State, onLine, afterEvent, step, GatewayItem, Sound, May}
 use Rattle.promises.specs.Runs.{RightSizes, fresh}
 use Rattle.promises.proofs.Sound.{work, ready, fitting, event-is}
 use Rattle.promises.proofs.Decided.{Holds, look-holds}

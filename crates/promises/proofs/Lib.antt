@@ -13,3 +13,8 @@ pub mod Walk
 pub mod Rooms
 pub mod Transfers
 pub mod InTurn
+pub mod Falls
+pub mod Freed
+pub mod Alone
+pub mod Acknowledged
+pub mod Frauds

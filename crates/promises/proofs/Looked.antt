@@ -2,8 +2,8 @@
 -- Assumes nothing.
 use mathlib.Core.Path.{_≡_, refl, sym, ap, _∙_}
 use mathlib.Core.Bool.{Bool, true, false, cond}
-use mathlib.Core.List.{List, [], _∷_, _++_, append-assoc}
-use Prim.Native.Nat.{ℕ, _+_, _-_, _≤_, _<_}
+use mathlib.Core.List.{List, [], _∷_, _++_}
+use Prim.Native.Nat.{ℕ, _+_, _-_, _<_}
 use native.Mathlib.Omega.{arith}
 use lib.ListN.{length, getD, length-append}
 use lib.Seq.{getD-append-add}
@@ -12,11 +12,10 @@ use Rattle.frame.specs.Control.{cr}
 use Rattle.frame.specs.declared.End.the-variants.{Etb, Etx}
 use Rattle.record.specs.Delimiters.{standard}
 use Rattle.record.specs.Faults.{isMessage}
-use Rattle.record.specs.Records.{records, none, onto, endsWithCr, endsWithL}
+use Rattle.record.specs.Records.{records, none, onto, endsWithCr}
 use Rattle.record.proofs.Messages.{message-ends, message-decided}
 use Rattle.cutting.specs.Pieces.{endAfter}
 use Rattle.gateway.specs.Looks.{endLook}
-use Rattle.gateway.specs.declared.Look.{Look}
 use Rattle.gateway.specs.declared.Look.the-variants.{Done, Decides}
 use Rattle.gateway.specs.declared.Verdict.the-variants.{Accepts}
 use Rattle.promises.proofs.Fronts.{front-decided}

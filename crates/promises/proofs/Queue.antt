@@ -39,8 +39,8 @@ use Rattle.gateway.specs.declared.Verdict.{Verdict}
 use Rattle.gateway.specs.declared.Verdict.the-variants.{Against}
 use Rattle.gateway.proofs.Views.{own-parts}
 use Rattle.gateway.proofs.Fits.{LookFits, look-fits, quiet-keeps}
-use Rattle.serial.specs.Serial.{Item, event, taking, final, Every}
-use Rattle.promises.specs.Machine.{State, Told, told, GatewayItem, step, storeOf, onEvent, partsOf, Sound, May}
+use Rattle.serial.specs.Serial.{event, taking, final, Every}
+use Rattle.promises.specs.Machine.{State, Told, told, GatewayItem, step, storeOf, Sound, May}
 use Rattle.promises.specs.Runs.{RightSizes, fresh, answered, textWith}
 use Rattle.promises.specs.Queue.{completedBy, gave, storedOn, takenOn, allStored, allTaken, NothingLost}
 use Rattle.promises.proofs.Sound.{ready, event-answer, event-journal}

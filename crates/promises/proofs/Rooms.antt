@@ -9,14 +9,13 @@ use native.Mathlib.Decide.{ℕ-discrete}
 use native.Mathlib.Omega.{arith}
 use borrow.Author.Tests.{le-leb, leb-true}
 use lib.ListN.{length, getD, length-set}
-use Rattle.memory.specs.Sizes.{lines, messageLimit, journalSize}
+use Rattle.memory.specs.Sizes.{lines, journalSize}
 use Rattle.record.specs.Delimiters.{standard}
-use Rattle.record.specs.Faults.{isMessage}
 use Rattle.record.proofs.Messages.{message-some, message-short}
 use Rattle.journal.specs.Header.{entrySize}
 use Rattle.journal.specs.Entries.{Entry}
 use Rattle.journal.specs.Room.{claims, fits, raised, todaysShares}
-use Rattle.journal.specs.Storage.{newEntry, grown, appended}
+use Rattle.journal.specs.Storage.{newEntry, grown}
 use Rattle.journal.specs.Held.{Held}
 use Rattle.journal.specs.Runs.{State as Store}
 use Rattle.journal.proofs.Totals.{raised-own, raised-other, claims-le}

@@ -4,7 +4,7 @@ use mathlib.Core.Path.{_≡_, refl, sym, ap, _∙_}
 use mathlib.Core.Bool.{Bool, true, false, true≢false, cond}
 use mathlib.Core.Logic.{_⊎_, inl, inr}
 use mathlib.Core.List.{List, [], _∷_}
-use Prim.Native.Nat.{ℕ, _+_, _≤_, _<_}
+use Prim.Native.Nat.{ℕ, _+_, _<_}
 use native.Mathlib.Decide.{decLe}
 use native.Mathlib.Omega.{arith}
 use borrow.Author.Tests.{eq-eqb, le-leb}
@@ -31,7 +31,7 @@ use Rattle.gateway.specs.declared.Look.the-variants.{Done, Decides}
 use Rattle.gateway.specs.declared.Verdict.{Verdict}
 use Rattle.gateway.proofs.Views.{own-parts}
 use Rattle.gateway.proofs.Cases.{Cases, every-look}
-use Rattle.serial.specs.Serial.{Item, event, taking, annotate, final, Every}
+use Rattle.serial.specs.Serial.{event, taking, annotate, final, Every}
 use Rattle.promises.specs.Machine.{State, Told, GatewayItem, step, Sound, May}
 use Rattle.promises.specs.Runs.{RightSizes, fresh, answered, isFault, textWith, Completes, Overfull, NoSpace, Space}
 use Rattle.promises.proofs.Sound.{work, ready, event-answer}

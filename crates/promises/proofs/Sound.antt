@@ -1,32 +1,26 @@
 -- The gateway's states in a run: every item keeps them sound, and is told by its line's parts and the store.
 -- Assumes nothing.
-use mathlib.Core.Path.{_≡_, refl, sym, ap, ap₂, subst, _∙_}
-use mathlib.Core.Logic.{_≢_, _⊎_, inl, inr}
-use mathlib.Core.Bool.{Bool, true, false, cond}
-use mathlib.Core.List.{List, []}
-use Prim.Native.Nat.{ℕ, _≤_, _<_}
+use mathlib.Core.Path.{_≡_, sym, ap, _∙_}
+use mathlib.Core.Logic.{_≢_}
+use Prim.Native.Nat.{ℕ, _<_}
 use native.Mathlib.Omega.{arith}
 use borrow.Author.Tests.{lt-ltb, eq-eqb}
-use lib.Dec.{ltb, eqb}
-use lib.ListN.{length, getD, set}
+use lib.ListN.{length}
 use lib.Seq.{getD-set-other, getD-set-same}
 use Rattle.memory.specs.Sizes.{lines, journalSize, unfinishedSize, framesSize}
 use Rattle.journal.specs.Room.{todaysShares}
-use Rattle.journal.specs.declared.Ledger.{Ledger}
 use Rattle.line.specs.declared.Line.{Line}
-use Rattle.gateway.specs.Views.{framesOf, textsOf, Ready, Own}
-use Rattle.gateway.specs.Verdicts.{ownWork, verdictOf, answerOf}
-use Rattle.gateway.specs.Settled.{lineAfter, framesAfter, textsAfter, Fitting}
-use Rattle.gateway.specs.Events.{Memory, memoryOf, settle, stepOf, lineAt, noRecord, AfterEvent, putBack, eventOf, takeOf}
-use Rattle.gateway.specs.declared.Gateway.{Gateway}
+use Rattle.gateway.specs.Views.{framesOf, textsOf, Ready}
+use Rattle.gateway.specs.Verdicts.{ownWork, verdictOf}
+use Rattle.gateway.specs.Settled.{lineAfter, Fitting}
+use Rattle.gateway.specs.Events.{settle, stepOf, lineAt, noRecord, AfterEvent, putBack, eventOf}
 use Rattle.gateway.specs.declared.Kind.{Kind}
 use Rattle.gateway.specs.declared.Verdict.{Verdict}
-use Rattle.gateway.proofs.Views.{own-parts}
 use Rattle.gateway_laws.proofs.Found.{work-fits}
 use Rattle.gateway_laws.proofs.Others.{texts-other, frames-other}
 use Rattle.gateway_laws.proofs.View.{texts-own, frames-own}
-use Rattle.serial.specs.Serial.{Item, event, taking}
-use Rattle.promises.specs.Machine.{State, Told, told, onLine, afterEvent, step, Parts, partsOf, storeOf, onEvent, onTaking, Sound, May}
+use Rattle.serial.specs.Serial.{event}
+use Rattle.promises.specs.Machine.{State, onLine, afterEvent, step, Parts, partsOf, storeOf, onEvent, Sound}
 
 same-parts : (p q : Parts) → p .line ≡ q .line → p .texts ≡ q .texts → p .frames ≡ q .frames → p ≡ q
 same-parts p q l t f = λ z. record { line = l z; texts = t z; frames = f z }

@@ -3,11 +3,11 @@
 use mathlib.Core.Path.{_≡_, refl, sym, ap, ap₂, subst, _∙_}
 use mathlib.Core.Logic.{_≢_}
 use mathlib.Core.Bool.{true}
-use mathlib.Core.List.{List, [], _∷_, _++_, map, append-assoc, append-nil}
-use Prim.Native.Nat.{ℕ, _≤_, _<_}
+use mathlib.Core.List.{List, [], _∷_, _++_, append-assoc, append-nil}
+use Prim.Native.Nat.{ℕ, _<_}
 use native.Mathlib.Omega.{arith}
 use lib.ListN.{length}
-use Rattle.memory.specs.Sizes.{lines, frameLimit, messageLimit}
+use Rattle.memory.specs.Sizes.{lines, frameLimit}
 use Rattle.memory.proofs.Parts.{part-start}
 use Rattle.frame.specs.Number.{nextNumber}
 use Rattle.frame.specs.Writing.{frameOf}
@@ -21,7 +21,6 @@ use Rattle.line.specs.Paper.{enq, eot}
 use Rattle.line.specs.declared.Line.{Line}
 use Rattle.line.specs.declared.Answer.the-variants.{Opened, Ended}
 use Rattle.journal.specs.Header.{entrySize}
-use Rattle.journal.specs.Entries.{Entry}
 use Rattle.journal.specs.Room.{todaysShares, fits, raised}
 use Rattle.journal.specs.Held.{Held}
 use Rattle.journal.specs.Runs.{State as Store}
@@ -35,7 +34,7 @@ use Rattle.gateway.specs.declared.Kind.the-variants.{Byte}
 use Rattle.gateway.proofs.Views.{own-parts}
 use Rattle.serial.specs.Serial.{event, final, Every}
 use Rattle.promises.specs.Machine.{State, Told, told, step, Parts, partsOf, storeOf, onEvent, Sound, May}
-use Rattle.promises.specs.Sending.{bytesOn, answersTo, replies, sending, sendingReplies, piecesOfAll, transfer, repliesToAll, transferReplies, newEntries, Messages, sizesOf, HasRoom, Delivers}
+use Rattle.promises.specs.Sending.{bytesOn, answersTo, replies, sending, sendingReplies, piecesOfAll, transfer, repliesToAll, transferReplies, newEntries, Messages, sizesOf, HasRoom, Delivers, Demand2}
 use Rattle.promises.proofs.Sound.{ready as is-ready, event-answer, event-own, event-others, event-journal}
 use Rattle.promises.proofs.Kept.{keeps}
 use Rattle.promises.proofs.Runs.{stays-sound}
@@ -253,9 +252,9 @@ module _ (i : ℕ) (h : i < lines) where
   module _ (s : State) (w : Sound s) (fresh : lineAt (s .gateway) i ≡ freshLine) where
     -- a message that is cut and sent to a fresh line, with room for it: 1, then 0 to each byte within a frame, 2 to each frame but the last and 4 to the last;
     -- it is stored byte for byte, once, under the line's next serial
-    pub sent : (m : List ℕ) → isMessage standard m ≡ true → HasRoom s i (m ∷ []) → Delivers s i (sending m) (sendingReplies m) (m ∷ []) (w .entries)
+    send-one : (m : List ℕ) → isMessage standard m ≡ true → HasRoom s i (m ∷ []) → Delivers s i (sending m) (sendingReplies m) (m ∷ []) (w .entries)
     unfolding cutOf
-    sent m message room =
+    send-one m message room =
         let a = opening s w fresh in
         let s₁ = final step s (bytesOn i (enq ∷ [])) in
         let room-then = ap (λ (j : Store). fits todaysShares (raised (j .ledger .used) i (sizesOf (m ∷ [])))) (a .store) ∙ room in
@@ -287,3 +286,6 @@ module _ (i : ℕ) (h : i < lines) where
 
       pub in-two-transfers : Delivers s i (transfer (m ∷ []) ++ transfer (n ∷ [])) (transferReplies (m ∷ []) ++ transferReplies (n ∷ [])) (m ∷ n ∷ []) (w .entries)
       in-two-transfers = transferred-twice (m ∷ []) (n ∷ []) (m-is, tt) (n-is, tt) room
+
+pub sent : Demand2 step
+sent i h s w fresh m message room = send-one i h s w fresh m message room

@@ -5,9 +5,9 @@ use mathlib.Core.Bool.{true}
 use mathlib.Core.List.{List, [], _∷_, _++_, map, append-assoc, append-nil}
 use Prim.Native.Nat.{ℕ, zero, suc, _+_, _-_, _≤_, _<_}
 use native.Mathlib.Omega.{arith}
-use lib.ListN.{length, getD, take, drop, replicate, length-append, take-append-drop, length-drop}
+use lib.ListN.{length, getD, take, drop, replicate, take-append-drop, length-drop}
 use lib.Seq.{length-take-le, getD-take}
-use Rattle.memory.specs.Sizes.{lines, frameLimit, framePart, messageLimit}
+use Rattle.memory.specs.Sizes.{frameLimit}
 use Rattle.memory.specs.Parts.{part, splice}
 use Rattle.frame.specs.Control.{stx, lf}
 use Rattle.frame.specs.Number.{nextNumber}
@@ -19,9 +19,8 @@ use Rattle.record.specs.Delimiters.{standard}
 use Rattle.record.specs.Faults.{isMessage}
 use Rattle.cutting.specs.Pieces.{Piece, piece, pieceSize, piecesOf, endAfter, throughCr}
 use Rattle.cutting.specs.Frames.{framesFrom}
-use Rattle.cutting.proofs.Steps.{Turn, turn, firstPiece}
+use Rattle.cutting.proofs.Steps.{turn, firstPiece}
 use Rattle.record.proofs.Scans.{tailAt, rest-part}
-use Rattle.line.specs.Line.{acceptedLine}
 use Rattle.line.specs.declared.Line.{Line}
 use Rattle.line.specs.declared.Answer.{Answer}
 use Rattle.line.specs.declared.Answer.the-variants.{Nothing, Accepted, Stored}
@@ -36,7 +35,7 @@ use Rattle.gateway.specs.declared.Kind.the-variants.{Byte}
 use Rattle.gateway.specs.declared.Verdict.{Verdict}
 use Rattle.gateway.specs.declared.Verdict.the-variants.{Stores}
 use Rattle.gateway.specs.declared.Look.{Look}
-use Rattle.gateway.specs.declared.Look.the-variants.{Done, Decides}
+use Rattle.gateway.specs.declared.Look.the-variants.{Decides}
 use Rattle.promises.specs.Machine.{Told, told, Parts, left}
 use Rattle.promises.specs.Sending.{lastAnswer, replies}
 use Rattle.promises.proofs.Looked.{look-on, look-last}

@@ -18,7 +18,7 @@ use Rattle.gateway.specs.Events.{Memory, lineAt}
 use Rattle.gateway.specs.declared.Kind.{Kind}
 use Rattle.gateway.specs.declared.Look.{Look}
 use Rattle.gateway.specs.declared.Look.the-variants.{Done, Decides}
-use Rattle.serial.specs.Serial.{Item, event, taking, final}
+use Rattle.serial.specs.Serial.{event, taking, final}
 use Rattle.promises.specs.Machine.{State, Told, GatewayItem, step}
 use Rattle.promises.specs.Runs.{fresh, answered, textWith}
 

@@ -9,7 +9,8 @@ use Rattle.memory.specs.Sizes.{journalSize, unfinishedSize, framesSize}
 use Rattle.memory.specs.Tests.{between}
 use Rattle.journal.specs.Header.{entrySize}
 use Rattle.journal.specs.Room.{share, todaysShares, fits, raised}
-use Rattle.line.specs.Paper.{numberOf}
+use Rattle.line.specs.Paper.{numberOf, replyOf}
+use Rattle.line.specs.declared.Reply.{Reply}
 use Rattle.gateway.specs.Views.{framesOf, textsOf, joinedText}
 use Rattle.gateway.specs.Looks.{lookOf}
 use Rattle.gateway.specs.Events.{Memory, lineAt, freshGateway}
@@ -26,10 +27,14 @@ pub record RightSizes (m : Memory) : Type 0 where
 abbrev pub fresh : Memory → State
 fresh m = record { gateway = freshGateway; memory = m }
 
--- the paper's number of an answer, and whether it tells of memory, a record or a journal that no run leaves: 41, 42, 43
+-- the paper's number of an answer, and the byte that the analyzer gets, if any
 abbrev pub answered : Told → ℕ
 answered t = numberOf (t .answer)
 
+abbrev pub replied : Told → Reply
+replied t = replyOf (answered t)
+
+-- whether a number tells of memory, a record or a journal that no run leaves: 41, 42, 43
 abbrev pub isFault : ℕ → Bool
 isFault n = between 41 43 n
 

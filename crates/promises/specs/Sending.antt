@@ -1,17 +1,18 @@
 -- Messages that are cut into frames and sent on one line: the bytes, their answers, and what is stored.
 -- Assumes nothing.
-use Prim.Native.Nat.{ℕ, _+_}
+use Prim.Native.Nat.{ℕ, _+_, _<_}
 use mathlib.Core.Path.{_≡_}
 use mathlib.Core.Logic.{_≢_}
 use mathlib.Core.Bool.{true}
 use mathlib.Core.List.{List, [], _∷_, _++_, map}
 use lib.ListN.{length, replicate}
-use Rattle.memory.specs.Sizes.{frameLimit}
+use Rattle.memory.specs.Sizes.{lines, frameLimit}
 use Rattle.memory.specs.Parts.{splice}
 use Rattle.record.specs.Delimiters.{standard}
 use Rattle.record.specs.Faults.{isMessage}
 use Rattle.cutting.specs.Pieces.{Piece, piecesOf}
 use Rattle.cutting.specs.Frames.{firstNumber, framesFrom, cutOf}
+use Rattle.line.specs.Line.{freshLine}
 use Rattle.line.specs.Paper.{enq, eot}
 use Rattle.line.specs.declared.Answer.{Answer}
 use Rattle.line.specs.declared.Answer.the-variants.{Nothing, Opened, Accepted, Stored, Ended, Taken}
@@ -21,16 +22,25 @@ use Rattle.journal.specs.Room.{todaysShares, fits, raised}
 use Rattle.journal.specs.Storage.{newEntry, grown}
 use Rattle.journal.specs.Held.{Held}
 use Rattle.journal.specs.declared.Ledger.{Ledger}
+use Rattle.gateway.specs.Events.{lineAt}
 use Rattle.gateway.specs.declared.Kind.the-variants.{Byte}
 use Rattle.serial.specs.Serial.{event, taking, annotate, final, Every}
-use Rattle.promises.specs.Machine.{State, Told, told, GatewayItem, step, partsOf}
+use Rattle.promises.specs.Machine.{State, Told, told, GatewayItem, step, partsOf, Sound}
 
--- bytes that come on line i, one behind the other, and the answers to a run
+-- bytes that come on line i, one behind the other
 abbrev pub bytesOn : ℕ → List ℕ → List GatewayItem
 bytesOn i bs = map (λ (b : ℕ). event i (Byte b)) bs
 
+-- what runs items: the gateway's is `step`; the promise can be asked of any (proofs/Frauds)
+abbrev pub Runner : Type 0
+Runner = State → GatewayItem → Told × State
+
+-- the answers to a run
+abbrev pub answersBy : Runner → State → List GatewayItem → List Told
+answersBy f s es = map (λ (x : GatewayItem × Told). x .1) (annotate f s es)
+
 abbrev pub answersTo : State → List GatewayItem → List Told
-answersTo s es = map (λ (x : GatewayItem × Told). x .1) (annotate step s es)
+answersTo s es = answersBy step s es
 
 -- 0 to each byte of a frame but its last; to that 2, and 4 where no frame of the message follows
 abbrev pub lastAnswer : List Piece → Answer
@@ -81,10 +91,19 @@ HasRoom s i ms = fits todaysShares (raised (s .gateway .ledger .used) i (sizesOf
 
 -- the bytes bs on line i, from a state whose journal holds the entries es, get these answers; the journal then holds es and, behind them, one entry for each of
 -- the texts ms; and every other line has what it had
-pub record Delivers (s : State) (i : ℕ) (bs : List ℕ) (answers : List Told) (ms : List (List ℕ)) (es : List Entry) : Type 0 where
-  pub answered : answersTo s (bytesOn i bs) ≡ answers
-  pub held : Held todaysShares (final step s (bytesOn i bs) .gateway .ledger) (final step s (bytesOn i bs) .memory .journal) (es ++ newEntries (s .gateway .ledger) i ms)
-  pub others : (l : ℕ) → l ≢ i → partsOf (final step s (bytesOn i bs)) l ≡ partsOf s l
+pub record DeliversBy (f : Runner) (s : State) (i : ℕ) (bs : List ℕ) (answers : List Told) (ms : List (List ℕ)) (es : List Entry) : Type 0 where
+  pub answered : answersBy f s (bytesOn i bs) ≡ answers
+  pub held : Held todaysShares (final f s (bytesOn i bs) .gateway .ledger) (final f s (bytesOn i bs) .memory .journal) (es ++ newEntries (s .gateway .ledger) i ms)
+  pub others : (l : ℕ) → l ≢ i → partsOf (final f s (bytesOn i bs)) l ≡ partsOf s l
+
+abbrev pub Delivers : State → ℕ → List ℕ → List Told → List (List ℕ) → List Entry → Type 0
+Delivers s i bs answers ms es = DeliversBy step s i bs answers ms es
+
+-- Demand 2, of any runner: a message that is cut and sent to a fresh line, the gateway in any other state that a run leaves, with room for it
+abbrev pub Demand2 : Runner → Type 0
+Demand2 f =
+    (i : ℕ) → i < lines → (s : State) (w : Sound s) → lineAt (s .gateway) i ≡ freshLine → (m : List ℕ) → isMessage standard m ≡ true → HasRoom s i (m ∷ [])
+    → DeliversBy f s i (sending m) (sendingReplies m) (m ∷ []) (w .entries)
 
 -- a taking from line i into the buffer b gives the text m with this serial: both its length and the serial are answered, it stands at the start of the buffer,
 -- and the buffer's rest stays

@@ -1,0 +1,119 @@
+-- The frauds that document 01 wants tried, and the promise that each breaks. They are told of any runner, so that no particular one is meant.
+-- Assumes nothing.
+use mathlib.Core.Path.{_≡_, refl, sym, ap, subst, _∙_}
+use mathlib.Core.Bool.{Bool, true, false, true≢false}
+use mathlib.Core.List.{List, [], _∷_, _++_}
+use mathlib.Core.Option.{Option, none, some}
+use Prim.Native.Nat.{ℕ, _+_, _<_}
+use native.Mathlib.Omega.{arith}
+use lib.Dec.{eqb}
+use lib.ListN.{length, getD, replicate, length-append, length-replicate}
+use Rattle.memory.specs.Sizes.{journalSize, unfinishedSize, framesSize}
+use Rattle.frame.specs.Check.{checkOf, hexDigit, digitsOf, total}
+use Rattle.frame.specs.Number.{nextNumber}
+use Rattle.frame.specs.Writing.{bodyOf, tailOf, collectedOf, frameOf}
+use Rattle.record.specs.Delimiters.{standard}
+use Rattle.record.specs.Faults.{isMessage}
+use Rattle.cutting.specs.Frames.{cutOf}
+use Rattle.cutting.specs.Pieces.{piecesOf}
+use Rattle.journal.specs.Header.{headSize}
+use Rattle.journal.specs.Entries.{Entry}
+use Rattle.journal.specs.Room.{todaysShares, claims}
+use Rattle.journal.specs.Held.{Held}
+use Rattle.journal.specs.declared.Ledger.{Ledger}
+use Rattle.line.specs.Paper.{enq, ack, valuesOf, replyOf}
+use Rattle.line.specs.declared.Answer.{Answer}
+use Rattle.line.specs.declared.Answer.the-variants.{Nothing, Taken}
+use Rattle.line.specs.declared.Reply.{Reply}
+use Rattle.line.specs.declared.Reply.the-variants.{Silence, Byte}
+use Rattle.gateway.specs.Events.{Memory, memoryOf}
+use Rattle.gateway.specs.declared.Kind.the-variants.{Byte as Came}
+use Rattle.serial.specs.Serial.{event, taking, final}
+use Rattle.promises.specs.Machine.{State, Told, told, GatewayItem, step}
+use Rattle.promises.specs.Runs.{RightSizes, fresh, replied}
+use Rattle.promises.specs.Examples.{both, holds}
+use Rattle.promises.specs.Sending.{Runner, bytesOn, sending, sendingReplies, newEntries, HasRoom, DeliversBy, Demand2, GivesBack}
+use Rattle.promises.proofs.Kept.{fresh-sound}
+use Rattle.promises.proofs.Examples.{shown}
+
+-- ---- one message, sent to line 0 of a fresh gateway
+
+abbrev memory : Memory
+memory = memoryOf (replicate journalSize 0) (replicate unfinishedSize 0) (replicate framesSize 0)
+
+right : RightSizes memory
+right = record { journal = length-replicate {A = ℕ} journalSize 0; texts = length-replicate {A = ℕ} unfinishedSize 0; frames = length-replicate {A = ℕ} framesSize 0 }
+
+holds-true : (b : Bool) → holds b ≡ 1 ∷ [] → b ≡ true
+holds-true true e = refl
+holds-true false e = absurd (omega (arith, ap (λ (xs : List ℕ). getD xs 0 0) e))
+
+is-message : isMessage standard both ≡ true
+is-message = holds-true (isMessage standard both) (ap (λ (xs : List (List ℕ)). getD xs 6 []) shown)
+
+room : HasRoom (fresh memory) 0 (both ∷ [])
+unfolding claims headSize
+room = refl
+
+module _ (f : Runner) (promise : Demand2 f) where
+  delivered : DeliversBy f (fresh memory) 0 (sending both) (sendingReplies both) (both ∷ []) (fresh-sound memory right .entries)
+  delivered = promise 0 (omega arith) (fresh memory) (fresh-sound memory right) refl both is-message room
+
+-- whether a reply is ACK
+abbrev isAck : Reply → Bool
+isAck Silence = false
+isAck (Byte b) = eqb b ack
+
+abbrev ackAt : ℕ → List Told → Bool
+ackAt n ts = isAck (replied (getD ts n (told Nothing [])))
+
+-- one journal holds one list of entries
+abbrev entries-of : Option (List Entry) → List Entry
+entries-of none = []
+entries-of (some es) = es
+
+pub held-once : (d : Ledger) (j : List ℕ) (es fs : List Entry) → Held todaysShares d j es → Held todaysShares d j fs → es ≡ fs
+held-once d j es fs h g = ap entries-of (sym (h .whole) ∙ g .whole)
+
+longer : (es fs gs : List Entry) → length fs < length gs → es ++ fs ≡ es ++ gs → ⊥
+longer es fs gs h e = omega (arith, h, length-append es fs, length-append es gs, ap (λ (xs : List Entry). length xs) e)
+
+-- ---- the frauds
+
+-- NAK to all, or no reply at all: ENQ on a fresh line is to be acknowledged
+pub never-acknowledges : (f : Runner) → ((s : State) (e : GatewayItem) → isAck (replied ((f s e) .0)) ≡ false) → Demand2 f → ⊥
+unfolding replyOf
+never-acknowledges f fraud promise = true≢false (sym (ap (ackAt 0) (delivered f promise .answered)) ∙ fraud (fresh memory) (event 0 (Came enq)))
+
+-- ACK to all: the bytes within a frame are not to be answered
+pub always-acknowledges : (f : Runner) → ((s : State) (e : GatewayItem) → isAck (replied ((f s e) .0)) ≡ true) → Demand2 f → ⊥
+unfolding replyOf total checkOf hexDigit digitsOf nextNumber bodyOf tailOf collectedOf frameOf cutOf piecesOf
+always-acknowledges f fraud promise =
+    true≢false (sym (fraud ((f (fresh memory) (event 0 (Came enq))) .1) (event 0 (Came 0x02))) ∙ ap (ackAt 1) (delivered f promise .answered))
+
+-- doing nothing, whatever is answered, and so acknowledging without storing: the message is to be in the journal
+stays : (f : Runner) → ((s : State) (e : GatewayItem) → (f s e) .1 ≡ s) → (es : List GatewayItem) (s : State) → final f s es ≡ s
+stays f fraud [] s = refl
+stays f fraud (e ∷ es) s = ap (λ (t : State). final f t es) (fraud s e) ∙ stays f fraud es s
+
+pub changes-nothing : (f : Runner) → ((s : State) (e : GatewayItem) → (f s e) .1 ≡ s) → Demand2 f → ⊥
+changes-nothing f fraud promise =
+    let w = fresh-sound memory right in
+    let d = fresh memory .gateway .ledger in
+    let held-then = subst (λ (t : State). Held todaysShares (t .gateway .ledger) (t .memory .journal) (w .entries ++ newEntries d 0 (both ∷ []))) (stays f fraud (bytesOn 0 (sending both)) (fresh memory)) (delivered f promise .held) in
+    let same = held-once d (fresh memory .memory .journal) (w .entries) (w .entries ++ newEntries d 0 (both ∷ [])) (w .held) held-then in
+    omega (arith, length-append (w .entries) (newEntries d 0 (both ∷ [])), ap (λ (xs : List Entry). length xs) same)
+
+-- storing the first message and only acknowledging the second: then the journal does not hold both
+pub first-only : (f : Runner) (s : State) (i : ℕ) (bs : List ℕ) (ts : List Told) (m n : List ℕ) (es : List Entry) → DeliversBy f s i bs ts (m ∷ n ∷ []) es → (x : Entry)
+    → Held todaysShares (final f s (bytesOn i bs) .gateway .ledger) (final f s (bytesOn i bs) .memory .journal) (es ++ x ∷ []) → ⊥
+first-only f s i bs ts m n es promise x fraud =
+    longer es (x ∷ []) (newEntries (s .gateway .ledger) i (m ∷ n ∷ [])) (omega arith)
+    (held-once (final f s (bytesOn i bs) .gateway .ledger) (final f s (bytesOn i bs) .memory .journal) (es ++ x ∷ []) (es ++ newEntries (s .gateway .ledger) i (m ∷ n ∷ [])) fraud (promise .held))
+
+-- an invented length or serial: what a taking in its turn tells are the text's length and its serial
+pub invented : (s : State) (i : ℕ) (b : List ℕ) (serial : ℕ) (m : List ℕ) → GivesBack s i b serial m → (n x : ℕ) → (step s (taking i b)) .0 .answer ≡ Taken n x
+    → (n ≡ length m) × (x ≡ serial)
+invented s i b serial m promise n x fraud =
+    let same : Taken n x ≡ Taken (length m) serial = sym fraud ∙ ap (λ (t : Told). t .answer) promise in
+    (ap (λ (a : Answer). getD (valuesOf a) 0 0) same, ap (λ (a : Answer). getD (valuesOf a) 1 0) same)
