@@ -32,8 +32,9 @@ use Rattle.serial.specs.Serial.{event, taking, final}
 use Rattle.promises.specs.Machine.{State, Told, told, GatewayItem, step}
 use Rattle.promises.specs.Runs.{RightSizes, fresh, replied}
 use Rattle.promises.specs.Examples.{both, holds}
-use Rattle.promises.specs.Sending.{Runner, bytesOn, sending, sendingReplies, newEntries, HasRoom, DeliversBy, Demand2, GivesBack}
+use Rattle.promises.specs.Sending.{Runner, bytesOn, sending, sendingReplies, newEntries, HasRoom, Intact, DeliversBy, Demand2, GivesBack}
 use Rattle.promises.proofs.Kept.{fresh-sound}
+use Rattle.promises.proofs.Rooms.{room-held, sound-intact}
 use Rattle.promises.proofs.Examples.{shown}
 
 -- ---- one message, sent to line 0 of a fresh gateway
@@ -55,9 +56,12 @@ room : HasRoom (fresh memory) 0 (both ∷ [])
 unfolding claims headSize
 room = refl
 
+intact : Intact (fresh memory)
+intact = sound-intact (fresh memory) (fresh-sound memory right)
+
 module _ (f : Runner) (promise : Demand2 f) where
-  delivered : DeliversBy f (fresh memory) 0 (sending both) (sendingReplies both) (both ∷ []) (fresh-sound memory right .entries)
-  delivered = promise 0 (omega arith) (fresh memory) (fresh-sound memory right) refl both is-message room
+  delivered : DeliversBy f (fresh memory) 0 (sending both) (sendingReplies both) (both ∷ []) (intact .entries)
+  delivered = promise 0 (omega arith) (fresh memory) intact refl both is-message room
 
 -- whether a reply is ACK
 abbrev isAck : Reply → Bool
@@ -98,11 +102,10 @@ stays f fraud (e ∷ es) s = ap (λ (t : State). final f t es) (fraud s e) ∙ s
 
 pub changes-nothing : (f : Runner) → ((s : State) (e : GatewayItem) → (f s e) .1 ≡ s) → Demand2 f → ⊥
 changes-nothing f fraud promise =
-    let w = fresh-sound memory right in
     let d = fresh memory .gateway .ledger in
-    let held-then = subst (λ (t : State). Held todaysShares (t .gateway .ledger) (t .memory .journal) (w .entries ++ newEntries d 0 (both ∷ []))) (stays f fraud (bytesOn 0 (sending both)) (fresh memory)) (delivered f promise .held) in
-    let same = held-once d (fresh memory .memory .journal) (w .entries) (w .entries ++ newEntries d 0 (both ∷ [])) (w .held) held-then in
-    omega (arith, length-append (w .entries) (newEntries d 0 (both ∷ [])), ap (λ (xs : List Entry). length xs) same)
+    let held-then = subst (λ (t : State). Held todaysShares (t .gateway .ledger) (t .memory .journal) (intact .entries ++ newEntries d 0 (both ∷ []))) (stays f fraud (bytesOn 0 (sending both)) (fresh memory)) (delivered f promise .held) in
+    let same = held-once d (fresh memory .memory .journal) (intact .entries) (intact .entries ++ newEntries d 0 (both ∷ [])) (room-held (fresh memory) intact 0 (omega arith) (both ∷ []) room) held-then in
+    omega (arith, length-append (intact .entries) (newEntries d 0 (both ∷ [])), ap (λ (xs : List Entry). length xs) same)
 
 -- storing the first message and only acknowledging the second: then the journal does not hold both
 pub first-only : (f : Runner) (s : State) (i : ℕ) (bs : List ℕ) (ts : List Told) (m n : List ℕ) (es : List Entry) → DeliversBy f s i bs ts (m ∷ n ∷ []) es → (x : Entry)

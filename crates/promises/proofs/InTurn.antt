@@ -24,9 +24,10 @@ use Rattle.gateway.specs.Events.{lineAt, tookAnswer, takeOf}
 use Rattle.serial.specs.Serial.{taking, final, Every}
 use Rattle.promises.specs.Machine.{State, told, GatewayItem, step, storeOf, Sound, May}
 use Rattle.promises.specs.Queue.{allTaken}
-use Rattle.promises.specs.Sending.{bytesOn, sending, HasRoom, GivesBack}
+use Rattle.promises.specs.Sending.{bytesOn, sending, HasRoom, Intact, GivesBack}
 use Rattle.promises.proofs.Runs.{stays-sound}
 use Rattle.promises.proofs.Queue.{runs}
+use Rattle.promises.proofs.Rooms.{room-sound}
 use Rattle.promises.proofs.Transfers.{bytes-may, sent}
 
 -- two lists in a row, whose first ones are as long, have the same second one
@@ -87,10 +88,10 @@ in-turn s w i h ds fs x held own es may as-many b room =
     given (final step s es) i h x (q .es′) held-then b room (waiting i fs ++ stored) (sym first) (from i (q .es′)) refl
 
 -- so a message that we cut and sent is given back, byte for byte
-pub given-back : (i : ℕ) → i < lines → (s : State) (w : Sound s) → lineAt (s .gateway) i ≡ freshLine → (m : List ℕ) → isMessage standard m ≡ true → HasRoom s i (m ∷ [])
+pub given-back : (i : ℕ) → i < lines → (s : State) (w : Intact s) → lineAt (s .gateway) i ≡ freshLine → (m : List ℕ) → isMessage standard m ≡ true → HasRoom s i (m ∷ [])
     → (es : List GatewayItem) → Every May es → length (allTaken i (final step s (bytesOn i (sending m))) es) ≡ length (waiting i (w .entries)) → (b : List ℕ) → length m ≤ length b
     → GivesBack (final step (final step s (bytesOn i (sending m))) es) i b (getD (s .gateway .ledger .serials) i 0) m
 given-back i h s w fresh m message room es may as-many b long =
     let d = sent i h s w fresh m message room in
     let s₁ = final step s (bytesOn i (sending m)) in
-    in-turn s₁ (stays-sound s (bytesOn i (sending m)) w (bytes-may i h (sending m))) i h (w .entries) [] (record { line = i; serial = getD (s .gateway .ledger .serials) i 0; text = m }) (d .held) refl es may as-many b long
+    in-turn s₁ (stays-sound s (bytesOn i (sending m)) (room-sound s w i h (m ∷ []) room) (bytes-may i h (sending m))) i h (w .entries) [] (record { line = i; serial = getD (s .gateway .ledger .serials) i 0; text = m }) (d .held) refl es may as-many b long

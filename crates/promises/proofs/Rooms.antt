@@ -20,7 +20,8 @@ use Rattle.journal.specs.Held.{Held}
 use Rattle.journal.specs.Runs.{State as Store}
 use Rattle.journal.proofs.Totals.{raised-own, raised-other, claims-le}
 use Rattle.journal.proofs.Keeps.{store-held}
-use Rattle.promises.specs.Sending.{newEntries, Messages, sizesOf}
+use Rattle.promises.specs.Machine.{State, Sound}
+use Rattle.promises.specs.Sending.{newEntries, Messages, sizesOf, HasRoom, Intact}
 use Rattle.promises.proofs.Walk.{storedIn}
 
 module _ (sh u : List ℕ) (i a b : ℕ) (long : length u ≡ lines) (line : i < lines) (room : fits sh (raised u i (a + b)) ≡ true) where
@@ -95,3 +96,46 @@ held-all i line (m ∷ ms) j es h are room =
     let rest = held-all i line ms (storedIn i m j) (es ++ newEntry (j .ledger) i m ∷ []) one (are .1) (room-then i m ms j (h .lines-used) line room) in
     subst (Held todaysShares (storedAll i ms (storedIn i m j) .ledger) (storedAll i ms (storedIn i m j) .journal))
     (append-assoc es (newEntry (j .ledger) i m ∷ []) (newEntries (grown (j .ledger) i (length m)) i ms)) rest
+
+-- where there is room for more on a line, the lines' claims fit without it: so the state is sound
+module _ (s : State) (w : Intact s) (i : ℕ) (line : i < lines) (ms : List (List ℕ)) (room : HasRoom s i ms) where
+  abbrev u : List ℕ
+  u = s .gateway .ledger .used
+
+  abbrev n : ℕ
+  n = sizesOf ms
+
+  pub room-held : Held todaysShares (s .gateway .ledger) (s .memory .journal) (w .entries)
+  room-held = record {
+    long = w .journal;
+    lines-used = w .lines-used;
+    lines-serials = w .lines-serials;
+    serials = w .serials;
+    whole = w .whole;
+    claimed =
+        le-trans
+        (claims-le todaysShares u (raised u i n)
+        (λ k q. elim (ℕ-discrete k i) [
+          | yes x ↦ rw x (omega (arith, raised-own u i n (w .lines-used) line))
+          | no x ↦ omega (arith, raised-other u i n (w .lines-used) line k x)
+        ]))
+        (leb-true (claims todaysShares (raised u i n)) journalSize room);
+  }
+
+  pub room-sound : Sound s
+  room-sound = record { as-many = w .as-many; within = w .within; texts = w .texts; frames = w .frames; entries = w .entries; held = room-held }
+
+-- every state that a run leaves is intact
+pub sound-intact : (s : State) → Sound s → Intact s
+sound-intact s w = record {
+  as-many = w .as-many;
+  within = w .within;
+  texts = w .texts;
+  frames = w .frames;
+  journal = w .held .long;
+  lines-used = w .held .lines-used;
+  lines-serials = w .held .lines-serials;
+  serials = w .held .serials;
+  entries = w .entries;
+  whole = w .held .whole;
+}

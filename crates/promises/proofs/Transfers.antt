@@ -21,6 +21,7 @@ use Rattle.line.specs.Paper.{enq, eot}
 use Rattle.line.specs.declared.Line.{Line}
 use Rattle.line.specs.declared.Answer.the-variants.{Opened, Ended}
 use Rattle.journal.specs.Header.{entrySize}
+use Rattle.journal.specs.Entries.{Entry}
 use Rattle.journal.specs.Room.{todaysShares, fits, raised}
 use Rattle.journal.specs.Held.{Held}
 use Rattle.journal.specs.Runs.{State as Store}
@@ -34,14 +35,14 @@ use Rattle.gateway.specs.declared.Kind.the-variants.{Byte}
 use Rattle.gateway.proofs.Views.{own-parts}
 use Rattle.serial.specs.Serial.{event, final, Every}
 use Rattle.promises.specs.Machine.{State, Told, told, step, Parts, partsOf, storeOf, onEvent, Sound, May}
-use Rattle.promises.specs.Sending.{bytesOn, answersTo, replies, sending, sendingReplies, piecesOfAll, transfer, repliesToAll, transferReplies, newEntries, Messages, sizesOf, HasRoom, Delivers, Demand2}
+use Rattle.promises.specs.Sending.{bytesOn, answersTo, replies, sending, sendingReplies, piecesOfAll, transfer, repliesToAll, transferReplies, newEntries, Messages, sizesOf, HasRoom, Intact, Delivers, Demand2}
 use Rattle.promises.proofs.Sound.{ready as is-ready, event-answer, event-own, event-others, event-journal}
 use Rattle.promises.proofs.Kept.{keeps}
 use Rattle.promises.proofs.Runs.{stays-sound}
 use Rattle.promises.proofs.Feeding.{feed, ready}
 use Rattle.promises.proofs.Delivered.{Open, Going}
 use Rattle.promises.proofs.Walk.{numberAfter, Delivered, walk}
-use Rattle.promises.proofs.Rooms.{room-first, room-then, storedAll, stored-append, room-before, room-after, messages-both, held-all}
+use Rattle.promises.proofs.Rooms.{room-first, room-then, storedAll, stored-append, room-before, room-after, messages-both, held-all, room-held, room-sound}
 
 -- ---- bytes on one line
 
@@ -240,52 +241,57 @@ module _ (i : ℕ) (h : i < lines) where
 
   -- ---- the promises
 
-  delivers : (s : State) (w : Sound s) (bs : List ℕ) (ts : List Told) (ms : List (List ℕ)) (P : Line → Type 0) → Went s i bs ts ms P → Messages ms → HasRoom s i ms → Delivers s i bs ts ms (w .entries)
-  delivers s w bs ts ms P x are room = record {
+  delivers : (s : State) (es : List Entry) → Held todaysShares (s .gateway .ledger) (s .memory .journal) es → (bs : List ℕ) (ts : List Told) (ms : List (List ℕ)) (P : Line → Type 0)
+      → Went s i bs ts ms P → Messages ms → HasRoom s i ms → Delivers s i bs ts ms es
+  delivers s es held bs ts ms P x are room = record {
     answered = x .answers;
     held =
-        subst (λ (j : Store). Held todaysShares (j .ledger) (j .journal) (w .entries ++ newEntries (s .gateway .ledger) i ms)) (sym (x .store))
-        (held-all i h ms (storeOf s) (w .entries) (w .held) are room);
+        subst (λ (j : Store). Held todaysShares (j .ledger) (j .journal) (es ++ newEntries (s .gateway .ledger) i ms)) (sym (x .store))
+        (held-all i h ms (storeOf s) es held are room);
     others = x .others;
   }
 
-  module _ (s : State) (w : Sound s) (fresh : lineAt (s .gateway) i ≡ freshLine) where
-    -- a message that is cut and sent to a fresh line, with room for it: 1, then 0 to each byte within a frame, 2 to each frame but the last and 4 to the last;
-    -- it is stored byte for byte, once, under the line's next serial
-    send-one : (m : List ℕ) → isMessage standard m ≡ true → HasRoom s i (m ∷ []) → Delivers s i (sending m) (sendingReplies m) (m ∷ []) (w .entries)
+  module _ (s : State) (a : Intact s) (fresh : lineAt (s .gateway) i ≡ freshLine) where
+    send-one : (m : List ℕ) → isMessage standard m ≡ true → HasRoom s i (m ∷ []) → Delivers s i (sending m) (sendingReplies m) (m ∷ []) (a .entries)
     unfolding cutOf
     send-one m message room =
-        let a = opening s w fresh in
+        let w = room-sound s a i h (m ∷ []) room in
+        let o = opening s w fresh in
         let s₁ = final step s (bytesOn i (enq ∷ [])) in
-        let room-then = ap (λ (j : Store). fits todaysShares (raised (j .ledger .used) i (sizesOf (m ∷ [])))) (a .store) ∙ room in
-        let first = room-first todaysShares (s₁ .gateway .ledger .used) i (entrySize (length m)) 0 (a .sound .held .lines-used) h room-then in
-        let b = one-message s₁ (a .sound) firstNumber (a .line) m message first in
-        let ab = went-on s i (enq ∷ []) (framesFrom firstNumber (piecesOf frameLimit m)) (told Opened [] ∷ []) (replies (piecesOf frameLimit m)) [] (m ∷ []) _ _ a b in
-        delivers s w (sending m) (sendingReplies m) (m ∷ []) _ ab (message, tt) room
+        let room-then = ap (λ (j : Store). fits todaysShares (raised (j .ledger .used) i (sizesOf (m ∷ [])))) (o .store) ∙ room in
+        let first = room-first todaysShares (s₁ .gateway .ledger .used) i (entrySize (length m)) 0 (o .sound .held .lines-used) h room-then in
+        let b = one-message s₁ (o .sound) firstNumber (o .line) m message first in
+        let ob = went-on s i (enq ∷ []) (framesFrom firstNumber (piecesOf frameLimit m)) (told Opened [] ∷ []) (replies (piecesOf frameLimit m)) [] (m ∷ []) _ _ o b in
+        delivers s (a .entries) (room-held s a i h (m ∷ []) room) (sending m) (sendingReplies m) (m ∷ []) _ ob (message, tt) room
 
     -- any number of messages in one transfer
-    pub transferred : (ms : List (List ℕ)) → Messages ms → HasRoom s i ms → Delivers s i (transfer ms) (transferReplies ms) ms (w .entries)
-    transferred ms are room = delivers s w (transfer ms) (transferReplies ms) ms _ (whole-transfer ms s w fresh are room) are room
+    pub transferred : (ms : List (List ℕ)) → Messages ms → HasRoom s i ms → Delivers s i (transfer ms) (transferReplies ms) ms (a .entries)
+    transferred ms are room =
+        let w = room-sound s a i h ms room in
+        delivers s (a .entries) (room-held s a i h ms room) (transfer ms) (transferReplies ms) ms _ (whole-transfer ms s w fresh are room) are room
 
     -- and in two transfers, one after the other
     pub transferred-twice : (ms ns : List (List ℕ)) → Messages ms → Messages ns → HasRoom s i (ms ++ ns)
-        → Delivers s i (transfer ms ++ transfer ns) (transferReplies ms ++ transferReplies ns) (ms ++ ns) (w .entries)
+        → Delivers s i (transfer ms ++ transfer ns) (transferReplies ms ++ transferReplies ns) (ms ++ ns) (a .entries)
     transferred-twice ms ns are are′ room =
-        let a = whole-transfer ms s w fresh are (room-before i ms ns (storeOf s) (w .held .lines-used) h room) in
+        let w = room-sound s a i h (ms ++ ns) room in
+        let x = whole-transfer ms s w fresh are (room-before i ms ns (storeOf s) (a .lines-used) h room) in
         let room-left =
-        ap (λ (j : Store). fits todaysShares (raised (j .ledger .used) i (sizesOf ns))) (a .store)
-        ∙ room-after i ms ns (storeOf s) (w .held .lines-used) h room in
-        let b = whole-transfer ns (final step s (bytesOn i (transfer ms))) (a .sound) (a .line) are′ room-left in
-        delivers s w (transfer ms ++ transfer ns) (transferReplies ms ++ transferReplies ns) (ms ++ ns) _
-        (went-on s i (transfer ms) (transfer ns) (transferReplies ms) (transferReplies ns) ms ns _ _ a b) (messages-both ms ns are are′) room
+        ap (λ (j : Store). fits todaysShares (raised (j .ledger .used) i (sizesOf ns))) (x .store)
+        ∙ room-after i ms ns (storeOf s) (a .lines-used) h room in
+        let y = whole-transfer ns (final step s (bytesOn i (transfer ms))) (x .sound) (x .line) are′ room-left in
+        delivers s (a .entries) (room-held s a i h (ms ++ ns) room) (transfer ms ++ transfer ns) (transferReplies ms ++ transferReplies ns) (ms ++ ns) _
+        (went-on s i (transfer ms) (transfer ns) (transferReplies ms) (transferReplies ns) ms ns _ _ x y) (messages-both ms ns are are′) room
 
     -- two messages, one after the other, in one transfer and in two: stored in order, once each
     module _ (m n : List ℕ) (m-is : isMessage standard m ≡ true) (n-is : isMessage standard n ≡ true) (room : HasRoom s i (m ∷ n ∷ [])) where
-      pub in-one-transfer : Delivers s i (transfer (m ∷ n ∷ [])) (transferReplies (m ∷ n ∷ [])) (m ∷ n ∷ []) (w .entries)
+      pub in-one-transfer : Delivers s i (transfer (m ∷ n ∷ [])) (transferReplies (m ∷ n ∷ [])) (m ∷ n ∷ []) (a .entries)
       in-one-transfer = transferred (m ∷ n ∷ []) (m-is, (n-is, tt)) room
 
-      pub in-two-transfers : Delivers s i (transfer (m ∷ []) ++ transfer (n ∷ [])) (transferReplies (m ∷ []) ++ transferReplies (n ∷ [])) (m ∷ n ∷ []) (w .entries)
+      pub in-two-transfers : Delivers s i (transfer (m ∷ []) ++ transfer (n ∷ [])) (transferReplies (m ∷ []) ++ transferReplies (n ∷ [])) (m ∷ n ∷ []) (a .entries)
       in-two-transfers = transferred-twice (m ∷ []) (n ∷ []) (m-is, tt) (n-is, tt) room
 
+-- a message that is cut and sent to a fresh line, with room for it: 1, then 0 to each byte within a frame, 2 to each frame but the last and 4 to the last;
+-- it is stored byte for byte, once, under the line's next serial
 pub sent : Demand2 step
-sent i h s w fresh m message room = send-one i h s w fresh m message room
+sent i h s a fresh m message room = send-one i h s a fresh m message room

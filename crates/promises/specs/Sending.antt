@@ -5,19 +5,21 @@ use mathlib.Core.Path.{_≡_}
 use mathlib.Core.Logic.{_≢_}
 use mathlib.Core.Bool.{true}
 use mathlib.Core.List.{List, [], _∷_, _++_, map}
-use lib.ListN.{length, replicate}
-use Rattle.memory.specs.Sizes.{lines, frameLimit}
+use mathlib.Core.Option.{some}
+use lib.ListN.{length, getD, replicate}
+use Rattle.memory.specs.Sizes.{lines, frameLimit, journalSize, unfinishedSize, framesSize}
 use Rattle.memory.specs.Parts.{splice}
 use Rattle.record.specs.Delimiters.{standard}
 use Rattle.record.specs.Faults.{isMessage}
 use Rattle.cutting.specs.Pieces.{Piece, piecesOf}
 use Rattle.cutting.specs.Frames.{firstNumber, framesFrom, cutOf}
-use Rattle.line.specs.Line.{freshLine}
+use Rattle.line.specs.Line.{freshLine, withinLimits}
 use Rattle.line.specs.Paper.{enq, eot}
 use Rattle.line.specs.declared.Answer.{Answer}
 use Rattle.line.specs.declared.Answer.the-variants.{Nothing, Opened, Accepted, Stored, Ended, Taken}
-use Rattle.journal.specs.Header.{entrySize}
+use Rattle.journal.specs.Header.{serialCount, entrySize}
 use Rattle.journal.specs.Entries.{Entry}
+use Rattle.journal.specs.Chain.{chain}
 use Rattle.journal.specs.Room.{todaysShares, fits, raised}
 use Rattle.journal.specs.Storage.{newEntry, grown}
 use Rattle.journal.specs.Held.{Held}
@@ -25,7 +27,7 @@ use Rattle.journal.specs.declared.Ledger.{Ledger}
 use Rattle.gateway.specs.Events.{lineAt}
 use Rattle.gateway.specs.declared.Kind.the-variants.{Byte}
 use Rattle.serial.specs.Serial.{event, taking, annotate, final, Every}
-use Rattle.promises.specs.Machine.{State, Told, told, GatewayItem, step, partsOf, Sound}
+use Rattle.promises.specs.Machine.{State, Told, told, GatewayItem, step, partsOf}
 
 -- bytes that come on line i, one behind the other
 abbrev pub bytesOn : ℕ → List ℕ → List GatewayItem
@@ -89,6 +91,19 @@ sizesOf (m ∷ ms) = entrySize (length m) + sizesOf ms
 abbrev pub HasRoom : State → ℕ → List (List ℕ) → Type 0
 HasRoom s i ms = fits todaysShares (raised (s .gateway .ledger .used) i (sizesOf ms)) ≡ true
 
+-- a gateway whose lines are in any state within their limits, with memory of the right sizes and a whole journal that holds these entries
+pub record Intact (s : State) : Type 0 where
+  pub as-many : length (s .gateway .lines) ≡ lines
+  pub within : (i : ℕ) → i < lines → withinLimits (lineAt (s .gateway) i) ≡ true
+  pub texts : length (s .memory .unfinished) ≡ unfinishedSize
+  pub frames : length (s .memory .frames) ≡ framesSize
+  pub journal : length (s .memory .journal) ≡ journalSize
+  pub lines-used : length (s .gateway .ledger .used) ≡ lines
+  pub lines-serials : length (s .gateway .ledger .serials) ≡ lines
+  pub serials : (i : ℕ) → i < lines → getD (s .gateway .ledger .serials) i 0 < serialCount
+  pub entries : List Entry
+  pub whole : chain (s .gateway .ledger) (s .memory .journal) ≡ some entries
+
 -- the bytes bs on line i, from a state whose journal holds the entries es, get these answers; the journal then holds es and, behind them, one entry for each of
 -- the texts ms; and every other line has what it had
 pub record DeliversBy (f : Runner) (s : State) (i : ℕ) (bs : List ℕ) (answers : List Told) (ms : List (List ℕ)) (es : List Entry) : Type 0 where
@@ -99,10 +114,10 @@ pub record DeliversBy (f : Runner) (s : State) (i : ℕ) (bs : List ℕ) (answer
 abbrev pub Delivers : State → ℕ → List ℕ → List Told → List (List ℕ) → List Entry → Type 0
 Delivers s i bs answers ms es = DeliversBy step s i bs answers ms es
 
--- Demand 2, of any runner: a message that is cut and sent to a fresh line, the gateway in any other state that a run leaves, with room for it
+-- Demand 2, of any runner: a message that is cut and sent to a fresh line, whatever the other lines are at, with room for it
 abbrev pub Demand2 : Runner → Type 0
 Demand2 f =
-    (i : ℕ) → i < lines → (s : State) (w : Sound s) → lineAt (s .gateway) i ≡ freshLine → (m : List ℕ) → isMessage standard m ≡ true → HasRoom s i (m ∷ [])
+    (i : ℕ) → i < lines → (s : State) (w : Intact s) → lineAt (s .gateway) i ≡ freshLine → (m : List ℕ) → isMessage standard m ≡ true → HasRoom s i (m ∷ [])
     → DeliversBy f s i (sending m) (sendingReplies m) (m ∷ []) (w .entries)
 
 -- a taking from line i into the buffer b gives the text m with this serial: both its length and the serial are answered, it stands at the start of the buffer,
