@@ -2,6 +2,7 @@
 //   = TITLE     a fresh gateway, memory of the right sizes, all bytes 0;   # TEXT   nothing
 //   B L HEX, A L N      bytes that come on line L; the byte 41 N times
 //   S L N, T L N        N seconds on line L; a taking from it with a buffer of N bytes
+//   C L NNN HEX         no event: the text that the digits spell (- spells none) is cut into a buffer of NNN bytes
 // and for states that no run leaves:
 //   J 0 N, K 0 N, L 0 N     how many bytes of the journal, the unfinished text, the frames are lent
 //   P D N, I 0 N            D is added to the journal's byte N; N bytes are in use
@@ -125,6 +126,43 @@ fn take(run: Run, line: u8, n: usize, j: &mut [u8], u: &[u8], f: &[u8], out: &mu
     next
 }
 
+// A cutting names no line: the record of one is shown, and stays.
+fn cut(run: Run, line: u8, words: &[u8], j: &[u8], u: &[u8], f: &[u8], out: &mut [u8]) -> Run {
+    if words.len() < 4 {
+        return run;
+    }
+    let n = decimal(&words[..3]);
+    if out.len() < n {
+        return run;
+    }
+    let mut text = [0u8; 100];
+    let length = spell(&words[4..], &mut text);
+    let framed = cutting::cut(memory::FRAME_LIMIT, &text[..length], &mut out[..n]);
+    let mut next = run;
+    next.quiet = 0;
+    showing::framed(run.quiet, line, framed);
+    showing::side(b" <", run.gateway, line);
+    showing::side(b" >", next.gateway, line);
+    showing::memories(j, u, f);
+    showing::buffer(out);
+    next
+}
+
+// Writes the bytes that the hex digits spell, as many as fit, and gives their number.
+fn spell(hex: &[u8], out: &mut [u8]) -> usize
+    ensures { λ r. ⌜ r ≤ length (now (out .exit)) ⌝ }
+{
+    let mut n = 0;
+    while n < out.len() {
+        if hex.len() < n * 2 + 2 {
+            return n;
+        }
+        out[n] = ((digit(hex[n * 2]) * 16 + digit(hex[n * 2 + 1])) % 256) as u8;
+        n += 1;
+    }
+    n
+}
+
 fn step(run: Run, words: &[u8], j: &mut [u8], u: &mut [u8], f: &mut [u8], out: &mut [u8]) -> Run {
     if words.len() < 4 {
         return run;
@@ -143,6 +181,9 @@ fn step(run: Run, words: &[u8], j: &mut [u8], u: &mut [u8], f: &mut [u8], out: &
     }
     if letter == b'T' {
         return take(run, line, n, j, u, f, out);
+    }
+    if letter == b'C' {
+        return cut(run, line, &words[4..], j, u, f, out);
     }
     showing::show(words);
     showing::show(b"\n");

@@ -1,5 +1,6 @@
 // What is printed.
 ghost use Prim.Native.Nat.{_<_};
+use cutting::Framed;
 use gateway::Gateway;
 use line::Answer;
 use line::Last;
@@ -37,6 +38,23 @@ pub fn answer(quiet: u64, line: u8, answer: Answer) {
         }
         _ => (),
     }
+}
+
+// What a cutting gives, in the same form: the paper's number, or how long the frames are.
+pub fn framed(quiet: u64, line: u8, framed: Framed) {
+    match framed {
+        Framed::NoMessage => answer(quiet, line, Answer::Malformed),
+        Framed::NoRoom => answer(quiet, line, Answer::NotFitting),
+        Framed::Length(n) => done(quiet, line, n),
+    }
+}
+
+fn done(quiet: u64, line: u8, n: usize) {
+    show(b"x");
+    io::print_decimal(1, quiet);
+    word(line as u64);
+    show(b": cut");
+    word(n as u64);
 }
 
 // The line's record and the ledger: the bytes in use, the line's used count and next serial.

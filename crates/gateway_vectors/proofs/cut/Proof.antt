@@ -1,0 +1,44 @@
+-- `cut` is safe and ends: what it lends of its slices lies within them.
+-- Assumes nothing.
+use native.Mathlib.Omega.{arith}
+use lib.ListN.{length-take}
+use borrow.Author.Needs.{needs}
+use Rattle.gateway_vectors.proofs.cut.Statement.{statement}
+use Rattle.gateway_vectors.proofs.cut.Tie as tie
+
+slice-aggregate-decimal : tie.Need-slice-aggregate-decimal
+slice-aggregate-decimal c = rw length-take (omega arith)
+
+slice-aggregate-cut : tie.Need-slice-aggregate-cut
+slice-aggregate-cut c = rw length-take (omega arith)
+
+slice-aggregate-cut-2 : tie.Need-slice-aggregate-cut-2
+slice-aggregate-cut-2 c = rw length-take (omega arith)
+
+pub cut-spec : {M : Type 1} → statement M
+cut-spec =
+    tie.close
+    (tie.spec
+    (λ c. search needs)
+    slice-aggregate-decimal
+    (λ c κs. search needs)
+    (λ c. search needs)
+    (λ c. search needs)
+    (λ c. search needs)
+    (λ c. search needs)
+    (λ c. search needs)
+    (λ c κs. search needs)
+    (λ c. search needs)
+    slice-aggregate-cut
+    (λ c. search needs)
+    slice-aggregate-cut-2
+    (λ c κs. search needs)
+    (λ c κs. search needs)
+    (λ c. search needs)
+    (λ c κs. search needs)
+    (λ c. search needs)
+    (λ c κs. search needs)
+    (λ c κs. search needs)
+    (λ c κs. search needs)
+    (λ c. search needs)
+    (λ c. search needs))
