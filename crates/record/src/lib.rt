@@ -454,6 +454,7 @@ pub fn check(d: Delimiters, text: &[u8]) -> Checked
             }
         }
     }
+    // The walk steps over each CR, so it ends past the end where the last record has none.
     if text.len() < at {
         return Checked::Faulty(Fault::Unended, place);
     }
