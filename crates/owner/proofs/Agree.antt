@@ -7,7 +7,7 @@ use Prim.Native.Nat.{ℕ, suc, _+_, _≤_}
 use native.Mathlib.Omega.{arith}
 use native.Mathlib.Numerals.{add-one}
 use native.Mathlib.Nat.{add-zero}
-use lib.Dec.{ltb, lit≤}
+use lib.Dec.{eqb, ltb, lit≤}
 use lib.ListN.{length, getD, drop}
 use lib.Seq.{getD-drop, drop-drop}
 use borrow.Author.Tests.{le-ltb, ne-eqb}
@@ -82,6 +82,10 @@ by-most (Known Comment) = lit≤ tt
 by-most (Known Manufacturer) = lit≤ tt
 by-most Unknown = lit≤ tt
 
+-- an O right behind the P with number n + 1 belongs to it
+patient-owns : (n : ℕ) → suc n ≡ cond (eqb (n + 1) 0) 1 (n + 1)
+patient-owns n = rw (ne-eqb (n + 1) 0 (λ e. omega arith)) (sym (add-one n))
+
 -- the two owners agree for each type that may follow
 abbrev Agree : List ℕ → ℕ → Kind → Seen → Type 0
 Agree ts n t s = (j : Kind) → mayFollow t j ≡ true → nearest ts n (depthBy (Known j)) ≡ ownerBy s (Known j)
@@ -95,7 +99,7 @@ module _ (ts : List ℕ) (n : ℕ) (t : Kind) (s : Seen) (a : Agree ts n t s) wh
   agree Header j h g = let z : _≡_ {A = ℕ} 0 1 = never-head t h in absurd (omega arith)
   agree Patient Header h g = cc
   agree Patient Patient h g = a Patient (follows-patient t Patient h)
-  agree Patient Order h g = rw (ne-eqb (n + 1) 0 (λ e. omega arith)) (sym (add-one n))
+  agree Patient Order h g = patient-owns n
   agree Patient Result h g = cc
   agree Patient Query h g = a Patient (follows-patient t Patient h)
   agree Patient Terminator h g = a Terminator (follows-end t Patient h)

@@ -6,4 +6,7 @@ pub mod LastRecord
 pub mod Joined
 pub mod Messages
 pub mod Chain
+pub mod Head
+pub mod FirstRecord
+pub mod Walked
 pub mod OneOutcome

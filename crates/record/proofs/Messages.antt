@@ -92,7 +92,7 @@ known s t last k n h = by-tests (mayFollow (s .other) k) (placed last k) (eqb n 
     by-tests true false e g = let z : _≡_ {A = ℕ} 0 1 = cc in absurd (omega arith)
     by-tests false b e g = let z : _≡_ {A = ℕ} 0 1 = cc in absurd (omega arith)
 
-letter : (f : List ℕ) (k : Kind) → typeOf f ≡ Known k → (length f ≡ 1) × (kindOf (getD f 0 0) ≡ Known k)
+pub letter : (f : List ℕ) (k : Kind) → typeOf f ≡ Known k → (length f ≡ 1) × (kindOf (getD f 0 0) ≡ Known k)
 unfolding typeOf
 letter f k h = by-length (eqb (length f) 1) refl h
   where

@@ -1,12 +1,12 @@
 -- What a scan for a byte tells of records and fields.
 -- Assumes nothing.
-use mathlib.Core.Path.{_≡_, refl, ap, sym, _∙_}
+use mathlib.Core.Path.{_≡_, refl, ap, sym}
 use mathlib.Core.Bool.{Bool, true, false, cond}
 use mathlib.Core.List.{List, [], _∷_}
 use Prim.Native.Nat.{ℕ, suc, _+_, _-_, _<_, _≤_}
 use native.Mathlib.Omega.{arith}
 use native.Mathlib.Numerals.{add-one}
-use lib.ListN.{length, getD, take, drop, drop-of-length-le, length-drop}
+use lib.ListN.{length, getD, take, drop, length-drop}
 use lib.Seq.{take-all, length-take-le, getD-take}
 use Rattle.memory.specs.Tests.{is, find}
 use Rattle.memory.proofs.Tests.{find-le}
@@ -54,13 +54,3 @@ before-length b s = length-take-le (find (is b) s) s (find-le (is b) s)
 -- the byte of a first field of one byte
 pub before-first : (b : ℕ) (s : List ℕ) → find (is b) s ≡ 1 → getD (before b s) 0 0 ≡ getD s 0 0
 before-first b s e = rw e (getD-take 1 s 0 0 (omega arith))
-
--- no second field: the text ends before a b
-pub behind-none : (b : ℕ) (s : List ℕ) → length s ≤ find (is b) s → behind b s ≡ []
-behind-none b s h = let k : length s ≤ find (is b) s + 1 = omega arith in drop-of-length-le s k
-
--- the second field, as two scans find it
-pub second : (b : ℕ) (s : List ℕ) (e t : ℕ) → e ≡ find (is b) s → t ≡ find (is b) (tailAt s (e + 1)) → take t (tailAt s (e + 1)) ≡ before b (behind b s)
-second b s e t h k =
-    let p : tailAt s (e + 1) ≡ behind b s = rest-part s (e + 1) ∙ ap (λ (n : ℕ). drop (n + 1) s) h in
-    rw (k, p)

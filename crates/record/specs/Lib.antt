@@ -4,3 +4,4 @@ pub mod Fields
 pub mod Records
 pub mod Numbers
 pub mod Faults
+pub mod Progress

@@ -1,7 +1,7 @@
 // E1394 records: types, what may follow what, sequence numbers, and whether a text is a message.
 ghost use mathlib.Core.Path.{_≡_};
 ghost use mathlib.Core.List.{_++_};
-ghost use lib.ListN.{length};
+ghost use lib.ListN.{length, take, drop};
 ghost use Rattle.memory.specs.Tests.{is, find};
 ghost use Rattle.record.specs.Delimiters.{standard};
 ghost use Rattle.record.specs.Kinds.{kindOf, typeOf, mayFollow, rowOf, isTerminator};
@@ -10,7 +10,7 @@ ghost use Rattle.record.specs.Records.{records, lastStart, endsWithL};
 ghost use Rattle.record.specs.Numbers.{numberOf, countOf, restarted, counted};
 ghost use Rattle.record.specs.Faults.{placed, kindStep, recordStep, isHeader, headerStep, fault, isFaultless, isMessage};
 
-mod walk; // walk.rt: the records of a text, front to back
+mod walk; // walk.rt: one record of a text, and what the records up to it have led to
 
 // The byte that ends a record.
 pub const CR: u8 = 0x0d;
@@ -79,6 +79,19 @@ pub enum Fault {
 enum Step {
     Fine(Counts),
     Wrong(Fault),
+}
+
+// A record's bytes: one is not allowed, or they end here, at the CR or the end of the text.
+enum Scanned {
+    NotText,
+    End(usize),
+}
+
+// What the records of a text have led to so far: none was met; the counts; or the first fault and the place of its record.
+enum Progress {
+    Start,
+    Going(Counts),
+    Stopped(Fault, usize),
 }
 
 // What the check of a text finds: a message; no text at all, since it is too long or has a byte that is not allowed; or its first
@@ -291,11 +304,21 @@ fn is_placed(last: bool, k: Kind) -> bool
     if last { is_terminator(k) } else { true }
 }
 
-// The type that field 1 names.
+// The index of the first byte b among the first k bytes; where there is none, k, or the length if that is less.
+fn index_within(text: &[u8], b: u8, k: usize) -> usize
+    ensures { λ r. ⌜ r ≡ find (is b) (take k (now (text .entry))) ⌝ }
+{
+    if text.len() <= k {
+        return index_of(text, b);
+    }
+    index_of(&text[..k], b)
+}
+
+// The type that field 1 names. It is one byte, so two bytes tell.
 fn type_of(b: u8, rec: &[u8]) -> Letter
     ensures { λ r. ⌜ r ≡ typeOf (fieldOf b 1 (now (rec .entry))) ⌝ }
 {
-    let e = index_of(rec, b);
+    let e = index_within(rec, b, 2);
     if e != 1 {
         return Letter::Unknown;
     }
@@ -303,18 +326,16 @@ fn type_of(b: u8, rec: &[u8]) -> Letter
     kind_of(first)
 }
 
-// The number in field 2, or 0.
+// The number in field 2, where field 1 is one byte, or 0. A number has at most six digits, so seven bytes tell.
 fn sequence_of(b: u8, rec: &[u8]) -> u32
-    ensures { λ r. ⌜ r ≡ numberOf (fieldOf b 2 (now (rec .entry))) ⌝ }
+    ensures { λ r. ⌜ r ≡ numberOf (fieldOf b 1 (drop 2 (now (rec .entry)))) ⌝ }
 {
-    let e = index_of(rec, b);
-    if rec.len() <= e {
+    if rec.len() <= 2 {
         return 0;
     }
-    let from = e + 1;
-    let rest = &rec[from..];
-    let to = index_of(rest, b);
-    number(&rest[..to])
+    let rest = &rec[2..];
+    let e = index_within(rest, b, 7);
+    number(&rest[..e])
 }
 
 // What a record of a known type with number n leads to.
@@ -343,9 +364,8 @@ fn check_record(d: Delimiters, s: Counts, last: bool, rec: &[u8]) -> Step
 {
     let b = d.field;
     let t = type_of(b, rec);
-    let n = sequence_of(b, rec);
     match t {
-        Letter::Known(k) => check_kind(s, last, k, n),
+        Letter::Known(k) => check_kind(s, last, k, sequence_of(b, rec)),
         Letter::Unknown => Step::Wrong(Fault::UnknownType),
     }
 }
@@ -408,25 +428,37 @@ pub fn count_records(text: &[u8]) -> usize
     n
 }
 
-// Whether a text is a message by these delimiters, and the first fault of one that is not.
+// Whether a text is a message by these delimiters, and the first fault of one that is not. A byte that is not allowed goes before
+// every fault, so the walk goes on to the end of the text.
 pub fn check(d: Delimiters, text: &[u8]) -> Checked
     ensures { λ r. ⌜ r ≡ fault d (now (text .entry)) ⌝ }
 {
-    let n = text.len();
-    if memory::MESSAGE_LIMIT < n {
+    if memory::MESSAGE_LIMIT < text.len() {
         return Checked::NotText;
     }
-    if !frame::all_allowed(text) {
-        return Checked::NotText;
+    let mut progress = Progress::Start;
+    let mut at: usize = 0;
+    let mut place: usize = 0;
+    while at < text.len() {
+        let tail = &text[at..];
+        let scanned = walk::scan(tail);
+        match scanned {
+            Scanned::End(e) => {
+                place += 1;
+                let last = tail.len() <= e + 1;
+                progress = walk::go_on(d, progress, place, last, &tail[..e]);
+                at = at + (e + 1);
+            }
+            Scanned::NotText => {
+                return Checked::NotText;
+            }
+        }
     }
-    if n == 0 {
-        return Checked::Faulty(Fault::NoHeader, 1);
-    }
-    if text[n - 1] != CR {
-        let place = count_records(text);
+    // The walk steps over each CR, so it ends past the end where the last record has none.
+    if text.len() < at {
         return Checked::Faulty(Fault::Unended, place);
     }
-    walk::check_all(d, text)
+    walk::ended(progress)
 }
 
 fn is_faultless(c: Checked) -> bool

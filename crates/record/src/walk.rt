@@ -1,53 +1,63 @@
-// The records of a text, front to back: each is checked as it is met, and the first fault ends the walk.
+// One record of a text, and what the records up to it have led to.
 ghost use mathlib.Core.Path.{_≡_};
-ghost use Prim.Native.Nat.{_<_};
-ghost use lib.ListN.{length};
-ghost use Rattle.record.specs.Records.{records};
-ghost use Rattle.record.specs.Faults.{restFault, recordsFault};
+ghost use mathlib.Core.Bool.{cond};
+ghost use Rattle.memory.specs.Tests.{is, find, all};
+ghost use Rattle.frame.specs.Control.{cr};
+ghost use Rattle.frame.specs.Allowed.{allowed};
+ghost use Rattle.record.specs.Fields.{before};
+ghost use Rattle.record.specs.Progress.{reached, further, endedAs};
 use crate::Checked;
-use crate::Counts;
 use crate::Delimiters;
+use crate::Fault;
+use crate::Progress;
+use crate::Scanned;
 use crate::Step;
 
-// The records behind the first.
-fn check_rest(d: Delimiters, start: Counts, text: &[u8]) -> Checked
-    ensures { λ r. ⌜ r ≡ restFault d start 2 (records (now (text .entry))) ⌝ }
+// The scan of a text's first record: each byte is looked at once, for the CR and for what is not allowed.
+pub fn scan(text: &[u8]) -> Scanned
+    ensures { λ r. ⌜ r ≡ cond (all allowed (before cr (now (text .entry)))) (Scanned.End (find (is cr) (now (text .entry)))) Scanned.NotText ⌝ }
 {
-    let mut s = start;
-    let mut at: usize = 0;
-    let mut place: usize = 2;
-    while at < text.len() {
-        let tail = &text[at..];
-        let e = crate::index_of(tail, crate::CR);
-        let last = tail.len() <= e + 1;
-        let step = crate::check_record(d, s, last, &tail[..e]);
-        match step {
-            Step::Fine(next) => {
-                s = next;
-            }
-            Step::Wrong(f) => {
-                return Checked::Faulty(f, place);
-            }
+    let mut i: usize = 0;
+    while i < text.len() {
+        let b = text[i];
+        if b == crate::CR {
+            return Scanned::End(i);
         }
-        at = at + (e + 1);
-        place += 1;
+        if !frame::is_allowed(b) {
+            return Scanned::NotText;
+        }
+        i += 1;
     }
-    Checked::Message
+    Scanned::End(i)
 }
 
-// All records of a text that is not empty.
-pub fn check_all(d: Delimiters, text: &[u8]) -> Checked
-    requires { ⌜ 0 < length (now text) ⌝ }
-    ensures { λ r. ⌜ r ≡ recordsFault d (records (now (text .entry))) ⌝ }
+fn reach(step: Step, place: usize) -> Progress
+    ensures { λ r. ⌜ r ≡ reached step place ⌝ }
 {
-    let e = crate::index_of(text, crate::CR);
-    let last = text.len() <= e + 1;
-    let step = crate::check_header(d, last, &text[..e]);
     match step {
-        Step::Fine(s) => {
-            let from = e + 1;
-            check_rest(d, s, &text[from..])
-        }
-        Step::Wrong(f) => Checked::Faulty(f, 1),
+        Step::Fine(s) => Progress::Going(s),
+        Step::Wrong(f) => Progress::Stopped(f, place),
+    }
+}
+
+// One record more, the last one or not. The first fault stays.
+pub fn go_on(d: Delimiters, progress: Progress, place: usize, last: bool, rec: &[u8]) -> Progress
+    ensures { λ r. ⌜ r ≡ further d progress place last (now (rec .entry)) ⌝ }
+{
+    match progress {
+        Progress::Start => reach(crate::check_header(d, last, rec), place),
+        Progress::Going(s) => reach(crate::check_record(d, s, last, rec), place),
+        Progress::Stopped(f, n) => Progress::Stopped(f, n),
+    }
+}
+
+// What the check finds at the end of a text that is ended: one without a record has no header.
+pub fn ended(progress: Progress) -> Checked
+    ensures { λ r. ⌜ r ≡ endedAs progress ⌝ }
+{
+    match progress {
+        Progress::Start => Checked::Faulty(Fault::NoHeader, 1),
+        Progress::Going(_) => Checked::Message,
+        Progress::Stopped(f, n) => Checked::Faulty(f, n),
     }
 }

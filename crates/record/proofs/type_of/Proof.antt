@@ -1,35 +1,44 @@
--- `record::type_of` meets its contract: field 1 has one byte exactly if the first delimiter stands at index 1.
+-- `record::type_of` meets its contract: field 1 has one byte exactly if the first delimiter stands at index 1, and two bytes tell that.
 -- Assumes nothing.
-use mathlib.Core.Path.{_≡_, sym, _∙_}
+use mathlib.Core.Path.{_≡_, _∙_}
+use Prim.Native.Nat.{min}
 use native.Mathlib.Omega.{arith}
 use borrow.Author.Tests.{ne-eqb}
 use Rattle.memory.specs.Tests.{is, find}
 use Rattle.memory.proofs.Tests.{find-le}
 use Rattle.record.specs.Kinds.{typeOf}
 use Rattle.record.proofs.Scans.{before-length, before-first}
+use Rattle.record.proofs.Head.{find-window}
 use borrow.Author.Needs.{needs}
 use Rattle.record.proofs.type_of.Statement.{statement}
 use Rattle.record.proofs.type_of.Tie as tie
 
-index-of-requires : tie.Need-index-of-requires
-index-of-requires c κs = search needs
+windowed : (c : tie.After-index-within) → c .index-within .result ≡ min 2 (find (is (c .before .before .args .b)) (c .before .before .args .rec .now))
+windowed c = let a = c .before .before .args in c .index-within .ensures ∙ find-window (is (a .b)) 2 (a .rec .now)
+
+index-within-requires : tie.Need-index-within-requires
+index-within-requires c κs = search needs
 
 returns : tie.Need-returns
 unfolding typeOf
-returns c = let a = c .before .before .before .args in rw (before-length (a .b) (a .rec .now), ← c .before .index-of .ensures, ne-eqb _ _ (c .if1 .taken))
+returns c =
+    let a = c .before .before .before .args in
+    rw (before-length (a .b) (a .rec .now), ne-eqb (find (is (a .b)) (a .rec .now)) 1 (λ e. c .if1 .taken (omega (arith, windowed (c .before), e))))
 
 shared-slice-read-first : tie.Need-shared-slice-read-first
-shared-slice-read-first c = let a = c .before .before .before .before .args in omega (arith, find-le (is (a .b)) (a .rec .now), c .before .before .index-of .ensures, c .before .if1 .left)
+shared-slice-read-first c =
+    let a = c .before .before .before .before .args in
+    omega (arith, find-le (is (a .b)) (a .rec .now), windowed (c .before .before), c .before .if1 .left)
 
 kind-of-requires : tie.Need-kind-of-requires
 kind-of-requires c κs = search needs
 
 returns-2 : tie.Need-returns-2
 unfolding typeOf
-returns-2 c = let a = c .before .before .before .before .before .args in
-    let one : find (is (a .b)) (a .rec .now) ≡ 1 = sym (c .before .before .before .index-of .ensures) ∙ c .before .before .if1 .left in
+returns-2 c =
+    let a = c .before .before .before .before .before .args in
+    let one : find (is (a .b)) (a .rec .now) ≡ 1 = omega (arith, windowed (c .before .before .before), c .before .before .if1 .left) in
     rw (before-length (a .b) (a .rec .now), before-first (a .b) (a .rec .now) one, one) (c .kind-of .ensures)
 
 pub type-of-spec : {M : Type 1} → statement M
-type-of-spec =
-    tie.close (tie.spec index-of-requires returns shared-slice-read-first kind-of-requires returns-2)
+type-of-spec = tie.close (tie.spec index-within-requires returns shared-slice-read-first kind-of-requires returns-2)
