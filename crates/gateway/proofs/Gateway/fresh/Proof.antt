@@ -5,7 +5,7 @@ use Rattle.gateway.proofs.Gateway.fresh.Statement.{statement}
 use Rattle.gateway.proofs.Gateway.fresh.Tie as tie
 
 returns : tie.Need-returns
-returns c = rw (c .before .fresh .ensures, c .fresh2 .ensures)
+returns c = cc
 
 pub fresh-spec : {M : Type 1} → statement M
 fresh-spec = tie.close (tie.spec (λ c κs. search needs) (λ c κs. search needs) returns)
