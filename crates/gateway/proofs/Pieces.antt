@@ -29,12 +29,14 @@ module _ (l : Line) (i n : ℕ) (u f : List ℕ) (ready : Ready l i u f) (fits :
   room = omega (arith, ready, fits, length-text)
 
   -- the part of the unfinished texts that was lent to the copier is back
-  pub text-written : (m b : List ℕ) (r : Bool) → m ≡ take (length u - (textStart i + l .joined)) (drop (textStart i + l .joined) u)
+  pub text-written : (at : ℕ) (m b : List ℕ) (r : Bool) → at ≡ textStart i + l .joined → m ≡ take (length u - at) (drop at u)
       → Copied m 0 (take (frameStart i + 1 + n - (frameStart i + 1)) (drop (frameStart i + 1) f)) r b
-      → take (textStart i + l .joined) u ++ (b ++ drop (length u - (textStart i + l .joined)) (drop (textStart i + l .joined) u)) ≡ withText l i n u f
-  text-written m b r e c =
+      → take at u ++ (b ++ drop (length u - at) (drop at u)) ≡ withText l i n u f
+  text-written at m b r p e c =
       let c₁ = rw (part-lent f (frameStart i + 1) n, lent-text l i u f ready n (fits .0)) at c in
-      copied-fits u (textStart i + l .joined) (frameText n (framesOf i f)) (lent-back u (textStart i + l .joined) (frameText n (framesOf i f)) m b r room e c₁) room .1
+      let here : at + length (frameText n (framesOf i f)) ≤ length u = omega (arith, room, p) in
+      copied-fits u at (frameText n (framesOf i f)) (lent-back u at (frameText n (framesOf i f)) m b r here e c₁) here .1
+      ∙ ap (λ (k : ℕ). splice u k (frameText n (framesOf i f))) p
 
 -- two texts copied one behind the other into a place that holds both
 pub both-copied : (z old new x y : List ℕ) (q r : Bool) → length old + length new ≤ length z → Copied z 0 old q x → Copied x (length old) new r y

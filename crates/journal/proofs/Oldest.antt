@@ -3,7 +3,7 @@
 use mathlib.Core.Path.{_≡_, refl, sym, ap, _∙_}
 use mathlib.Core.List.{List, [], _∷_, _++_}
 use mathlib.Core.Bool.{Bool, true, false, cond}
-use Prim.Native.Nat.{ℕ, _+_, _≤_}
+use Prim.Native.Nat.{ℕ, _+_, _≤_, _<_}
 use native.Mathlib.Omega.{arith}
 use lib.Dec.{eqb}
 use borrow.Author.Tests.{eq-eqb, ne-eqb, eqb-true}
@@ -40,47 +40,45 @@ total-oldest l es e fs q =
     let o : total l (e ∷ fs) ≡ size e + total l fs = rw (eq-eqb _ _ (from-line l es e fs q)) in
     omega (arith, t, o)
 
--- ---- one entry more behind those passed
+-- ---- how a walk finds it
 
--- an entry of the line: what stands before its oldest stays
-own-more : (b : Bool) (d : Entry) (ds es : List Entry) → ds ≡ es → cond b [] (d ∷ ds) ≡ cond b [] (d ∷ es)
-own-more b d ds es q = rw q
+-- where the first entry of line l stands, if the entries stand from `at` on; n where none is of that line
+abbrev pub placeIn : ℕ → ℕ → List Entry → ℕ → ℕ
+placeIn l at [] n = n
+placeIn l at (e ∷ es) n = cond (eqb (e .line) l) at (placeIn l (at + size e) es n)
 
-before-own : (l : ℕ) (es : List Entry) (e : Entry) → e .line ≡ l → before l (es ++ e ∷ []) ≡ before l es
-before-own l [] e q = rw (eq-eqb _ _ q)
-before-own l (d ∷ ds) e q = own-more (eqb (d .line) l) d (before l (ds ++ e ∷ [])) (before l ds) (before-own l ds e q)
+-- one entry more, of another line
+same-place : (b : Bool) (at x y : ℕ) → x ≡ y → cond b at x ≡ cond b at y
+same-place b at x y q = rw q
 
--- an entry of another line: the walk's place, if none of the line's is passed yet; otherwise the same
-other-more : (b : Bool) (d e : Entry) (ds es fs : List Entry) → sizes fs ≡ cond (eqb (sizes ds) (sizes es)) (sizes es + size e) (sizes ds)
-    → sizes (cond b [] (d ∷ fs)) ≡ cond (eqb (sizes (cond b [] (d ∷ ds))) (size d + sizes es)) (size d + sizes es + size e) (sizes (cond b [] (d ∷ ds)))
-other-more true d e ds es fs q =
-    let p = size-pos d in
-    rw (ne-eqb 0 (size d + sizes es) (λ x. omega arith))
-other-more false d e ds es fs q = same (eqb (sizes ds) (sizes es)) refl
-  where
-    same : (c : Bool) → eqb (sizes ds) (sizes es) ≡ c
-        → size d + sizes fs ≡ cond (eqb (size d + sizes ds) (size d + sizes es)) (size d + sizes es + size e) (size d + sizes ds)
-    same true t =
-        let x : sizes ds ≡ sizes es = eqb-true _ _ t in
-        let r : sizes fs ≡ sizes es + size e = rw t at q in
-        rw (eq-eqb (size d + sizes ds) (size d + sizes es) (omega arith)) (omega arith)
-    same false t =
-        let n : sizes ds ≡ sizes es → ⊥ = λ x. let z : _≡_ {A = Bool} true false = sym (eq-eqb _ _ x) ∙ t in let y : _≡_ {A = ℕ} 0 1 = cc in omega arith in
-        let r : sizes fs ≡ sizes ds = rw t at q in
-        rw (ne-eqb (size d + sizes ds) (size d + sizes es) (λ x. n (omega arith))) (omega arith)
+pub place-other : (l at : ℕ) (es : List Entry) (e : Entry) (n : ℕ) → (e .line ≡ l → ⊥) → placeIn l at (es ++ e ∷ []) n ≡ placeIn l at es n
+place-other l at [] e n q = rw (ne-eqb _ _ q)
+place-other l at (d ∷ ds) e n q = same-place (eqb (d .line) l) at _ _ (place-other l (at + size d) ds e n q)
 
-before-other : (l : ℕ) (es : List Entry) (e : Entry) → (e .line ≡ l → ⊥)
-    → sizes (before l (es ++ e ∷ [])) ≡ cond (eqb (sizes (before l es)) (sizes es)) (sizes es + size e) (sizes (before l es))
-before-other l [] e n = rw (ne-eqb _ _ n) (omega arith)
-before-other l (d ∷ ds) e n = other-more (eqb (d .line) l) d e (before l ds) ds (before l (ds ++ e ∷ [])) (before-other l ds e n)
+-- one more, where one of the line's is passed
+later-place : (b : Bool) (at x y n : ℕ) → ((y ≡ n → ⊥) → x ≡ y) → (cond b at y ≡ n → ⊥) → cond b at x ≡ cond b at y
+later-place true at x y n h q = refl
+later-place false at x y n h q = h q
 
--- the same as the walk's tests tell it
-module _ (l : ℕ) (es : List Entry) (e : Entry) where
-  pub stands-own : e .line ≡ l → sizes (before l es) ≡ sizes (before l (es ++ e ∷ []))
-  stands-own q = ap sizes (sym (before-own l es e q))
+pub place-later : (l at : ℕ) (es : List Entry) (e : Entry) (n : ℕ) → (placeIn l at es n ≡ n → ⊥) → placeIn l at (es ++ e ∷ []) n ≡ placeIn l at es n
+place-later l at [] e n q = absurd (q refl)
+place-later l at (d ∷ ds) e n q = later-place (eqb (d .line) l) at _ _ n (place-later l (at + size d) ds e n) q
 
-  pub stands-here : (e .line ≡ l → ⊥) → sizes (before l es) ≡ sizes es → sizes es + size e ≡ sizes (before l (es ++ e ∷ []))
-  stands-here n q = sym (before-other l es e n ∙ rw (eq-eqb _ _ q))
+-- the line's first
+first-place : (b : Bool) (at x y n m k : ℕ) → at < n → (y ≡ n → x ≡ at + m + k) → cond b at y ≡ n → cond b at x ≡ at + (m + k)
+first-place true at x y n m k p h q = absurd (omega arith)
+first-place false at x y n m k p h q = omega (arith, h q)
 
-  pub stands-gone : (e .line ≡ l → ⊥) → (sizes (before l es) ≡ sizes es → ⊥) → sizes (before l es) ≡ sizes (before l (es ++ e ∷ []))
-  stands-gone n q = sym (before-other l es e n ∙ rw (ne-eqb _ _ q))
+pub place-first : (l at : ℕ) (es : List Entry) (e : Entry) (n : ℕ) → e .line ≡ l → at + sizes es < n → placeIn l at es n ≡ n → placeIn l at (es ++ e ∷ []) n ≡ at + sizes es
+place-first l at [] e n q p r = rw (eq-eqb _ _ q) (omega arith)
+place-first l at (d ∷ ds) e n q p r =
+    first-place (eqb (d .line) l) at _ _ n (size d) (sizes ds) (omega arith) (place-first l (at + size d) ds e n q (omega arith)) r
+
+-- at the end of the walk
+end-place : (b : Bool) (at x : ℕ) (d : Entry) (ds : List Entry) → x ≡ at + size d + sizes ds → cond b at x ≡ at + sizes (cond b [] (d ∷ ds))
+end-place true at x d ds q = omega arith
+end-place false at x d ds q = omega arith
+
+pub place-end : (l at : ℕ) (es : List Entry) (n : ℕ) → n ≡ at + sizes es → placeIn l at es n ≡ at + sizes (before l es)
+place-end l at [] n q = q
+place-end l at (d ∷ ds) n q = end-place (eqb (d .line) l) at _ d (before l ds) (place-end l (at + size d) ds n (omega arith))

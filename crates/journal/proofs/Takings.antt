@@ -66,24 +66,24 @@ module _ (d : Ledger) (l at : ℕ) (j : List ℕ) (s : Stands d l at j) (h : Hea
       let e : leb (length (first (rest d at j) .text)) (length b) ≡ false = lt-leb (length (first (rest d at j) .text)) (length b) (omega (arith, text-long)) in
       record { result = rw e; after = rw e; lent = rw e }
 
-  pub taken-at : (b : List ℕ) (r₁ r₂ : Bool) (b′ j′ : List ℕ) (start n : ℕ) → start ≡ at + headSize (h .count) → n ≡ entrySize (h .count)
-      → h .count ≤ length b → Copied b 0 (take (start + h .count - start) (drop start j)) r₁ b′ → ClosedUp j at n (d .in_use) r₂ j′
+  pub taken-at : (b : List ℕ) (r₁ r₂ : Bool) (b′ j′ : List ℕ) (start n gap : ℕ) → start ≡ at + headSize (h .count) → n ≡ entrySize (h .count) → gap ≡ entrySize (h .count)
+      → h .count ≤ length b → Copied b 0 (take (start + h .count - start) (drop start j)) r₁ b′ → ClosedUp j at gap (d .in_use) r₂ j′
       → TakenAt d l at j b (record {
         ledger = record { in_use = d .in_use - n; used = set (d .used) l (getD (d .used) l 0 - n); serials = d .serials };
         answer = Taken (h .count) (h .serial);
       }) j′ b′
   unfolding takeAt shrunk without first
-  taken-at b r₁ r₂ b′ j′ start n e q k c₁ c₂ =
+  taken-at b r₁ r₂ b′ j′ start n gap e q g k c₁ c₂ =
       let x = bounds in
       let y : leb (length (first (rest d at j) .text)) (length b) ≡ true = le-leb (length (first (rest d at j) .text)) (length b) (omega (arith, text-long)) in
       let t : length (take (start + h .count - start) (drop start j)) ≡ h .count = ap length (sym (text-is start e)) ∙ text-long in
       let b-is : b′ ≡ splice b 0 (take (start + h .count - start) (drop start j)) = copied-fits b 0 (take (start + h .count - start) (drop start j)) c₁ (omega arith) .1 in
-      let j-is = closed-fits j at n (d .in_use) c₂ (x .inside) (omega (arith, x .fits, q)) .1 in
+      let j-is = closed-fits j at gap (d .in_use) c₂ (x .inside) (omega (arith, x .fits, g)) .1 in
       let z : first (rest d at j) .serial ≡ h .serial = rw head in
       let m : size (first (rest d at j)) ≡ n = x .long ∙ sym q in
       record {
         result = rw (y, m, text-long, z);
-        after = rw (y, m) j-is;
+        after = rw (y, x .long, ← g) j-is;
         lent = rw y (b-is ∙ ap (λ (u : List ℕ). splice b 0 u) (sym (text-is start e)));
       }
 

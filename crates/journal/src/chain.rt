@@ -13,13 +13,14 @@ struct Sums {
     oldest: usize,
 }
 
-// Walks the entries that s is made of. While none of the line's is passed, its oldest can stand no earlier than where the walk stands.
+// Walks the entries that s is made of. While none of the line's is passed, its oldest is taken to stand at the end.
 fn walk(s: &[u8], line: usize) -> Sums
     requires { ⌜ length (now s) ≤ journalSize ⌝ }
     ensures { λ r. ⌜ Walked (now (s .entry)) line (r .whole) (r .sums) (r .oldest) ⌝ }
 {
+    let none = s.len();
     let mut sums = [0u32; 8];
-    let mut oldest = 0;
+    let mut oldest = none;
     let mut at = 0;
     while at < s.len() {
         let h = crate::header::entry_at(&s[at..]);
@@ -36,9 +37,9 @@ fn walk(s: &[u8], line: usize) -> Sums
         sums[owner] += size as u32;
         let here = at;
         at += size;
-        if owner != line {
-            if oldest == here {
-                oldest = at;
+        if owner == line {
+            if oldest == none {
+                oldest = here;
             }
         }
     }

@@ -51,11 +51,12 @@ pub fn take_at(
             answer: crate::Took::BufferShort,
         };
     }
-    let size = crate::header::entry_size(count);
-    let start = at + crate::header::head_size(count);
+    let head = crate::header::head_size(count);
+    let start = at + head;
     let end = start + count;
     memory::copy(buffer, &journal[start..end]);
-    memory::close_up(journal, at, size, in_use);
+    memory::close_up(journal, at, head + count, in_use); // the header goes with its text
+    let size = crate::header::entry_size(count);
     let mut used = ledger.used;
     used[line] -= size as u32;
     let serials = ledger.serials;

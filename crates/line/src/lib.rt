@@ -124,7 +124,7 @@ impl Line {
             collected: 0,
             joined: 0,
             seconds: 0,
-            next: 1,
+            next: 1, // a transfer's frames count from 1
             last: Last::NoneYet,
             refusing: false,
         }

@@ -13,7 +13,7 @@ part-copy-end-2 : tie.Need-part-copy-end-2
 part-copy-end-2 c = omega (arith, within-facts (c .before .before .before .before .args .line) (c .before .before .before .before .pre .0 .within), c .before .before .before .before .pre)
 
 returns : tie.Need-returns
-returns c = let a = c .before .before .before .before .before .before .before .before .args in text-written (a .line) (a .i) (a .n) (now (a .unfinished)) (now (a .frames)) (c .before .before .before .before .before .before .before .before .pre .0) (c .before .before .before .before .before .before .before .before .pre .1) _ _ _ refl (c .before .before .copy .ensures)
+returns c = let a = c .before .before .before .before .before .before .before .before .args in text-written (a .line) (a .i) (a .n) (now (a .unfinished)) (now (a .frames)) (c .before .before .before .before .before .before .before .before .pre .0) (c .before .before .before .before .before .before .before .before .pre .1) _ _ _ _ (omega arith) refl (c .before .before .copy .ensures)
 
 pub write-text-spec : {M : Type 1} → statement M
 write-text-spec =

@@ -1,5 +1,5 @@
--- `chain::walk` meets its contract. The loop's invariant: the walk has passed the entries `done`, `sums` are their sums, and `oldest` is the room
--- of those before the line's first.
+-- `chain::walk` meets its contract. The loop's invariant: the walk has passed the entries `done`, `sums` are their sums, and `oldest` is the place
+-- of the line's first, or the end.
 -- Assumes nothing.
 use mathlib.Core.Path.{_≡_, refl, sym, ap, _∙_}
 use mathlib.Core.List.{List, [], _∷_, _++_}
@@ -13,7 +13,7 @@ use Rattle.memory.specs.Sizes.{lines}
 use Rattle.journal.specs.Room.{raised}
 use Rattle.journal.specs.Entries.{Entry, first, firstHead, entries, sizes, total, before}
 use Rattle.journal.proofs.Chains.{Passed, walk-start, walk-end, walk-none, walk-step, sums-more, Stepped, rest-of, no-some, some-inj, total-le}
-use Rattle.journal.proofs.Oldest.{stands-own, stands-here, stands-gone}
+use Rattle.journal.proofs.Oldest.{placeIn, place-other, place-later, place-first, place-end}
 use Rattle.journal.proofs.chain.walk.Statement.{statement}
 use Rattle.journal.proofs.chain.walk.Tie as tie
 
@@ -22,13 +22,13 @@ record Counted (s : List ℕ) (line : ℕ) (sums : List ℕ) (oldest at : ℕ) :
   walked : Passed s at done
   summed : (l : ℕ) → l < lines → getD sums l 0 ≡ total l done
   long : length sums ≡ lines
-  stands : oldest ≡ sizes (before line done)
+  stands : oldest ≡ placeIn line 0 done (length s)
 
 abbrev Inv-loop : tie.InvT-loop
-Inv-loop s line sums₀ oldest₀ at₀ sums oldest at = Counted s line sums oldest at
+Inv-loop s line none₀ sums₀ oldest₀ at₀ sums oldest at = Counted s line sums oldest at
 
 abbrev μ-loop : tie.MeasureT-loop
-μ-loop s line sums₀ oldest₀ at₀ sums oldest at = length s - at
+μ-loop s line none₀ sums₀ oldest₀ at₀ sums oldest at = length s - at
 
 loop-holds : tie.Need-loop-holds Inv-loop μ-loop
 loop-holds c = record { done = []; walked = walk-start _; summed = λ l h. getD-replicate lines l 0 0 h; long = refl; stands = refl }
@@ -57,7 +57,7 @@ add-sums c =
 
 -- what holds at the end of a turn, if the oldest stands there
 counted : (c : tie.After-entry-size Inv-loop μ-loop) (o : ℕ)
-    → o ≡ sizes (before (c .before .before .before .before .before .before .before .args .line) (c .before .before .before .before .before .loop .inv .done ++ first (drop (c .before .before .before .before .before .loop .at) (now (c .before .before .before .before .before .before .before .args .s))) ∷ []))
+    → o ≡ placeIn (c .before .before .before .before .before .before .before .args .line) 0 (c .before .before .before .before .before .loop .inv .done ++ first (drop (c .before .before .before .before .before .loop .at) (now (c .before .before .before .before .before .before .before .args .s))) ∷ []) (length (now (c .before .before .before .before .before .before .before .args .s)))
     → Counted (now (c .before .before .before .before .before .before .before .args .s)) (c .before .before .before .before .before .before .before .args .line)
     (raised (c .before .before .before .before .before .loop .sums) (c .before .before .entry-at .result .line) (c .entry-size .result)) o (c .before .before .before .before .before .loop .at + c .entry-size .result)
 counted c o e =
@@ -69,33 +69,38 @@ counted c o e =
 
 loop-again : tie.Need-loop-again Inv-loop μ-loop
 loop-again c =
+    let a = c .before .before .before .before .before .before .before .before .before .args in
     let l = c .before .before .before .before .before .before .before .loop in
     let t = stepped (c .before .before .before) in
+    let none-yet : placeIn (a .line) 0 (l .inv .done) (length (now (a .s))) ≡ length (now (a .s)) = omega (arith, l .inv .stands) in
     counted (c .before .before) _
-    (omega (arith, c .before .before .entry-size .ensures .0, t .long, l .inv .walked .passed, stands-here (c .before .before .before .before .before .before .before .before .before .args .line) (l .inv .done) (first (drop (l .at) (now (c .before .before .before .before .before .before .before .before .before .args .s)))) (λ q. c .before .if2 .taken (sym (t .line) ∙ q)) (omega (arith, l .inv .stands, l .inv .walked .passed))))
+    (omega (arith, l .inv .walked .passed, place-first (a .line) 0 (l .inv .done) (first (drop (l .at) (now (a .s)))) (length (now (a .s))) (t .line ∙ c .before .if2 .taken) (omega (arith, l .inv .walked .passed)) none-yet))
 
 loop-again-2 : tie.Need-loop-again-2 Inv-loop μ-loop
 loop-again-2 c =
+    let a = c .before .before .before .before .before .before .before .before .before .args in
     let l = c .before .before .before .before .before .before .before .loop in
-    let t = stepped (c .before .before .before) in
     counted (c .before .before) _
-    (l .inv .stands ∙ stands-gone _ (l .inv .done) _ (λ q. c .before .if2 .taken (sym (t .line) ∙ q)) (λ q. omega (arith, l .inv .stands, l .inv .walked .passed)))
+    (l .inv .stands ∙ sym (place-later (a .line) 0 (l .inv .done) _ (length (now (a .s))) (λ q. omega (arith, l .inv .stands))))
 
 loop-again-3 : tie.Need-loop-again-3 Inv-loop μ-loop
 loop-again-3 c =
+    let a = c .before .before .before .before .before .before .before .before .args in
     let l = c .before .before .before .before .before .before .loop in
     let t = stepped (c .before .before) in
-    counted (c .before) _ (l .inv .stands ∙ stands-own _ (l .inv .done) _ (t .line ∙ c .if2 .left))
+    counted (c .before) _ (l .inv .stands ∙ sym (place-other (a .line) 0 (l .inv .done) _ (length (now (a .s))) (λ q. c .if2 .left (sym (t .line) ∙ q))))
 
 returns-2 : tie.Need-returns-2 Inv-loop μ-loop
 returns-2 c =
     let s = now (c .before .before .before .args .s) in
     let l = c .before .loop in
     let e : entries s ≡ some (l .inv .done) = walk-end s (l .at) (l .inv .done) (l .inv .walked) (omega arith) in
+    let line = c .before .before .before .args .line in
+    let there : l .oldest ≡ sizes (before line (l .inv .done)) = omega (arith, l .inv .stands, place-end line 0 (l .inv .done) (length s) (omega (arith, l .inv .walked))) in
     record {
       is-whole = rw e;
       summed = λ es q k h. l .inv .summed k h ∙ ap (total k) (some-inj _ _ (sym e ∙ q));
-      stands = λ es q. l .inv .stands ∙ ap (λ (fs : List Entry). sizes (before (c .before .before .before .args .line) fs)) (some-inj _ _ (sym e ∙ q));
+      stands = λ es q. there ∙ ap (λ (fs : List Entry). sizes (before line fs)) (some-inj _ _ (sym e ∙ q));
     }
 
 pub walk-spec : {M : Type 1} → statement M

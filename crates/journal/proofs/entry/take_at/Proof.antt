@@ -20,20 +20,21 @@ returns c =
     taken-short (a .ledger) (a .line) (a .at) (now (a .journal)) (c .before .before .before .before .before .before .pre) (c .before .entry-at .result) (c .before .entry-at .ensures) (now (a .buffer)) (c .if1 .taken)
 
 part-copy-end : tie.Need-part-copy-end
-part-copy-end c = omega (arith, known (c .before .before .before .before .before), c .before .before .head-size .ensures)
+part-copy-end c = omega (arith, known (c .before .before .before .before), c .before .before .head-size .ensures)
 
 sub-used : tie.Need-sub-used
-sub-used c = omega (arith, known (c .before .before .before .before .before .before .before .before .before .before .before .before .before .before), c .before .before .before .before .before .before .before .before .before .before .before .before .entry-size .ensures)
+sub-used c = omega (arith, known (c .before .before .before .before .before .before .before .before .before .before .before .before .before .before), c .before .entry-size .ensures)
 
-sub-t15 : tie.Need-sub-t15
-sub-t15 c = omega (arith, known (c .before .before .before .before .before .before .before .before .before .before .before .before .before .before .before), c .before .before .before .before .before .before .before .before .before .before .before .before .before .entry-size .ensures)
+sub-t16 : tie.Need-sub-t16
+sub-t16 c = omega (arith, known (c .before .before .before .before .before .before .before .before .before .before .before .before .before .before .before), c .before .before .entry-size .ensures)
 
 returns-2 : tie.Need-returns-2
 returns-2 c =
     let a = c .before .before .before .before .before .before .before .before .before .before .before .before .before .before .before .before .before .before .before .before .args in
     let h = c .before .before .before .before .before .before .before .before .before .before .before .before .before .before .before .entry-at in
-    taken-at (a .ledger) (a .line) (a .at) (now (a .journal)) (c .before .before .before .before .before .before .before .before .before .before .before .before .before .before .before .before .before .before .before .before .pre) (h .result) (h .ensures) (now (a .buffer)) _ _ _ _ _ _
-    (omega (arith, c .before .before .before .before .before .before .before .before .before .before .before .before .head-size .ensures .0)) (c .before .before .before .before .before .before .before .before .before .before .before .before .before .entry-size .ensures .0) (c .before .before .before .before .before .before .before .before .before .before .before .before .before .before .if1 .left) (c .before .before .before .before .before .before .before .before .copy .ensures) (c .before .before .before .before .close-up .ensures)
+    let head = c .before .before .before .before .before .before .before .before .before .before .before .before .before .head-size .ensures .0 in
+    taken-at (a .ledger) (a .line) (a .at) (now (a .journal)) (c .before .before .before .before .before .before .before .before .before .before .before .before .before .before .before .before .before .before .before .before .pre) (h .result) (h .ensures) (now (a .buffer)) _ _ _ _ _ _ _
+    (omega (arith, head)) (c .before .before .entry-size .ensures .0) (omega (arith, head)) (c .before .before .before .before .before .before .before .before .before .before .before .before .before .before .if1 .left) (c .before .before .before .before .before .before .before .before .before .copy .ensures) (c .before .before .before .before .before .close-up .ensures)
 
 pub take-at-spec : {M : Type 1} → statement M
 take-at-spec =
@@ -45,21 +46,22 @@ take-at-spec =
     (λ c κs. search needs)
     (λ c. search needs)
     returns
-    (λ c κs. known (c .before) .most)
     (λ c κs. search needs)
     (λ c. search needs)
-    (λ c. search needs)
+    (λ c. omega (arith, known (c .before .before)))
     (λ c. search needs)
     (λ c. search needs)
     part-copy-end
     (λ c κs. search needs)
+    (λ c. omega (arith, known (c .before .before .before .before .before .before .before .before .before)))
     (λ c κs. search needs)
+    (λ c κs. known (c .before .before .before .before .before .before .before .before .before .before .before .before) .most)
     (λ c. search needs)
     (λ c. search needs)
     (λ c. search needs)
     sub-used
     (λ c. search needs)
-    sub-t15
+    sub-t16
     (λ c. search needs)
     (λ c. search needs)
     returns-2)

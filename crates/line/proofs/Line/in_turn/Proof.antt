@@ -28,12 +28,16 @@ returns-2 c = rw (c .before .before .if1 .left, sym (c .before .is-number .ensur
 
 returns-3 : tie.Need-returns-3
 unfolding turnOf
-returns-3 c = rw (c .before .before .before .before .if1 .left, new (c .before .before), ne-eqb _ _ (c .if3 .taken))
+returns-3 c =
+    let a = c .before .before .before .before .before .args in
+    rw (c .before .before .before .before .if1 .left, new (c .before .before), ne-eqb (a .number) (a .self .next) (λ q. omega arith))
 
 -- past the three tests of its number the frame is the next one
 turn-due : (c : tie.Else3) → turnOf (c .before .before .before .before .before .args .self) (c .before .before .before .before .before .args .number) (c .before .before .before .before .before .args .length) ≡ unless (leb (c .before .before .before .before .before .args .self .joined + c .before .before .before .before .before .args .length) messageLimit) Overlong InTurn
 unfolding turnOf
-turn-due c = rw (c .before .before .before .before .if1 .left, new (c .before .before), eq-eqb _ _ (c .if3 .left))
+turn-due c =
+    let a = c .before .before .before .before .before .args in
+    rw (c .before .before .before .before .if1 .left, new (c .before .before), eq-eqb (a .number) (a .self .next) (omega arith))
 
 returns-4 : tie.Need-returns-4
 returns-4 c =
