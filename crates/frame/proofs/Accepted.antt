@@ -1,16 +1,16 @@
 -- What the shape takes for whole is a frame as it is written: nothing else is accepted.
 -- Assumes nothing.
 use mathlib.Core.Path.{_≡_, refl, sym, ap, _∙_}
-use mathlib.Core.Bool.{Bool, true, false, cond, _&&_, _||_}
+use mathlib.Core.Bool.{Bool, true, false, cond, _&&_}
 use mathlib.Core.List.{List, [], _∷_, _++_}
 use Prim.Native.Nat.{ℕ, suc, _+_, _-_, _≤_, _<_}
 use native.Mathlib.Omega.{arith}
 use borrow.Author.Tests.{leb-true, ltb-true, eqb-true}
 use lib.Dec.{eqb, leb, ltb}
-use lib.ListN.{length, getD, take, drop, take-append-drop, drop-of-length-le}
+use lib.ListN.{length, take, drop, take-append-drop, drop-of-length-le}
 use lib.Seq.{drop-cons, take-suc}
 use Rattle.memory.specs.Parts.{part}
-use Rattle.memory.specs.Tests.{all, unless, is, between}
+use Rattle.memory.specs.Tests.{all, unless, is}
 use Rattle.memory.proofs.Tests.{and-left, and-right}
 use Rattle.frame.specs.Control.{cr, lf, etx, etb}
 use Rattle.frame.specs.Allowed.{allowed}

@@ -1,7 +1,7 @@
 -- What is written of a frame, read back by the shape, is the same number, end and text, for every limit that it keeps.
 -- Assumes nothing.
-use mathlib.Core.Path.{_≡_, refl, sym, ap, _∙_}
-use mathlib.Core.Bool.{Bool, true, false, _&&_, cond}
+use mathlib.Core.Path.{_≡_, refl, sym, _∙_}
+use mathlib.Core.Bool.{true}
 use mathlib.Core.List.{List, [], _∷_, _++_, append-assoc}
 use Prim.Native.Nat.{ℕ, _+_, _-_, _≤_, _<_}
 use native.Mathlib.Omega.{arith}
@@ -9,12 +9,12 @@ use borrow.Author.Tests.{le-leb, eq-eqb}
 use lib.ListN.{length, getD, take, length-append}
 use lib.Seq.{getD-append-add, getD-at, take-at}
 use Rattle.memory.specs.Parts.{part}
-use Rattle.memory.specs.Tests.{all, unless, is}
+use Rattle.memory.specs.Tests.{all, is}
 use Rattle.frame.specs.Control.{cr, lf}
 use Rattle.frame.specs.Allowed.{allowed}
 use Rattle.frame.specs.Check.{digitsOf, checkOf}
-use Rattle.frame.specs.Number.{mostNumber, digitFor, isNumber, numberFrom}
-use Rattle.frame.specs.Shape.{aroundText, textIn, isEnd, endFrom, isBuilt, isChecked, innerOf, shapeOf}
+use Rattle.frame.specs.Number.{mostNumber, digitFor}
+use Rattle.frame.specs.Shape.{aroundText, textIn, isEnd, endFrom, isBuilt, isChecked, shapeOf}
 use Rattle.frame.specs.Writing.{endByte, bodyOf, tailOf, collectedOf}
 use Rattle.frame.specs.declared.End.{End}
 use Rattle.frame.specs.declared.End.the-variants.{Etb, Etx}

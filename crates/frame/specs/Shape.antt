@@ -1,13 +1,12 @@
 -- The shape of a frame, from the bytes collected for it: STX is left out, the byte that ended it is counted.
 -- In their order: number digit, text, ETB or ETX, two check digits, CR, LF.
 -- Assumes nothing.
-use Prim.Native.Nat.{ℕ, _+_, _-_, _≤_}
-use mathlib.Core.Path.{_≡_}
+use Prim.Native.Nat.{ℕ, _-_}
 use mathlib.Core.Bool.{Bool, cond, _&&_, _||_}
 use mathlib.Core.List.{List}
 use mathlib.Core.Option.{Option, none, some}
 use lib.ListN.{length, getD, take}
-use lib.Dec.{leb, ltb, eqb}
+use lib.Dec.{leb, ltb}
 use Rattle.memory.specs.Parts.{part}
 use Rattle.memory.specs.Tests.{unless, is, all}
 use Rattle.frame.specs.Control.{etx, lf, cr, etb}

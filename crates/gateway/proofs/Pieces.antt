@@ -1,6 +1,6 @@
 -- The pieces of a line's text: the frame's text written behind the joined one, and both joined in one place.
 -- Assumes nothing.
-use mathlib.Core.Path.{_≡_, refl, sym, ap, _∙_}
+use mathlib.Core.Path.{_≡_, sym, ap, _∙_}
 use mathlib.Core.Bool.{Bool}
 use mathlib.Core.List.{List, _++_}
 use Prim.Native.Nat.{ℕ, _+_, _-_, _≤_}
@@ -8,7 +8,7 @@ use native.Mathlib.Nat.{zero-add}
 use native.Mathlib.Omega.{arith}
 use lib.ListN.{length, take, drop, length-append}
 use Rattle.memory.specs.Sizes.{messageLimit}
-use Rattle.memory.specs.Parts.{part, splice}
+use Rattle.memory.specs.Parts.{splice}
 use Rattle.memory.specs.Moves.{Copied}
 use Rattle.memory.proofs.Parts.{part-lent, part-start, part-splice, length-part, length-splice, splice-join}
 use Rattle.memory.proofs.Moves.{lent-back, copied-fits}

@@ -1,14 +1,12 @@
 -- What each way out of a step says.
 -- Assumes nothing.
 use mathlib.Core.Path.{_≡_, refl, sym, ap, _∙_}
-use mathlib.Core.Bool.{Bool, true, false, cond, _&&_}
+use mathlib.Core.Bool.{Bool, true, false, cond}
 use mathlib.Core.List.{List}
 use Prim.Native.Nat.{ℕ, _≤_, _<_}
 use borrow.Author.Tests.{lt-ltb, le-ltb, eq-eqb, ne-eqb}
 use lib.ListN.{length, set}
-use lib.Dec.{eqb}
 use Rattle.memory.specs.Sizes.{lines, journalSize, unfinishedSize, framesSize}
-use Rattle.memory.proofs.Tests.{and-not-right}
 use Rattle.record.specs.Delimiters.{standard}
 use Rattle.record.specs.Faults.{isMessage}
 use Rattle.journal.specs.Room.{todaysShares}
@@ -27,7 +25,7 @@ use Rattle.gateway.specs.Looks.{lookOf}
 use Rattle.gateway.specs.Verdicts.{roomVerdict, decisionOf, decided, ownWork, workOf, rightSizes, verdictOf, answerOf}
 use Rattle.gateway.specs.Settled.{lineAfter, textsAfter, framesAfter, ledgerAfter, journalAfter}
 use Rattle.gateway.specs.Decided.{Decision}
-use Rattle.gateway.specs.Events.{AfterStep, settle, stepOf, Leaves, memoryOf, Stepping, Working, Finished, lineAt, eventOf, Handling, tookAnswer, takeOf, Taking}
+use Rattle.gateway.specs.Events.{settle, stepOf, memoryOf, Stepping, Working, Finished, lineAt, eventOf, Handling, tookAnswer, takeOf, Taking}
 use Rattle.gateway.specs.declared.deciding.Decided.{Decided}
 use Rattle.gateway.specs.declared.Event.{Event}
 use Rattle.gateway.specs.declared.Gateway.{Gateway}

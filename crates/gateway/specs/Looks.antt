@@ -1,7 +1,7 @@
 -- What an event comes to, read off its own line alone: the record, and its parts of the unfinished texts and of the frames. Neither the journal nor another line is looked at.
 -- Assumes nothing.
 use Prim.Native.Nat.{ℕ}
-use mathlib.Core.Bool.{Bool, cond, _||_}
+use mathlib.Core.Bool.{cond}
 use mathlib.Core.List.{List}
 use lib.Dec.{eqb}
 use Rattle.memory.specs.Sizes.{frameLimit}

@@ -4,11 +4,11 @@ use mathlib.Core.Path.{_≡_, refl, sym, ap, subst, _∙_}
 use mathlib.Core.Logic.{_≢_}
 use mathlib.Core.Bool.{Bool, true, false}
 use mathlib.Core.List.{List}
-use Prim.Native.Nat.{ℕ, _+_, _≤_, _<_}
+use Prim.Native.Nat.{ℕ, _+_, _<_}
 use native.Mathlib.Omega.{arith}
-use borrow.Author.Tests.{lt-ltb, ltb-true}
+use borrow.Author.Tests.{lt-ltb}
 use lib.Dec.{ltb}
-use lib.ListN.{length, getD, set, length-set}
+use lib.ListN.{length, length-set}
 use lib.Seq.{getD-set-other, getD-set-same}
 use Rattle.memory.specs.Sizes.{lines}
 use Rattle.memory.specs.Tests.{unless}
@@ -21,17 +21,16 @@ use Rattle.line.specs.declared.Answer.the-variants.{Nothing, Stored, NoLine}
 use Rattle.line.proofs.Limits.{Within, within-facts, within-of, fresh-within, opened-within, begun-within, collected-within, counted-within, waiting-within, accepted-within, refusing-within}
 use Rattle.gateway.specs.Views.{framesOf, textsOf, joinedText}
 use Rattle.gateway.specs.Looks.{lookOf}
-use Rattle.gateway.specs.Verdicts.{decided, ownWork, workOf, rightSizes, verdictOf, answerOf}
+use Rattle.gateway.specs.Verdicts.{ownWork, verdictOf, answerOf}
 use Rattle.gateway.specs.Settled.{lineAfter, withByte, Fitting}
 use Rattle.gateway.specs.Events.{Memory, AfterStep, settle, stepOf, lineAt, noRecord, AfterEvent, putBack, eventOf, takeOf}
 use Rattle.gateway.specs.declared.Event.{Event}
 use Rattle.gateway.specs.declared.Gateway.{Gateway}
-use Rattle.gateway.specs.declared.Look.{Look}
 use Rattle.gateway.specs.declared.Look.the-variants.{Done}
 use Rattle.gateway.specs.declared.Verdict.{Verdict}
 use Rattle.gateway.specs.declared.Verdict.the-variants.{Left, Opens, Closes, Begins, Counts, Collects, Refuses, Accepts, Stores, Against}
-use Rattle.gateway_laws.specs.Classes.{Class, quiet, refusing, classOf, verdictClass}
-use Rattle.gateway_laws.proofs.Found.{Found, refused, worked, Worked, verdict-found}
+use Rattle.gateway_laws.specs.Classes.{quiet, refusing, classOf}
+use Rattle.gateway_laws.proofs.Found.{Found, refused, worked, verdict-found}
 use Rattle.gateway_laws.proofs.Proper.{Proper, verdict-proper}
 use Rattle.gateway_laws.proofs.Others.{texts-length, frames-length, texts-other, frames-other}
 

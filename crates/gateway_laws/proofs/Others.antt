@@ -1,13 +1,12 @@
 -- What acting leaves of the other lines' parts, and of all sizes.
 -- Assumes nothing.
-use mathlib.Core.Path.{_≡_, refl, sym, ap, _∙_}
+use mathlib.Core.Path.{_≡_, refl, ap, _∙_}
 use mathlib.Core.Logic.{_≢_}
 use mathlib.Core.List.{List, [], _∷_}
 use Prim.Native.Nat.{ℕ, _+_, _≤_, _<_}
 use native.Mathlib.Omega.{arith}
-use lib.ListN.{length, set, length-set}
-use Rattle.memory.specs.Sizes.{lines, messageLimit, framePart}
-use Rattle.memory.specs.Parts.{part, splice}
+use lib.ListN.{length, length-set}
+use Rattle.memory.specs.Sizes.{messageLimit, framePart}
 use Rattle.memory.proofs.Parts.{set-splice, length-splice}
 use Rattle.memory.proofs.Lines.{part-elsewhere}
 use Rattle.line.specs.declared.Line.{Line}

@@ -23,7 +23,7 @@ use Rattle.gateway.specs.declared.Verdict.the-variants.{Left}
 use Rattle.gateway.proofs.Views.{own-parts}
 use Rattle.gateway.proofs.Cases.{Cases, every-look}
 use Rattle.gateway_laws.specs.Classes.{classOf, verdictClass}
-use Rattle.gateway_laws.proofs.Found.{Found, refused, worked, Worked, verdict-found}
+use Rattle.gateway_laws.proofs.Found.{Found, refused, worked, verdict-found}
 
 abbrev pub Proper : Verdict → Type 0
 Proper v = classOf (answerOf v) ≡ verdictClass v

@@ -18,7 +18,7 @@ use Rattle.journal.specs.declared.Took.{Took}
 use Rattle.journal.specs.declared.Took.the-variants.{Taken, NothingWaiting, BufferShort, BrokenJournal, NoSuchLine, WrongSize}
 use Rattle.gateway.specs.Events.{tookAnswer, AfterTake, takeOf}
 use Rattle.gateway.specs.declared.Gateway.{Gateway}
-use Rattle.gateway_laws.specs.Classes.{Class, classOf, quiet, taking}
+use Rattle.gateway_laws.specs.Classes.{classOf, quiet, taking}
 
 nothing-else : {A : Type 0} → _≡_ {A = ℕ} 0 1 → A
 nothing-else z = absurd (omega arith)

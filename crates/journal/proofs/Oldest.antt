@@ -8,7 +8,7 @@ use native.Mathlib.Omega.{arith}
 use lib.Dec.{eqb}
 use borrow.Author.Tests.{eq-eqb, ne-eqb, eqb-true}
 use Rattle.journal.specs.Entries.{Entry, size, sizes, total, before, from}
-use Rattle.journal.proofs.Chains.{size-pos, total-append}
+use Rattle.journal.proofs.Chains.{total-append}
 
 pub cons-inj : (e f : Entry) (es fs : List Entry) → e ∷ es ≡ f ∷ fs → (e ≡ f) × (es ≡ fs)
 cons-inj e f es fs q = (cc, cc)

@@ -6,7 +6,6 @@ use lib.Dec.{leb}
 use Rattle.memory.specs.Sizes.{messageLimit, frameLimit}
 use Rattle.frame.specs.Number.{mostNumber, nextNumber}
 use Rattle.line.specs.declared.Line.{Line}
-use Rattle.line.specs.declared.State.{State}
 use Rattle.line.specs.declared.State.the-variants.{Neutral, Waiting, Inside}
 use Rattle.line.specs.declared.Last.{Last}
 use Rattle.line.specs.declared.Last.the-variants.{NoneYet, Number}

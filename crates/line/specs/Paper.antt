@@ -1,7 +1,7 @@
 -- The numbers of document 01's table, the values that an answer carries, and the reply.
 -- Assumes nothing.
 use Prim.Native.Nat.{ℕ}
-use mathlib.Core.Bool.{Bool, cond}
+use mathlib.Core.Bool.{cond}
 use mathlib.Core.List.{List, [], _∷_}
 use lib.Dec.{leb, ltb}
 use Rattle.line.specs.declared.Answer.{Answer}

@@ -1,18 +1,17 @@
 -- What a loop that copies or closes up has done after i turns, and what each way out of it says.
 -- Assumes nothing.
-use mathlib.Core.Path.{_≡_, refl, sym, ap, _∙_}
-use mathlib.Core.Bool.{Bool, true, false, cond, _&&_}
-use mathlib.Core.List.{List, [], _∷_, _++_, append-nil}
+use mathlib.Core.Path.{_≡_, sym, ap, _∙_}
+use mathlib.Core.Bool.{Bool, true, false}
+use mathlib.Core.List.{List, _++_, append-nil}
 use Prim.Native.Nat.{ℕ, suc, _+_, _-_, _≤_, _<_}
 use native.Mathlib.Nat.{add-zero}
 use native.Mathlib.Decide.{decLe}
 use native.Mathlib.Omega.{arith}
 use lib.ListN.{length, take, drop, getD, set, length-drop, drop-of-length-le}
 use lib.Seq.{take-suc, take-all, length-take-le}
-use lib.Dec.{leb}
 use borrow.Author.Tests.{le-leb, lt-leb}
-use Rattle.memory.specs.Parts.{part, splice}
-use Rattle.memory.specs.Moves.{fitsAt, copied, hasGap, later, closedUp, Copied, ClosedUp}
+use Rattle.memory.specs.Parts.{splice}
+use Rattle.memory.specs.Moves.{copied, hasGap, later, closedUp, Copied, ClosedUp}
 use Rattle.memory.proofs.Parts.{length-part, splice-from, set-behind, getD-part, getD-behind}
 
 -- one byte more of s is copied to `at`

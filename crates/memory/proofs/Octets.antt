@@ -2,13 +2,13 @@
 -- Assumes nothing.
 use mathlib.Core.Path.{_≡_, refl, sym, ap, _∙_}
 use mathlib.Core.Bool.{Bool, true, false, cond, _&&_}
-use mathlib.Core.List.{List, [], _∷_, _++_}
+use mathlib.Core.List.{List, [], _∷_}
 use Prim.Native.Nat.{ℕ, zero, suc, _+_, _*_, _/_, _%_, _^_, _≤_, _<_}
-use native.Mathlib.Nat.{add-assoc, add-comm, mod-eq-of-lt, div-eq-of-lt, div-eq-sub-div}
+use native.Mathlib.Nat.{add-comm, mod-eq-of-lt, div-eq-of-lt, div-eq-sub-div}
 use native.Mathlib.Numerals.{add-one}
 use native.Mathlib.Decide.{decLe}
 use native.Mathlib.Omega.{arith}
-use lib.ListN.{length, getD, take, drop, set, replicate, replicate-append-replicate, length-replicate}
+use lib.ListN.{length, getD, set, replicate-append-replicate, length-replicate}
 use lib.Seq.{drop-cons}
 use lib.Pow.{pow-pos, pow-mono, pow-add, shr-shr}
 use lib.Dec.{leb, ltb}
@@ -18,7 +18,7 @@ use Rattle.memory.specs.Fields.{width, pack, unpack, octets, longestFiel
 use Rattle.memory.specs.declared.Field.the-variants.{Value, Outside}
 use Rattle.memory.proofs.Parts.{part-add, part-splice, length-part, set-splice, splice-join-front, length-splice}
 use Rattle.memory.proofs.Tests.{and-right}
-use Rattle.memory.proofs.Packed.{pack-append, pack-below, length-unpack, pack-unpack}
+use Rattle.memory.proofs.Packed.{pack-append, length-unpack, pack-unpack}
 
 pub width-octets : (n : ℕ) → width (octets n) ≡ n * 8
 width-octets zero = refl

@@ -1,7 +1,7 @@
 -- A table that is its rule at every place: antt computes the rule's values and compares them with the table, entry by entry, and so the
 -- table has the rule's value at each index. No proof writes the table again. At any type of entry, so also for a table of rows.
 -- Assumes nothing.
-use mathlib.Core.Path.{_≡_, refl, sym, ap, _∙_}
+use mathlib.Core.Path.{_≡_, sym, ap, _∙_}
 use mathlib.Core.List.{List, [], _∷_}
 use Prim.Native.Nat.{ℕ, zero, suc, _+_, _<_}
 use native.Mathlib.Nat.{add-zero, zero-add, add-suc, suc-add, le-of-suc-le-suc, not-suc-le-zero}

@@ -2,17 +2,15 @@
 -- Assumes nothing.
 use mathlib.Core.Path.{_≡_, refl, sym, ap, subst, _∙_}
 use mathlib.Core.Logic.{_≢_}
-use mathlib.Core.Bool.{Bool, true, false, true≢false}
+use mathlib.Core.Bool.{true, false, true≢false}
 use mathlib.Core.List.{List}
 use Prim.Native.Nat.{ℕ, _<_}
-use lib.Dec.{eqb}
 use Rattle.memory.specs.Sizes.{lines}
 use Rattle.journal.specs.Room.{todaysShares}
 use Rattle.journal.specs.Runs.{State as Store}
 use Rattle.line.specs.Paper.{ack, numberOf, replyOf}
 use Rattle.line.specs.declared.Line.{Line}
-use Rattle.line.specs.declared.Reply.{Reply}
-use Rattle.line.specs.declared.Reply.the-variants.{Silence, Byte}
+use Rattle.line.specs.declared.Reply.the-variants.{Byte}
 use Rattle.gateway.specs.Views.{framesOf, textsOf, joinedText}
 use Rattle.gateway.specs.Looks.{lookOf}
 use Rattle.gateway.specs.Verdicts.{decided, ownWork, answerOf}
@@ -24,15 +22,10 @@ use Rattle.gateway.specs.declared.Verdict.{Verdict}
 use Rattle.gateway.specs.declared.Verdict.the-variants.{Left, Opens, Closes, Begins, Counts, Collects, Refuses, Accepts, Stores, Against}
 use Rattle.serial.specs.Serial.{event, final, Every}
 use Rattle.promises.specs.Machine.{State, GatewayItem, step, Parts, partsOf, storeOf, left, Sound, May}
-use Rattle.promises.specs.Runs.{RightSizes, fresh, answered, replied, Completes}
+use Rattle.promises.specs.Runs.{RightSizes, fresh, answered, replied, isAck, Completes}
 use Rattle.promises.proofs.Sound.{work, event-answer, event-journal}
 use Rattle.promises.proofs.Decided.{decision-cases}
 use Rattle.promises.proofs.Runs.{always-sound}
-
--- whether a reply is ACK
-abbrev isAck : Reply → Bool
-isAck Silence = false
-isAck (Byte b) = eqb b ack
 
 -- of the answers to a complete message, only 4 is acknowledged
 abbrev AckStores : Verdict → Type 0

@@ -6,7 +6,6 @@ use mathlib.Core.List.{List, [], _∷_, _++_}
 use mathlib.Core.Option.{Option, none, some}
 use Prim.Native.Nat.{ℕ, _+_, _<_}
 use native.Mathlib.Omega.{arith}
-use lib.Dec.{eqb}
 use lib.ListN.{length, getD, replicate, length-append, length-replicate}
 use Rattle.memory.specs.Sizes.{journalSize, unfinishedSize, framesSize}
 use Rattle.frame.specs.Check.{checkOf, hexDigit, digitsOf, total}
@@ -21,16 +20,14 @@ use Rattle.journal.specs.Entries.{Entry}
 use Rattle.journal.specs.Room.{todaysShares, claims}
 use Rattle.journal.specs.Held.{Held}
 use Rattle.journal.specs.declared.Ledger.{Ledger}
-use Rattle.line.specs.Paper.{enq, ack, valuesOf, replyOf}
+use Rattle.line.specs.Paper.{enq, valuesOf, replyOf}
 use Rattle.line.specs.declared.Answer.{Answer}
 use Rattle.line.specs.declared.Answer.the-variants.{Nothing, Taken}
-use Rattle.line.specs.declared.Reply.{Reply}
-use Rattle.line.specs.declared.Reply.the-variants.{Silence, Byte}
 use Rattle.gateway.specs.Events.{Memory, memoryOf}
 use Rattle.gateway.specs.declared.Kind.the-variants.{Byte as Came}
 use Rattle.serial.specs.Serial.{event, taking, final}
 use Rattle.promises.specs.Machine.{State, Told, told, GatewayItem, step}
-use Rattle.promises.specs.Runs.{RightSizes, fresh, replied}
+use Rattle.promises.specs.Runs.{RightSizes, fresh, replied, isAck}
 use Rattle.promises.specs.Examples.{both, holds}
 use Rattle.promises.specs.Sending.{Runner, bytesOn, sending, sendingReplies, newEntries, HasRoom, Intact, DeliversBy, Demand2, GivesBack}
 use Rattle.promises.proofs.Kept.{fresh-sound}
@@ -62,11 +59,6 @@ intact = sound-intact (fresh memory) (fresh-sound memory right)
 module _ (f : Runner) (promise : Demand2 f) where
   delivered : DeliversBy f (fresh memory) 0 (sending both) (sendingReplies both) (both ∷ []) (intact .entries)
   delivered = promise 0 (omega arith) (fresh memory) intact refl both is-message room
-
--- whether a reply is ACK
-abbrev isAck : Reply → Bool
-isAck Silence = false
-isAck (Byte b) = eqb b ack
 
 abbrev ackAt : ℕ → List Told → Bool
 ackAt n ts = isAck (replied (getD ts n (told Nothing [])))

@@ -4,13 +4,15 @@ use Prim.Native.Nat.{ℕ, _+_, _<_}
 use mathlib.Core.Path.{_≡_}
 use mathlib.Core.Bool.{Bool, true, false}
 use mathlib.Core.List.{List}
+use lib.Dec.{eqb}
 use lib.ListN.{length, getD}
 use Rattle.memory.specs.Sizes.{journalSize, unfinishedSize, framesSize}
 use Rattle.memory.specs.Tests.{between}
 use Rattle.journal.specs.Header.{entrySize}
 use Rattle.journal.specs.Room.{share, todaysShares, fits, raised}
-use Rattle.line.specs.Paper.{numberOf, replyOf}
+use Rattle.line.specs.Paper.{ack, numberOf, replyOf}
 use Rattle.line.specs.declared.Reply.{Reply}
+use Rattle.line.specs.declared.Reply.the-variants.{Silence, Byte}
 use Rattle.gateway.specs.Views.{framesOf, textsOf, joinedText}
 use Rattle.gateway.specs.Looks.{lookOf}
 use Rattle.gateway.specs.Events.{Memory, lineAt, freshGateway}
@@ -33,6 +35,10 @@ answered t = numberOf (t .answer)
 
 abbrev pub replied : Told → Reply
 replied t = replyOf (answered t)
+
+abbrev pub isAck : Reply → Bool
+isAck Silence = false
+isAck (Byte b) = eqb b ack
 
 -- whether a number tells of memory, a record or a journal that no run leaves: 41, 42, 43
 abbrev pub isFault : ℕ → Bool

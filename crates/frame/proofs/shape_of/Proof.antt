@@ -1,6 +1,6 @@
 -- `frame::shape_of` meets its contract.
 -- Assumes nothing.
-use mathlib.Core.Path.{_≡_, sym, ap, _∙_}
+use mathlib.Core.Path.{_≡_, sym, _∙_}
 use mathlib.Core.Bool.{true}
 use mathlib.Core.List.{[], _∷_, _++_}
 use Prim.Native.Nat.{_≤_}
@@ -9,7 +9,7 @@ use borrow.Author.Tests.{not-true, not-false}
 use lib.ListN.{length}
 use denote.Ref.{now}
 use Rattle.frame.specs.Control.{lf}
-use Rattle.frame.specs.Shape.{isBuilt, isChecked}
+use Rattle.frame.specs.Shape.{isBuilt}
 use Rattle.frame.proofs.Collected.{shape-long, shape-open, shape-ended, built-five}
 use Rattle.frame.proofs.shape_of.Statement.{statement}
 use Rattle.frame.proofs.shape_of.Tie as tie

@@ -2,11 +2,9 @@
 -- Assumes nothing.
 use mathlib.Core.Path.{_≡_, sym, _∙_}
 use mathlib.Core.Bool.{true}
-use Prim.Native.Nat.{_+_, _≤_}
 use native.Mathlib.Omega.{arith}
 use borrow.Author.Needs.{needs}
 use borrow.Author.Tests.{not-true, not-false}
-use lib.ListN.{length}
 use denote.Ref.{now}
 use Rattle.frame.specs.Writing.{isFrame}
 use Rattle.frame.proofs.Put.{no-frame, no-room, frame-written, number-large, text-long, by-text}

@@ -1,10 +1,9 @@
 -- `memory::exceeds` meets its contract. The loop's invariant: i bytes are taken off n.
 -- Assumes nothing.
-use mathlib.Core.Path.{_≡_, refl, sym, ap, _∙_}
-use Prim.Native.Nat.{_+_, _-_, _/_, _^_, _≤_}
+use mathlib.Core.Path.{_≡_, sym}
+use Prim.Native.Nat.{_-_, _/_, _^_, _≤_}
 use native.Mathlib.Nat.{div-one}
 use native.Mathlib.Omega.{arith}
-use lib.Dec.{ltb}
 use Rattle.memory.specs.Fields.{width, octets}
 use Rattle.memory.proofs.Octets.{rest-more, something-left}
 use Rattle.memory.proofs.exceeds.Statement.{statement}

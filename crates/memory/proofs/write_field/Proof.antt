@@ -1,12 +1,12 @@
 -- `memory::write_field` meets its contract. The loop's invariant: the bytes from i on are written, and rest is what they leave of n.
 -- Assumes nothing.
-use mathlib.Core.Path.{_≡_, refl, sym, ap, _∙_}
+use mathlib.Core.Path.{_≡_, refl, sym, _∙_}
 use mathlib.Core.List.{List}
-use Prim.Native.Nat.{ℕ, _+_, _-_, _/_, _%_, _^_, _≤_, _<_}
+use Prim.Native.Nat.{ℕ, _+_, _-_, _/_, _^_, _≤_, _<_}
 use native.Mathlib.Nat.{div-one, sub-self, sub-zero, add-zero}
 use native.Mathlib.Omega.{arith}
 use borrow.Author.Tests.{leb-true, leb-false}
-use lib.ListN.{length, length-set, set}
+use lib.ListN.{length, length-set}
 use denote.Ref.{now}
 use Rattle.memory.specs.Parts.{splice}
 use Rattle.memory.specs.Fields.{width, octets, unpack, longestField}

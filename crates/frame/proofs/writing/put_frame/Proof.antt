@@ -1,7 +1,6 @@
 -- `frame::writing::put_frame` meets its contract: the tail behind the body makes the frame.
 -- Assumes nothing.
-use mathlib.Core.Path.{_≡_, _∙_}
-use native.Mathlib.Omega.{arith}
+use mathlib.Core.Path.{_∙_}
 use borrow.Author.Needs.{needs}
 use denote.Ref.{now}
 use Rattle.frame.proofs.Put.{frame-put}

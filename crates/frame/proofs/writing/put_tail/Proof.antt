@@ -1,13 +1,11 @@
 -- `frame::writing::put_tail` meets its contract.
 -- Assumes nothing.
-use mathlib.Core.Path.{_≡_, ap, _∙_}
-use Prim.Native.Nat.{ℕ, _-_}
+use Prim.Native.Nat.{_-_}
 use native.Mathlib.Omega.{arith}
 use borrow.Author.Needs.{needs}
-use lib.ListN.{length, length-set}
+use lib.ListN.{length-set}
 use denote.Ref.{now}
 use Rattle.memory.specs.Parts.{part}
-use Rattle.frame.specs.Check.{digitsOf, checkOf}
 use Rattle.frame.specs.Writing.{tailOf}
 use Rattle.frame.proofs.Put.{put-four}
 use Rattle.frame.proofs.writing.put_tail.Statement.{statement}

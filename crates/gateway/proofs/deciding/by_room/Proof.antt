@@ -1,7 +1,6 @@
 -- `gateway::deciding::by_room` meets its contract.
 -- Assumes nothing.
 use borrow.Author.Needs.{needs}
-use mathlib.Core.Path.{sym, ap}
 use Rattle.gateway.proofs.deciding.by_room.Statement.{statement}
 use Rattle.gateway.proofs.deciding.by_room.Tie as tie
 

@@ -1,8 +1,7 @@
 -- `gateway::deciding::decide` meets its contract: the storing judges and stores in one.
 -- Assumes nothing.
 use borrow.Author.Needs.{needs}
-use mathlib.Core.Path.{_≡_, sym, _∙_}
-use native.Mathlib.Omega.{arith}
+use mathlib.Core.Path.{sym, _∙_}
 use denote.Ref.{now}
 use borrow.Author.Tests.{not-true, not-false}
 use Rattle.gateway.proofs.Decisions.{no-message, by-store}

@@ -1,7 +1,7 @@
 -- `gateway::looking::ends_with_cr` meets its contract: the last byte is the second piece's, unless that is empty.
 -- Assumes nothing.
 use borrow.Author.Needs.{needs}
-use mathlib.Core.Path.{_≡_, sym, ap, _∙_}
+use mathlib.Core.Path.{sym}
 use native.Mathlib.Omega.{arith}
 use denote.Ref.{now}
 use Rattle.gateway.proofs.Joined.{last-new, last-old, last-none}

@@ -6,7 +6,6 @@ use mathlib.Core.List.{[], _∷_, _++_}
 use Prim.Native.Nat.{_+_}
 use native.Mathlib.Omega.{arith}
 use denote.Ref.{now}
-use lib.ListN.{length}
 use Rattle.line.proofs.Limits.{within-facts}
 use Rattle.memory.specs.Sizes.{frameLimit}
 use Rattle.memory.proofs.Parts.{part-lent}

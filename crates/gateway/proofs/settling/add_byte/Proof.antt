@@ -1,7 +1,6 @@
 -- `gateway::settling::add_byte` meets its contract.
 -- Assumes nothing.
 use borrow.Author.Needs.{needs}
-use mathlib.Core.Path.{sym}
 use native.Mathlib.Omega.{arith}
 use Rattle.line.proofs.Limits.{within-facts}
 use Rattle.gateway.proofs.settling.add_byte.Statement.{statement}

@@ -1,7 +1,7 @@
 -- `gateway::working::finish` meets its contract.
 -- Assumes nothing.
 use borrow.Author.Needs.{needs}
-use mathlib.Core.Path.{refl, ap₂}
+use mathlib.Core.Path.{ap₂}
 use Rattle.line.specs.declared.Line.{Line}
 use Rattle.line.specs.declared.Answer.{Answer}
 use Rattle.gateway.proofs.working.finish.Statement.{statement}

@@ -5,7 +5,7 @@ use mathlib.Core.Path.{_≡_, sym, subst, _∙_}
 use denote.Ref.{now}
 use Rattle.line.specs.declared.Line.{Line}
 use Rattle.journal.specs.Room.{todaysShares}
-use Rattle.gateway.specs.Settled.{Fitting, TextFits}
+use Rattle.gateway.specs.Settled.{Fitting}
 use Rattle.gateway.specs.declared.Look.{Look}
 use Rattle.gateway.specs.declared.Verdict.{Verdict}
 use Rattle.gateway.proofs.Views.{own-parts}
