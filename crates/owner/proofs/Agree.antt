@@ -60,7 +60,7 @@ follows-order Terminator h = h
 follows-order Comment h = h
 follows-order Manufacturer h = h
 
-never-head : (t : Kind) → mayFollow t Header ≡ true → _≡_ {A = ℕ} 0 1
+pub never-head : (t : Kind) → mayFollow t Header ≡ true → _≡_ {A = ℕ} 0 1
 unfolding mayFollow
 never-head Header h = cc
 never-head Patient h = cc

@@ -21,12 +21,12 @@ use Rattle.owner.specs.Owners.{typesOf, ownerBy, seenBy, ownersBy, owner
 use Rattle.owner.proofs.Agree.{Follow, owners-agree}
 
 -- a record that begins with a type's letter is not empty
-first-letter : (r : List ℕ) (k : Kind) → kindOf (getD r 0 0) ≡ Known k → kindOf (getD r 0 cr) ≡ Known k
+pub first-letter : (r : List ℕ) (k : Kind) → kindOf (getD r 0 0) ≡ Known k → kindOf (getD r 0 cr) ≡ Known k
 unfolding kindOf
 first-letter [] k e = cc
 first-letter (b ∷ r) k e = e
 
-follow-types : (t : Kind) (rs : List (List ℕ)) → Chain t rs → Follow t (typesOf rs)
+pub follow-types : (t : Kind) (rs : List (List ℕ)) → Chain t rs → Follow t (typesOf rs)
 follow-types t [] h = tt
 follow-types t (r ∷ rs) (k, first, may, rest) = (k, first-letter r k first, may, follow-types (otherOf t k) rs rest)
 
@@ -46,7 +46,7 @@ agree-head Terminator h = refl
 agree-head Comment h = refl
 agree-head Manufacturer h = refl
 
-header-kind : (b : ℕ) → b ≡ letterOf Header → kindOf b ≡ Known Header
+pub header-kind : (b : ℕ) → b ≡ letterOf Header → kindOf b ≡ Known Header
 unfolding kindOf
 header-kind b e = rw e
 
