@@ -1,0 +1,30 @@
+-- `memories` is safe: what it lends of a slice lies within it.
+-- Assumes nothing.
+use native.Mathlib.Omega.{arith}
+use lib.ListN.{length-take}
+use borrow.Author.Needs.{needs}
+use Rattle.stretches.proofs.comparing.memories.Statement.{statement}
+use Rattle.stretches.proofs.comparing.memories.Tie as tie
+
+pub memories-spec : {M : Type 1} → statement M
+memories-spec =
+    tie.close
+    (tie.spec
+    (λ c. omega arith)
+    (λ c. search needs)
+    (λ c. search needs)
+    (λ c. rw length-take (omega arith))
+    (λ c κs. search needs)
+    (λ c. search needs)
+    (λ c. omega arith)
+    (λ c. search needs)
+    (λ c. search needs)
+    (λ c κs. search needs)
+    (λ c. search needs)
+    (λ c. omega arith)
+    (λ c. search needs)
+    (λ c. search needs)
+    (λ c κs. search needs)
+    (λ c. search needs)
+    (λ c. search needs)
+    (λ c. search needs))
