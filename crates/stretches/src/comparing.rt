@@ -1,5 +1,10 @@
-// Two final states: every field of the records and of the ledger, every byte of the memories.
-use super::running;
+// Two runs compared: every answer and every buffer; every field of the records and of the ledger, every byte of the memories.
+use super::items;
+use super::running::Frames;
+use super::running::Items;
+use super::running::Journal;
+use super::running::Log;
+use super::running::Texts;
 use super::showing;
 use gateway::Gateway;
 use journal::Ledger;
@@ -94,9 +99,24 @@ fn ledger(a: Ledger, b: Ledger) -> bool {
     false
 }
 
-// Shows from which byte on a memory differs.
+// The first place where two slices differ, or the shorter one's length.
+fn first_difference(a: &[u8], b: &[u8]) -> usize {
+    let mut i = 0;
+    while i < a.len() {
+        if b.len() <= i {
+            return i;
+        }
+        if a[i] != b[i] {
+            return i;
+        }
+        i += 1;
+    }
+    i
+}
+
+// Shows from which byte on two memories differ.
 fn bytes(name: &[u8], was: &[u8], is: &[u8]) -> bool {
-    let at = running::first_difference(was, is);
+    let at = first_difference(was, is);
     if at == was.len() {
         return true;
     }
@@ -104,20 +124,22 @@ fn bytes(name: &[u8], was: &[u8], is: &[u8]) -> bool {
     false
 }
 
-// Whether the memories are those that were kept; shows which are not.
-fn memories(kept: &[u8], j: &[u8], u: &[u8], f: &[u8]) -> bool {
-    let texts = memory::JOURNAL_SIZE;
-    let frames = memory::JOURNAL_SIZE + memory::UNFINISHED_SIZE;
-    if kept.len() < frames {
+// Whether two gateways are the same; shows each part that is not.
+pub fn gateways(a: Gateway, b: Gateway) -> bool {
+    let was = a.ledger;
+    let is = b.ledger;
+    let same = records(a, b);
+    if !ledger(was, is) {
         return false;
     }
-    let same_journal = bytes(b" journal differs from byte ", &kept[..texts], j);
-    let same_texts = bytes(
-        b" unfinished text differs from byte ",
-        &kept[texts..frames],
-        u,
-    );
-    let same_frames = bytes(b" frames differ from byte ", &kept[frames..], f);
+    same
+}
+
+// Whether the memories are the same as before; shows each one that is not.
+pub fn memories(j: &Journal, j2: &Journal, u: &Texts, u2: &Texts, f: &Frames, f2: &Frames) -> bool {
+    let same_journal = bytes(b" journal differs from byte ", j, j2);
+    let same_texts = bytes(b" unfinished text differs from byte ", u, u2);
+    let same_frames = bytes(b" frames differ from byte ", f, f2);
     if !same_journal {
         return false;
     }
@@ -127,25 +149,36 @@ fn memories(kept: &[u8], j: &[u8], u: &[u8], f: &[u8]) -> bool {
     same_frames
 }
 
-// Whether two final states are the same; shows each part that is not.
-pub fn states(a: Gateway, b: Gateway, kept: &[u8], j: &[u8], u: &[u8], f: &[u8]) -> bool {
-    let was = a.ledger;
-    let is = b.ledger;
-    let same_records = records(a, b);
-    let same_ledgers = ledger(was, is);
-    let same_memories = memories(kept, j, u, f);
-    if !same_records {
-        return false;
+// The first place of the order whose item has another answer than before, or the order's length.
+fn first_answer(order: &[u64], was: &[u64], is: &[u64]) -> usize {
+    let mut i = 0;
+    while i < order.len() {
+        let k = order[i] as usize;
+        if items::at(was, k) != items::at(is, k) {
+            return i;
+        }
+        i += 1;
     }
-    if !same_ledgers {
-        return false;
-    }
-    same_memories
+    i
 }
 
-// The three memories as a run left them, one behind the other.
-pub fn keep(kept: &mut [u8], j: &[u8], u: &[u8], f: &[u8]) {
-    memory::copy_at(kept, 0, j);
-    memory::copy_at(kept, memory::JOURNAL_SIZE, u);
-    memory::copy_at(kept, memory::JOURNAL_SIZE + memory::UNFINISHED_SIZE, f);
+// Whether every answer is the same, and every buffer of a taking, whole; shows the first that is not.
+pub fn answers(order: &[u64], was: &[u64], is: &Items, log: &Log, log2: &Log) -> bool {
+    let place = first_answer(order, was, is);
+    showing::show(b"  answers:");
+    if place < order.len() {
+        let k = order[place] as usize;
+        showing::answers_differ(place, k, items::at(was, k), items::at(is, k));
+        return false;
+    }
+    if !bytes(
+        b" the same, but the buffers of the takings differ from byte ",
+        log,
+        log2,
+    ) {
+        showing::show(b"\n");
+        return false;
+    }
+    showing::show(b" the same\n");
+    true
 }

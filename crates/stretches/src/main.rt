@@ -149,48 +149,28 @@ fn laid(b: Bench, input: &[u8], words: &[u8], pool: &mut [u64], trace: &mut [u64
     }
 }
 
-fn steps(
-    input: &[u8],
-    pool: &mut [u64],
-    trace: &mut [u64],
-    answers: &mut [u64],
-    order: &mut [u64],
-    log: &mut [u8],
-    kept: &mut [u8],
-    j: &mut [u8],
-    u: &mut [u8],
-    f: &mut [u8],
-) -> Totals {
+fn steps(input: &[u8], pool: &mut [u64], trace: &mut [u64]) -> Totals {
     let mut b = start();
     let mut at = 0;
     while at < input.len() {
         let here = at;
         let end = words::line_end(input, at);
         at = end + 1;
-        let words = &input[here..end];
-        showing::title(words);
-        b = laid(b, input, words, pool, trace);
-        b = told(b, words, trace, answers, order, log, kept, j, u, f);
+        b = step(b, input, &input[here..end], pool, trace);
     }
     b.totals
 }
 
-// The trace is told, if the step says so.
-fn told(
-    b: Bench,
-    words: &[u8],
-    trace: &[u64],
-    answers: &mut [u64],
-    order: &mut [u64],
-    log: &mut [u8],
-    kept: &mut [u8],
-    j: &mut [u8],
-    u: &mut [u8],
-    f: &mut [u8],
-) -> Bench {
-    if words::at(words, 0) != b'R' {
-        return b;
+fn step(b: Bench, input: &[u8], words: &[u8], pool: &mut [u64], trace: &mut [u64]) -> Bench {
+    showing::title(words);
+    if words::at(words, 0) == b'R' {
+        return told(b, words, trace);
     }
+    laid(b, input, words, pool, trace)
+}
+
+// The trace is told.
+fn told(b: Bench, words: &[u8], trace: &[u64]) -> Bench {
     let n = b.items;
     if b.wrong {
         showing::show(b"  not told: the script asks for what has no room\n");
@@ -199,22 +179,7 @@ fn told(
     if trace.len() < n {
         return b;
     }
-    if answers.len() < n {
-        return b;
-    }
-    let how = words::at(words, 2) % 16;
-    telling::tell(
-        b,
-        how,
-        &trace[..n],
-        &mut answers[..n],
-        order,
-        log,
-        kept,
-        j,
-        u,
-        f,
-    )
+    telling::tell(b, words::at(words, 2) % 16, &trace[..n])
 }
 
 fn main() {
@@ -222,24 +187,6 @@ fn main() {
     let n = io::read_full(0, &mut input);
     let mut pool = [0u64; 40960];
     let mut trace = [0u64; 40960];
-    let mut answers = [0u64; 40960];
-    let mut order = [0u64; 40960];
-    let mut log = [0u8; 400000];
-    let mut kept = [0u8; 66736];
-    let mut journal = [0u8; 32768];
-    let mut unfinished = [0u8; 32000];
-    let mut frames = [0u8; 1968];
-    let totals = steps(
-        &input[..n],
-        &mut pool,
-        &mut trace,
-        &mut answers,
-        &mut order,
-        &mut log,
-        &mut kept,
-        &mut journal,
-        &mut unfinished,
-        &mut frames,
-    );
+    let totals = steps(&input[..n], &mut pool, &mut trace);
     telling::totals(totals);
 }

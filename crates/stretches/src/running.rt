@@ -1,4 +1,4 @@
-// A trace run: first as it is, then in another order, each answer compared with the first.
+// A trace run from fresh, in some order; each item's answer is kept at the item's own place, so that two runs can be compared.
 ghost use Prim.Native.Nat.{_<_};
 use super::items;
 use gateway::Gateway;
@@ -6,17 +6,16 @@ use gateway::Handled;
 use line::Answer;
 use line::Reply;
 
-// What stands for an answer that has been compared: no item is told twice.
-const TOLD: u64 = 255;
+// An answer or a place for each item; the buffers of the takings; the three memories.
+pub type Items = [u64; 40960];
 
-// The first answer that is not the same: at which place it was told, of which item, what it was and what it is; of a taking the buffer may differ alone.
-pub struct Difference {
-    pub found: bool,
-    pub place: usize,
-    pub item: usize,
-    pub was: u64,
-    pub is: u64,
-}
+pub type Log = [u8; 400000];
+
+pub type Journal = [u8; 32768];
+
+pub type Texts = [u8; 32000];
+
+pub type Frames = [u8; 1968];
 
 // The gateway after an item, with its answer in one number.
 struct Ran {
@@ -24,14 +23,8 @@ struct Ran {
     answer: u64,
 }
 
-// The gateway in the second run, and what was found on the way.
-pub struct Again {
-    pub gateway: Gateway,
-    pub difference: Difference,
-}
-
 // Memory may hold anything at the start: no byte of it is 0, and neighbours differ.
-pub fn fill(s: &mut [u8]) {
+fn fill(s: &mut [u8]) {
     let mut i = 0;
     while i < s.len() {
         s[i] = (i % 251) as u8 + 1;
@@ -62,10 +55,10 @@ fn values(answer: Answer) -> u64
     }
 }
 
-// One item. A taking lends the start of `out`, which holds the same bytes before each.
-fn step(g: Gateway, item: u64, j: &mut [u8], u: &mut [u8], f: &mut [u8], out: &mut [u8]) -> Ran {
+// One item.
+fn step(g: Gateway, item: u64, log: &mut [u8], j: &mut [u8], u: &mut [u8], f: &mut [u8]) -> Ran {
     if items::is_taking(item) {
-        return outcome(take(g, item, j, out));
+        return outcome(take(g, item, log, j));
     }
     outcome(gateway::handle(g, items::event(item), j, u, f))
 }
@@ -79,66 +72,27 @@ fn outcome(h: Handled) -> Ran {
     }
 }
 
-fn take(g: Gateway, item: u64, j: &mut [u8], out: &mut [u8]) -> Handled {
+// A taking lends its own part of the log, so that the log holds every buffer, whole, at the end.
+fn take(g: Gateway, item: u64, log: &mut [u8], j: &mut [u8]) -> Handled {
+    let place = items::place(item);
     let n = items::lends(item);
-    fill(out);
-    if out.len() < n {
+    if log.len() < place {
         return Handled {
             gateway: g,
             answer: Answer::NotFitting,
         };
     }
-    gateway::take(g, items::named(item), j, &mut out[..n])
-}
-
-// The whole buffer of a taking goes to its place in the log.
-fn keep(item: u64, out: &[u8], log: &mut [u8]) -> bool {
-    let n = items::lends(item);
-    if !items::is_taking(item) {
-        return true;
-    }
-    if out.len() < n {
-        return false;
-    }
-    memory::copy_at(log, items::place(item), &out[..n])
-}
-
-// Whether the whole buffer of a taking is what the log has of it.
-fn is_kept(item: u64, out: &[u8], log: &[u8]) -> bool {
-    let n = items::lends(item);
-    let place = items::place(item);
-    if !items::is_taking(item) {
-        return true;
-    }
-    if out.len() < n {
-        return false;
-    }
-    if log.len() < place {
-        return false;
-    }
     if log.len() - place < n {
-        return false;
+        return Handled {
+            gateway: g,
+            answer: Answer::NotFitting,
+        };
     }
     let behind = place + n;
-    first_difference(&out[..n], &log[place..behind]) == n
+    gateway::take(g, items::named(item), j, &mut log[place..behind])
 }
 
-// The first place where two slices differ, or the shorter one's length.
-pub fn first_difference(a: &[u8], b: &[u8]) -> usize {
-    let mut i = 0;
-    while i < a.len() {
-        if b.len() <= i {
-            return i;
-        }
-        if a[i] != b[i] {
-            return i;
-        }
-        i += 1;
-    }
-    i
-}
-
-// One item of the first run: its answer is kept, and of a taking the buffer.
+// One item, and its answer kept.
 fn record(
     g: Gateway,
     k: usize,
@@ -148,130 +102,44 @@ fn record(
     j: &mut [u8],
     u: &mut [u8],
     f: &mut [u8],
-    out: &mut [u8],
 ) -> Gateway {
-    let r = step(g, item, j, u, f, out);
+    let r = step(g, item, log, j, u, f);
     items::put(answers, k, r.answer);
-    keep(item, out, log);
     r.gateway
 }
 
-pub fn first(
+fn in_order(
     trace: &[u64],
+    order: &[u64],
     answers: &mut [u64],
     log: &mut [u8],
     j: &mut [u8],
     u: &mut [u8],
     f: &mut [u8],
-    out: &mut [u8],
 ) -> Gateway {
     let mut g = Gateway::fresh();
-    let mut k = 0;
-    while k < trace.len() {
-        let here = k;
-        k += 1;
-        g = record(g, here, trace[here], answers, log, j, u, f, out);
+    let mut i = 0;
+    while i < order.len() {
+        let k = order[i] as usize;
+        i += 1;
+        g = record(g, k, items::at(trace, k), answers, log, j, u, f);
     }
     g
 }
 
-fn start() -> Again {
-    Again {
-        gateway: Gateway::fresh(),
-        difference: Difference {
-            found: false,
-            place: 0,
-            item: 0,
-            was: 0,
-            is: 0,
-        },
-    }
-}
-
-// The first difference, with one more answer compared.
-fn compared(d: Difference, place: usize, item: usize, was: u64, is: u64, kept: bool) -> Difference {
-    if d.found {
-        return d;
-    }
-    if was == is {
-        if kept {
-            return d;
-        }
-    }
-    Difference {
-        found: true,
-        place,
-        item,
-        was,
-        is,
-    }
-}
-
-// The first difference, with item k compared: its answer, and of a taking the buffer. What was kept of it is gone then.
-fn check(
-    d: Difference,
-    place: usize,
-    k: usize,
-    item: u64,
-    is: u64,
-    answers: &mut [u64],
-    log: &[u8],
-    out: &[u8],
-) -> Difference {
-    let next = compared(
-        d,
-        place,
-        k,
-        items::at(answers, k),
-        is,
-        is_kept(item, out, log),
-    );
-    items::put(answers, k, TOLD);
-    next
-}
-
-// One item of the second run.
-fn repeat(
-    a: Again,
-    place: usize,
-    k: usize,
-    item: u64,
-    answers: &mut [u64],
-    log: &[u8],
-    j: &mut [u8],
-    u: &mut [u8],
-    f: &mut [u8],
-    out: &mut [u8],
-) -> Again {
-    let g = a.gateway;
-    let before = a.difference;
-    let r = step(g, item, j, u, f, out);
-    let gateway = r.gateway;
-    let difference = check(before, place, k, item, r.answer, answers, log, out);
-    Again {
-        gateway,
-        difference,
-    }
-}
-
-// The second run, in the order given.
-pub fn second(
+// From fresh, with the buffers and the memories filled.
+pub fn run(
     trace: &[u64],
     order: &[u64],
-    answers: &mut [u64],
-    log: &[u8],
-    j: &mut [u8],
-    u: &mut [u8],
-    f: &mut [u8],
-    out: &mut [u8],
-) -> Again {
-    let mut a = start();
-    let mut i = 0;
-    while i < order.len() {
-        let here = i;
-        let k = order[i] as usize;
-        i += 1;
-        a = repeat(a, here, k, items::at(trace, k), answers, log, j, u, f, out);
-    }
-    a
+    answers: &mut Items,
+    log: &mut Log,
+    j: &mut Journal,
+    u: &mut Texts,
+    f: &mut Frames,
+) -> Gateway {
+    fill(log);
+    fill(j);
+    fill(u);
+    fill(f);
+    in_order(trace, order, answers, log, j, u, f)
 }

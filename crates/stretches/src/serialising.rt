@@ -19,6 +19,15 @@ pub fn decides(answer: u64) -> bool {
     number == 31
 }
 
+// The order that a trace has.
+pub fn as_it_is(order: &mut [u64]) {
+    let mut k = 0;
+    while k < order.len() {
+        order[k] = k as u64;
+        k += 1;
+    }
+}
+
 pub fn push(order: &mut [u64], told: usize, k: usize) -> usize {
     if order.len() <= told {
         return told;

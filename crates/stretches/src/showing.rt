@@ -1,5 +1,4 @@
 // What is printed.
-use super::running::Difference;
 use gateway::Gateway;
 
 pub fn show(s: &[u8]) {
@@ -68,17 +67,14 @@ fn answer(word: u64) {
     }
 }
 
-pub fn difference(d: Difference) {
-    if !d.found {
-        show(b"  answers: the same\n");
-        return;
-    }
-    named(b"  answers: differ first at place ", d.place as u64);
-    named(b", item ", d.item as u64);
+// The first answer that is not the same: at which place it was told, of which item, what it was and what it is.
+pub fn answers_differ(place: usize, item: usize, was: u64, is: u64) {
+    named(b" differ first at place ", place as u64);
+    named(b", item ", item as u64);
     show(b": was ");
-    answer(d.was);
+    answer(was);
     show(b", is ");
-    answer(d.is);
+    answer(is);
     show(b"\n");
 }
 

@@ -5,16 +5,14 @@ use super::comparing;
 use super::items;
 use super::mistelling;
 use super::running;
-use super::running::Again;
+use super::running::Frames;
+use super::running::Items;
+use super::running::Journal;
+use super::running::Log;
+use super::running::Texts;
 use super::serialising;
 use super::showing;
 use gateway::Gateway;
-
-fn fill(j: &mut [u8], u: &mut [u8], f: &mut [u8]) {
-    running::fill(j);
-    running::fill(u);
-    running::fill(f);
-}
 
 // How often each answer came.
 fn tally(answers: &[u64]) -> [u64; 48] {
@@ -39,7 +37,7 @@ fn added(a: [u64; 48], b: [u64; 48]) -> [u64; 48] {
 }
 
 // The order in which the trace is told again, and how many items it has.
-fn ordered(how: u8, trace: &[u64], answers: &[u64], order: &mut [u64]) -> usize {
+fn ordered(how: u8, trace: &[u64], answers: &Items, order: &mut Items) -> usize {
     if how == 1 {
         return mistelling::by_first(trace, answers, order);
     }
@@ -79,24 +77,6 @@ fn sizes(how: u8, trace: &[u64], counts: [u64; 48], order: &[u64]) {
     showing::counts(counts);
 }
 
-// What is known at the end: the answers and the state are the same, and every item was told.
-fn verdict(g: Gateway, again: Again, all: bool, kept: &[u8], j: &[u8], u: &[u8], f: &[u8]) -> bool {
-    let difference = again.difference;
-    let after = again.gateway;
-    showing::room(g);
-    showing::difference(difference);
-    showing::show(b"  final state:");
-    if !comparing::states(g, after, kept, j, u, f) {
-        showing::show(b"\n");
-        return false;
-    }
-    showing::show(b" the same\n");
-    if difference.found {
-        return false;
-    }
-    all
-}
-
 fn counted(t: Totals, how: u8, same: bool, items: usize, counts: [u64; 48]) -> Totals {
     let mut next = t;
     if how == 0 {
@@ -122,103 +102,169 @@ fn booked(b: Bench, how: u8, same: bool, items: usize, counts: [u64; 48]) -> Ben
     next
 }
 
-// From fresh, memory filled, as the trace is; the memories it leaves are kept.
-fn first_run(
-    trace: &[u64],
-    answers: &mut [u64],
-    log: &mut [u8],
-    kept: &mut [u8],
-    j: &mut [u8],
-    u: &mut [u8],
-    f: &mut [u8],
-) -> Gateway {
-    let mut out = [0u8; 4096];
-    fill(j, u, f);
-    let g = running::first(trace, answers, log, j, u, f, &mut out);
-    comparing::keep(kept, j, u, f);
-    g
+// Whether two runs left the same; shows what is not.
+fn same_state(
+    a: Gateway,
+    b: Gateway,
+    j: &Journal,
+    j2: &Journal,
+    u: &Texts,
+    u2: &Texts,
+    f: &Frames,
+    f2: &Frames,
+) -> bool {
+    showing::show(b"  final state:");
+    let gateways = comparing::gateways(a, b);
+    let memories = comparing::memories(j, j2, u, u2, f, f2);
+    if gateways {
+        if memories {
+            showing::show(b" the same");
+        }
+    }
+    showing::show(b"\n");
+    if !gateways {
+        return false;
+    }
+    memories
 }
 
-// From fresh, memory filled, in the order given.
-fn second_run(
-    trace: &[u64],
-    order: &[u64],
-    answers: &mut [u64],
-    log: &[u8],
-    j: &mut [u8],
-    u: &mut [u8],
-    f: &mut [u8],
-) -> Again {
-    let mut out = [0u8; 4096];
-    fill(j, u, f);
-    running::second(trace, order, answers, log, j, u, f, &mut out)
-}
-
-// The second run, and whether it came to the same.
-fn rerun(
+// The second run, on memory of its own, and whether it came to the same.
+fn again(
     g: Gateway,
     trace: &[u64],
     order: &[u64],
-    answers: &mut [u64],
-    log: &[u8],
-    kept: &[u8],
-    j: &mut [u8],
-    u: &mut [u8],
-    f: &mut [u8],
+    answers: &[u64],
+    log: &Log,
+    j: &Journal,
+    u: &Texts,
+    f: &Frames,
 ) -> bool {
-    let again = second_run(trace, order, answers, log, j, u, f);
-    verdict(g, again, order.len() == trace.len(), kept, j, u, f)
+    let mut answers2 = [0u64; 40960];
+    let mut log2 = [0u8; 400000];
+    let mut j2 = [0u8; 32768];
+    let mut u2 = [0u8; 32000];
+    let mut f2 = [0u8; 1968];
+    let h = running::run(
+        trace,
+        order,
+        &mut answers2,
+        &mut log2,
+        &mut j2,
+        &mut u2,
+        &mut f2,
+    );
+    let same_answers = comparing::answers(order, answers, &answers2, log, &log2);
+    let same = same_state(g, h, j, &j2, u, &u2, f, &f2);
+    if !same_answers {
+        return false;
+    }
+    if order.len() != trace.len() {
+        return false;
+    }
+    same
 }
 
+// What the trace has, and what came of telling it again in this order.
+fn shown(
+    b: Bench,
+    how: u8,
+    g: Gateway,
+    trace: &[u64],
+    order: &[u64],
+    answers: &[u64],
+    log: &Log,
+    j: &Journal,
+    u: &Texts,
+    f: &Frames,
+) -> Bench {
+    let counts = tally(answers);
+    sizes(how, trace, counts, order);
+    showing::room(g);
+    let same = again(g, trace, order, answers, log, j, u, f);
+    booked(b, how, same, trace.len(), counts)
+}
+
+// The same, of the items told and the answers given.
 fn told_again(
     b: Bench,
     how: u8,
     g: Gateway,
+    told: usize,
     trace: &[u64],
     order: &[u64],
-    answers: &mut [u64],
-    log: &[u8],
-    kept: &[u8],
-    j: &mut [u8],
-    u: &mut [u8],
-    f: &mut [u8],
+    answers: &[u64],
+    log: &Log,
+    j: &Journal,
+    u: &Texts,
+    f: &Frames,
 ) -> Bench {
-    let counts = tally(answers);
-    sizes(how, trace, counts, order);
-    let same = rerun(g, trace, order, answers, log, kept, j, u, f);
-    booked(b, how, same, trace.len(), counts)
-}
-
-pub fn tell(
-    b: Bench,
-    how: u8,
-    trace: &[u64],
-    answers: &mut [u64],
-    order: &mut [u64],
-    log: &mut [u8],
-    kept: &mut [u8],
-    j: &mut [u8],
-    u: &mut [u8],
-    f: &mut [u8],
-) -> Bench {
-    let g = first_run(trace, answers, log, kept, j, u, f);
-    let told = ordered(how, trace, answers, order);
+    let n = trace.len();
     if order.len() < told {
         return b;
     }
-    told_again(
+    if answers.len() < n {
+        return b;
+    }
+    shown(
         b,
         how,
         g,
         trace,
         &order[..told],
-        answers,
+        &answers[..n],
         log,
-        kept,
         j,
         u,
         f,
     )
+}
+
+// The same, of the arrays whole.
+fn tell_again(
+    b: Bench,
+    how: u8,
+    g: Gateway,
+    told: usize,
+    trace: &[u64],
+    order: &Items,
+    answers: &Items,
+    log: &Log,
+    j: &Journal,
+    u: &Texts,
+    f: &Frames,
+) -> Bench {
+    told_again(b, how, g, told, trace, order, answers, log, j, u, f)
+}
+
+// The first run: the trace as it is.
+fn first_run(
+    trace: &[u64],
+    answers: &mut Items,
+    log: &mut Log,
+    j: &mut Journal,
+    u: &mut Texts,
+    f: &mut Frames,
+) -> Gateway {
+    let mut order = [0u64; 40960];
+    let n = trace.len();
+    serialising::as_it_is(&mut order);
+    if 40960 < n {
+        return Gateway::fresh();
+    }
+    running::run(trace, &order[..n], answers, log, j, u, f)
+}
+
+// A trace run, and told again.
+pub fn tell(b: Bench, how: u8, trace: &[u64]) -> Bench {
+    let mut order = [0u64; 40960];
+    let mut answers = [0u64; 40960];
+    let mut log = [0u8; 400000];
+    let mut j = [0u8; 32768];
+    let mut u = [0u8; 32000];
+    let mut f = [0u8; 1968];
+    let g = first_run(trace, &mut answers, &mut log, &mut j, &mut u, &mut f);
+    let told = ordered(how, trace, &answers, &mut order);
+    tell_again(b, how, g, told, trace, &order, &answers, &log, &j, &u, &f)
 }
 
 // What all traces came to.

@@ -1,20 +1,20 @@
--- `first_difference` is safe and ends.
+-- `first_answer` is safe and ends.
 -- Assumes nothing.
 use Prim.Native.Nat.{_-_}
 use native.Mathlib.Omega.{arith}
 use lib.ListN.{length}
 use borrow.Author.Needs.{needs}
-use Rattle.stretches.proofs.running.first_difference.Statement.{statement}
-use Rattle.stretches.proofs.running.first_difference.Tie as tie
+use Rattle.stretches.proofs.comparing.first_answer.Statement.{statement}
+use Rattle.stretches.proofs.comparing.first_answer.Tie as tie
 
 abbrev Inv-loop : tie.InvT-loop
-Inv-loop a b i₀ i = Unit {0}
+Inv-loop order was is i₀ i = Unit {0}
 
 abbrev μ-loop : tie.MeasureT-loop
-μ-loop a b i₀ i = length a - i
+μ-loop order was is i₀ i = length order - i
 
-pub first-difference-spec : {M : Type 1} → statement M
-first-difference-spec =
+pub first-answer-spec : {M : Type 1} → statement M
+first-answer-spec =
     tie.close
     (tie.spec
     Inv-loop
@@ -22,7 +22,8 @@ first-difference-spec =
     (λ c. tt)
     (λ c. search needs)
     (λ c. omega arith)
-    (λ c. omega arith)
+    (λ c κs. search needs)
+    (λ c κs. search needs)
     (λ c. search needs)
     (λ c. omega arith)
     (λ c. omega arith)
