@@ -13,11 +13,11 @@
 ghost use Prim.Native.Nat.{_≤_};
 ghost use lib.ListN.{length};
 
-mod comparing; // comparing.rt: two final states
+mod comparing; // comparing.rt: two runs compared
 mod items; // items.rt: an item in one number
 mod mistelling; // mistelling.rt: wrong orders
 mod queues; // queues.rt: what the script says, line by line
-mod running; // running.rt: the two runs
+mod running; // running.rt: a trace run from fresh
 mod serialising; // serialising.rt: the rule
 mod showing; // showing.rt: what is printed
 mod telling; // telling.rt: a trace run, told again and compared
