@@ -1,0 +1,36 @@
+-- `by_first` is safe and ends. What is lent keeps its length.
+-- Assumes nothing.
+use mathlib.Core.Path.{_≡_, refl}
+use Prim.Native.Nat.{_-_}
+use native.Mathlib.Omega.{arith}
+use lib.ListN.{length}
+use borrow.Author.Needs.{needs}
+use Rattle.stretches.proofs.mistelling.by_first.Statement.{statement}
+use Rattle.stretches.proofs.mistelling.by_first.Tie as tie
+
+abbrev Inv-loop : tie.InvT-loop
+Inv-loop trace answers order₀ pending₀ told₀ k₀ order pending told k = length order ≡ length order₀
+
+abbrev μ-loop : tie.MeasureT-loop
+μ-loop trace answers order₀ pending₀ told₀ k₀ order pending told k = length trace - k
+
+pub by-first-spec : {M : Type 1} → statement M
+by-first-spec =
+    tie.close
+    (tie.spec
+    Inv-loop
+    μ-loop
+    (λ c. refl)
+    (λ c. search needs)
+    (λ c. omega arith)
+    (λ c κs. search needs)
+    (λ c κs. search needs)
+    (λ c. search needs)
+    (λ c. search needs)
+    (λ c κs. search needs)
+    (λ c κs. search needs)
+    (λ c. omega arith)
+    (λ c. omega arith)
+    (λ c. search needs)
+    (λ c. search needs)
+    (λ c. search needs))

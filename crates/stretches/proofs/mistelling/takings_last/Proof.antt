@@ -1,0 +1,33 @@
+-- `takings_last` is safe and ends. What is lent keeps its length.
+-- Assumes nothing.
+use mathlib.Core.Path.{_≡_, refl}
+use Prim.Native.Nat.{_-_}
+use native.Mathlib.Omega.{arith}
+use lib.ListN.{length}
+use borrow.Author.Needs.{needs}
+use Rattle.stretches.proofs.mistelling.takings_last.Statement.{statement}
+use Rattle.stretches.proofs.mistelling.takings_last.Tie as tie
+
+abbrev Inv-loop : tie.InvT-loop
+Inv-loop trace order₀ told next₀ k₀ order next k = length order ≡ length order₀
+
+abbrev μ-loop : tie.MeasureT-loop
+μ-loop trace order₀ told next₀ k₀ order next k = length trace - k
+
+pub takings-last-spec : {M : Type 1} → statement M
+takings-last-spec =
+    tie.close
+    (tie.spec
+    Inv-loop
+    μ-loop
+    (λ c κs. search needs)
+    (λ c. refl)
+    (λ c. search needs)
+    (λ c. omega arith)
+    (λ c κs. search needs)
+    (λ c κs. search needs)
+    (λ c. omega arith)
+    (λ c. omega arith)
+    (λ c. search needs)
+    (λ c. search needs)
+    (λ c. search needs))

@@ -1,0 +1,34 @@
+-- `added` is safe and ends. The loop's invariant: a store leaves the array's length.
+-- Assumes nothing.
+use mathlib.Core.Path.{_≡_}
+use Prim.Native.Nat.{_-_}
+use native.Mathlib.Omega.{arith}
+use lib.ListN.{length, length-set}
+use borrow.Author.Needs.{needs}
+use Rattle.stretches.proofs.telling.added.Statement.{statement}
+use Rattle.stretches.proofs.telling.added.Tie as tie
+
+abbrev Inv-loop : tie.InvT-loop
+Inv-loop a b sum₀ i₀ sum i = length sum ≡ 48
+
+abbrev μ-loop : tie.MeasureT-loop
+μ-loop a b sum₀ i₀ sum i = 48 - i
+
+pub added-spec : {M : Type 1} → statement M
+added-spec =
+    tie.close
+    (tie.spec
+    Inv-loop
+    μ-loop
+    (λ c. search needs)
+    (λ c. search needs)
+    (λ c. search needs)
+    (λ c. search needs)
+    (λ c. search needs)
+    (λ c κs. search needs)
+    (λ c. search needs)
+    (λ c. search needs)
+    (λ c. omega arith)
+    (λ c. omega arith)
+    (λ c. simp length-set (omega arith))
+    (λ c. search needs))
