@@ -59,9 +59,6 @@ module _ (shares : List ℕ) (l : Line) (d : Ledger) (e : Event) (m : Memory) wh
   is-proper : (v : Verdict) → found ≡ v → Proper v
   is-proper v h = subst Proper h (verdict-proper shares l d e (m .journal) (m .unfinished) (m .frames))
 
-  is-found : (v : Verdict) → found ≡ v → Found shares l d e (m .journal) (m .unfinished) (m .frames) v
-  is-found v h = subst (Found shares l d e (m .journal) (m .unfinished) (m .frames)) h (verdict-found shares l d e (m .journal) (m .unfinished) (m .frames))
-
   -- an ignored event, 20 and 40 to 43 change nothing at all
   pub left-unchanged : (a : Answer) → found ≡ Left a → stepOf shares l d e m ≡ unchanged l d m a
   left-unchanged a h = step-is (Left a) h

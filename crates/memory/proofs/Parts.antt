@@ -7,7 +7,7 @@ use native.Mathlib.Nat.{add-assoc, add-zero, zero-add, sub-zero, zero-sub}
 use native.Mathlib.Numerals.{add-one}
 use native.Mathlib.Omega.{arith}
 use lib.ListN.{length, take, drop, getD, set, length-append, length-take, length-drop, take-append-drop}
-use lib.Seq.{take-append-le, drop-append-le, take-append-add, drop-append-add, take-at, drop-at, take-take, drop-drop, take-add, take-all, take-nil, length-take-le, set-split, getD-take, getD-drop, sets, sets-eq}
+use lib.Seq.{take-append-le, drop-append-le, take-append-add, drop-append-add, take-at, drop-at, take-take, drop-drop, take-add, take-nil, length-take-le, set-split, getD-take, getD-drop, sets, sets-eq}
 use Rattle.memory.specs.Parts.{part, splice}
 
 -- a take and then a drop, the other way round
@@ -45,11 +45,6 @@ module _ {A : Type 0} where
   pub part-start : (d : List A) (n : ℕ) → part d 0 n ≡ take n d
   unfolding part
   part-start d n = refl
-
-  -- the part from `at` to the end
-  pub part-rest : (d : List A) (at : ℕ) → part d at (length d - at) ≡ drop at d
-  unfolding part
-  part-rest d at = take-all (length d - at) (drop at d) (rw length-drop (omega arith))
 
   -- a part that is lent from `at` to `at + n`
   pub part-lent : (d : List A) (at n : ℕ) → take (at + n - at) (drop at d) ≡ part d at n
@@ -146,10 +141,6 @@ module _ {A : Type 0} where
     part-behind k m g = ap (take m) (drop-splice k g)
 
     -- the same of a single byte
-    pub getD-before : (k : ℕ) (z : A) → k < at → getD (splice d at s) k z ≡ getD d k z
-    getD-before k z g =
-        sym (getD-take at (splice d at s) k z g) ∙ ap (λ (l : List A). getD l k z) (take-splice at (omega arith)) ∙ getD-take at d k z g
-
     pub getD-behind : (k : ℕ) (z : A) → at + length s ≤ k → getD (splice d at s) k z ≡ getD d k z
     getD-behind k z g = first-of (splice d at s) k z ∙ ap (λ (l : List A). getD l 0 z) (drop-splice k g) ∙ sym (first-of d k z)
 
@@ -202,16 +193,6 @@ module _ {A : Type 0} where
 
   pub splice-join-front : (d : List A) (at : ℕ) (s t : List A) → at + length s + length t ≤ length d → splice (splice d (at + length s) t) at s ≡ splice d at (s ++ t)
   splice-join-front d at s t h = sym (splice-comm d at s (at + length s) t (omega arith) h) ∙ splice-join d at s t h
-
-  -- a second write to the same part replaces the first
-  pub splice-over : (d : List A) (at : ℕ) (s t : List A) → at + length s ≤ length d → length s ≡ length t → splice (splice d at s) at t ≡ splice d at t
-  splice-over d at s t h e = rw (splice-is (splice d at s) at t, splice-is d at t, take-splice d at s h at (omega arith), drop-splice d at s h (at + length t) (omega arith))
-
-  -- writing a part's own bytes changes nothing
-  pub splice-own : (d : List A) (at n : ℕ) → at + n ≤ length d → splice d at (part d at n) ≡ d
-  splice-own d at n h =
-      let rest : part d at n ++ drop (at + n) d ≡ drop at d = rw (← part-spelt d at n, ← drop-drop n at d) (take-append-drop n (drop at d)) in
-      rw (splice-is d at (part d at n), length-part d at n h, rest) (take-append-drop at d)
 
   -- one byte stored is a write of one byte, and a part's byte is the memory's
   pub set-splice : (d : List A) (i : ℕ) (v : A) → i < length d → set d i v ≡ splice d i (v ∷ [])

@@ -45,8 +45,8 @@ pub fn go_on(d: Delimiters, progress: Progress, place: usize, last: bool, rec: &
     ensures { λ r. ⌜ r ≡ further d progress place last (now (rec .entry)) ⌝ }
 {
     match progress {
-        Progress::Start => reach(crate::check_header(d, last, rec), place),
-        Progress::Going(s) => reach(crate::check_record(d, s, last, rec), place),
+        Progress::Start => reach(crate::judging::check_header(d, last, rec), place),
+        Progress::Going(s) => reach(crate::judging::check_record(d, s, last, rec), place),
         Progress::Stopped(f, n) => Progress::Stopped(f, n),
     }
 }

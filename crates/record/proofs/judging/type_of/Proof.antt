@@ -1,4 +1,4 @@
--- `record::type_of` meets its contract: field 1 has one byte exactly if the first delimiter stands at index 1, and two bytes tell that.
+-- `record::judging::type_of` meets its contract: field 1 has one byte exactly if the first delimiter stands at index 1, and two bytes tell that.
 -- Assumes nothing.
 use mathlib.Core.Path.{_≡_, _∙_}
 use Prim.Native.Nat.{min}
@@ -10,8 +10,8 @@ use Rattle.record.specs.Kinds.{typeOf}
 use Rattle.record.proofs.Scans.{before-length, before-first}
 use Rattle.record.proofs.Head.{find-window}
 use borrow.Author.Needs.{needs}
-use Rattle.record.proofs.type_of.Statement.{statement}
-use Rattle.record.proofs.type_of.Tie as tie
+use Rattle.record.proofs.judging.type_of.Statement.{statement}
+use Rattle.record.proofs.judging.type_of.Tie as tie
 
 windowed : (c : tie.After-index-within) → c .index-within .result ≡ min 2 (find (is (c .before .before .args .b)) (c .before .before .args .rec .now))
 windowed c = let a = c .before .before .args in c .index-within .ensures ∙ find-window (is (a .b)) 2 (a .rec .now)

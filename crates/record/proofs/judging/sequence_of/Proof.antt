@@ -1,4 +1,4 @@
--- `record::sequence_of` meets its contract: what stands behind two bytes up to the next delimiter, of which seven bytes tell.
+-- `record::judging::sequence_of` meets its contract: what stands behind two bytes up to the next delimiter, of which seven bytes tell.
 -- Assumes nothing.
 use mathlib.Core.Path.{refl, sym, ap, _∙_}
 use mathlib.Core.List.{List, []}
@@ -14,8 +14,8 @@ use Rattle.record.proofs.Decimal.{number-none}
 use Rattle.record.proofs.Scans.{tailAt, rest-part}
 use Rattle.record.proofs.Head.{find-window, head-number}
 use borrow.Author.Needs.{needs}
-use Rattle.record.proofs.sequence_of.Statement.{statement}
-use Rattle.record.proofs.sequence_of.Tie as tie
+use Rattle.record.proofs.judging.sequence_of.Statement.{statement}
+use Rattle.record.proofs.judging.sequence_of.Tie as tie
 
 returns : tie.Need-returns
 returns c =

@@ -1,4 +1,4 @@
--- `record::index_within` meets its contract: a text with no more than k bytes is its own first k bytes.
+-- `record::judging::index_within` meets its contract: a text with no more than k bytes is its own first k bytes.
 -- Assumes nothing.
 use mathlib.Core.Path.{_∙_, sym, ap}
 use mathlib.Core.List.{List}
@@ -7,8 +7,8 @@ use native.Mathlib.Omega.{arith}
 use lib.Seq.{take-all, length-take-le}
 use Rattle.memory.specs.Tests.{is, find}
 use borrow.Author.Needs.{needs}
-use Rattle.record.proofs.index_within.Statement.{statement}
-use Rattle.record.proofs.index_within.Tie as tie
+use Rattle.record.proofs.judging.index_within.Statement.{statement}
+use Rattle.record.proofs.judging.index_within.Tie as tie
 
 index-of-requires : tie.Need-index-of-requires
 index-of-requires c κs = search needs

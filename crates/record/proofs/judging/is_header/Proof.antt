@@ -1,10 +1,10 @@
--- `record::is_header` meets its contract: each answer under the tests that led to it.
+-- `record::judging::is_header` meets its contract: each answer under the tests that led to it.
 -- Assumes nothing.
 use Rattle.record.specs.Faults.{isHeader}
 use Rattle.memory.proofs.Told.{told}
 use borrow.Author.Needs.{needs}
-use Rattle.record.proofs.is_header.Statement.{statement}
-use Rattle.record.proofs.is_header.Tie as tie
+use Rattle.record.proofs.judging.is_header.Statement.{statement}
+use Rattle.record.proofs.judging.is_header.Tie as tie
 
 returns : tie.Need-returns
 unfolding isHeader

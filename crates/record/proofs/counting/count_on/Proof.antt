@@ -1,8 +1,8 @@
--- `record::count_on` meets its contract: in each arm the type is known, and the counts are those of the definition.
+-- `record::counting::count_on` meets its contract: in each arm the type is known, and the counts are those of the definition.
 -- Assumes nothing.
 use borrow.Author.Needs.{needs}
-use Rattle.record.proofs.count_on.Statement.{statement}
-use Rattle.record.proofs.count_on.Tie as tie
+use Rattle.record.proofs.counting.count_on.Statement.{statement}
+use Rattle.record.proofs.counting.count_on.Tie as tie
 
 restart-requires : tie.Need-restart-requires
 restart-requires c κs = search needs

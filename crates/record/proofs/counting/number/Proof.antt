@@ -1,4 +1,4 @@
--- `record::number` meets its contract: what is passed are digits, and n is their decimal.
+-- `record::counting::number` meets its contract: what is passed are digits, and n is their decimal.
 -- Assumes nothing.
 use borrow.Author.Needs.{needs}
 use Prim.Native.Nat.{ℕ, _-_, _^_, _≤_, _<_}
@@ -10,8 +10,8 @@ use Rattle.memory.specs.Tests.{all}
 use Rattle.memory.proofs.Tests.{all-stop, all-next, all-done}
 use Rattle.record.specs.Numbers.{isDigit, decimal}
 use Rattle.record.proofs.Decimal.{decimal-more, tenfold, six-digits, between-yes, between-low, between-high, number-none, number-long, number-zero, number-bad, number-is}
-use Rattle.record.proofs.number.Statement.{statement}
-use Rattle.record.proofs.number.Tie as tie
+use Rattle.record.proofs.counting.number.Statement.{statement}
+use Rattle.record.proofs.counting.number.Tie as tie
 
 abbrev Inv-loop : tie.InvT-loop
 Inv-loop f n₀ i₀ n i = (i ≤ length f) × (n < 10 ^ i) × (decimal n (drop i f) ≡ decimal 0 f) × (all isDigit (drop i f) ≡ all isDigit f)

@@ -1,4 +1,4 @@
--- `record::check_record` meets its contract: the type and the number are those of fields 1 and 2.
+-- `record::judging::check_record` meets its contract: the type and the number are those of fields 1 and 2.
 -- Assumes nothing.
 use mathlib.Core.Path.{_≡_, sym, ap, _∙_}
 use Rattle.record.specs.Fields.{before, fieldOf}
@@ -6,8 +6,8 @@ use Rattle.record.specs.Numbers.{numberOf}
 use Rattle.record.specs.Faults.{recordStep, kindStep}
 use Rattle.record.proofs.Head.{known-second}
 use borrow.Author.Needs.{needs}
-use Rattle.record.proofs.check_record.Statement.{statement}
-use Rattle.record.proofs.check_record.Tie as tie
+use Rattle.record.proofs.judging.check_record.Statement.{statement}
+use Rattle.record.proofs.judging.check_record.Tie as tie
 
 type-of-requires : tie.Need-type-of-requires
 type-of-requires c κs = search needs

@@ -1,4 +1,4 @@
--- `record::check_kind` meets its contract: each answer under the tests that led to it; n - 1 is compared, so that no count can wrap.
+-- `record::judging::check_kind` meets its contract: each answer under the tests that led to it; n - 1 is compared, so that no count can wrap.
 -- Assumes nothing.
 use mathlib.Core.Path.{_≡_, sym, _∙_}
 use mathlib.Core.Bool.{true}
@@ -9,8 +9,8 @@ use Rattle.record.specs.Kinds.{mayFollow}
 use Rattle.record.specs.Numbers.{countOf}
 use Rattle.record.specs.Faults.{kindStep, placed}
 use borrow.Author.Needs.{needs}
-use Rattle.record.proofs.check_kind.Statement.{statement}
-use Rattle.record.proofs.check_kind.Tie as tie
+use Rattle.record.proofs.judging.check_kind.Statement.{statement}
+use Rattle.record.proofs.judging.check_kind.Tie as tie
 
 -- behind the first test, and behind the second
 follows : (c : tie.Else1) → mayFollow (c .before .before .args .s .other) (c .before .before .args .k) ≡ true

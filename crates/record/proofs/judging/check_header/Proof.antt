@@ -1,11 +1,11 @@
--- `record::check_header` meets its contract: each answer under the tests that led to it.
+-- `record::judging::check_header` meets its contract: each answer under the tests that led to it.
 -- Assumes nothing.
 use mathlib.Core.Path.{sym, _∙_}
 use borrow.Author.Tests.{not-true, not-false}
 use Rattle.record.specs.Faults.{headerStep}
 use borrow.Author.Needs.{needs}
-use Rattle.record.proofs.check_header.Statement.{statement}
-use Rattle.record.proofs.check_header.Tie as tie
+use Rattle.record.proofs.judging.check_header.Statement.{statement}
+use Rattle.record.proofs.judging.check_header.Tie as tie
 
 is-header-requires : tie.Need-is-header-requires
 is-header-requires c κs = search needs
