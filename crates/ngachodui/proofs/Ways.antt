@@ -1,0 +1,164 @@
+-- Each way out of a call.
+-- Assumes nothing.
+use mathlib.Core.Path.{_≡_, refl, sym, ap, subst, _∙_}
+use mathlib.Core.Bool.{Bool, true, false, not, _&&_}
+use mathlib.Core.List.{List}
+use Prim.Native.Nat.{ℕ, _+_, _≤_, _<_}
+use native.Mathlib.Omega.{arith}
+use borrow.Author.Tests.{lt-ltb, le-ltb, ltb-true, eqb-true, not-true}
+use lib.Dec.{ltb, eqb}
+use lib.ListN.{length, set}
+use Rattle.memory.specs.Sizes.{lines, journalSize, unfinishedSize, framesSize}
+use Rattle.memory.specs.Tests.{is}
+use Rattle.memory.proofs.Tests.{and-left, and-right}
+use Rattle.frame.specs.Control.{lf}
+use Rattle.journal.specs.Room.{todaysShares}
+use Rattle.line.specs.Line.{mostCollected, withinLimits}
+use Rattle.line.specs.declared.Answer.{Answer}
+use Rattle.line.specs.declared.Answer.the-variants.{Nothing, NoLine, WrongSize, BeyondLimits}
+use Rattle.line.specs.declared.Line.{Line}
+use Rattle.gateway.specs.Views.{frameStart}
+use Rattle.gateway.specs.Looks.{byteLook, insideLook}
+use Rattle.gateway.specs.Verdicts.{ownWork, rightSizes, verdictOf}
+use Rattle.gateway.specs.Events.{Memory, AfterStep, Leaves, memoryOf, settle, stepOf}
+use Rattle.gateway.specs.declared.Stepped.{Stepped}
+use Rattle.journal.specs.declared.Ledger.{Ledger}
+use Rattle.journal.specs.declared.Taking.{Taking}
+use Rattle.journal.specs.Removal.{takeOf, TakenFrom}
+use Rattle.line.specs.declared.State.the-variants.{Inside}
+use Rattle.gateway.specs.declared.Event.{Event}
+use Rattle.gateway.specs.declared.Kind.the-variants.{Byte}
+use Rattle.gateway.specs.declared.Verdict.{Verdict}
+use Rattle.gateway.specs.declared.Verdict.the-variants.{Collects}
+use Rattle.ngachodui.specs.Plain.{firstAt, numberAt, stateOf, withLine, withSerial, withUsed, withinNumbers, onlyCollects, oneMore, rightLengths, quick, lineOf, ledgerOf, told, toldTaking}
+use Rattle.ngachodui.specs.Calls.{AfterCall, refused, putBack, callOf, Called, Calling, Stepping, Taken}
+use Rattle.ngachodui.specs.declared.Answered.{Answered}
+use Rattle.ngachodui.proofs.Numbers.{WithinNumbers, numbers-facts, told-within, used-back, collected-back}
+use Rattle.ngachodui.proofs.Narrow.{Narrow, step-narrow, taking-narrow}
+
+as-called : {s t : AfterCall} {r : Answered} {ns us j u f : List ℕ} → s ≡ t → Called t r ns us j u f → Called s r ns us j u f
+as-called {s} {t} {r} {ns} {us} {j} {u} {f} q c = subst (λ (x : AfterCall). Called x r ns us j u f) (sym q) c
+
+module _ (ns us : List ℕ) (e : Event) (j u f : List ℕ) where
+  same : (a : Answer) (r : Answered) → r ≡ told a → Called (refused a ns us (memoryOf j u f)) r ns us j u f
+  same a r q = record { result = q; numbers = refl; used = refl; journal = refl; unfinished = refl; frames = refl }
+
+  -- 40, 41 and 42
+  pub no-line : (r : Answered) → lines ≤ e .line → r ≡ told NoLine → Calling ns us e j u f r ns us j u f
+  unfolding callOf
+  no-line r h q = as-called (rw (le-ltb (e .line) lines h)) (same NoLine r q)
+
+  pub wrong-size : (r : Answered) → e .line < lines → rightLengths (length j) (length u) (length f) ≡ false → r ≡ told WrongSize → Calling ns us e j u f r ns us j u f
+  unfolding callOf rightLengths
+  wrong-size r h s q = as-called (rw (lt-ltb (e .line) lines h, s)) (same WrongSize r q)
+
+  pub beyond : (r : Answered) → e .line < lines → rightLengths (length j) (length u) (length f) ≡ true → withinNumbers ns (e .line) ≡ false → r ≡ told BeyondLimits → Calling ns us e j u f r ns us j u f
+  unfolding callOf rightLengths
+  beyond r h s w q = as-called (rw (lt-ltb (e .line) lines h, s, w)) (same BeyondLimits r q)
+
+  -- and past them
+  pub by-step : {r : Answered} {ns′ us′ j′ u′ f′ : List ℕ} → e .line < lines → rightLengths (length j) (length u) (length f) ≡ true → withinNumbers ns (e .line) ≡ true
+      → Stepping ns us e j u f r ns′ us′ j′ u′ f′ → Calling ns us e j u f r ns′ us′ j′ u′ f′
+  unfolding callOf rightLengths
+  by-step h s w c = as-called (rw (lt-ltb (e .line) lines h, s, w)) c
+
+  -- the step's outcome, put back
+  pub put-back : {l : Line} {d : Ledger} {s : Stepped} {ns₁ ns₂ us′ j′ u′ f′ : List ℕ} {r : Answered} → l ≡ lineOf ns (e .line) → d ≡ ledgerOf ns us
+      → Leaves (stepOf todaysShares l d e (memoryOf j u f)) s j′ u′ f′ → ns₁ ≡ withLine ns (e .line) (s .line) → ns₂ ≡ withSerial ns₁ (e .line) (s .ledger)
+      → us′ ≡ withUsed us (e .line) (s .ledger) → r ≡ told (s .answer) → Stepping ns us e j u f r ns₂ us′ j′ u′ f′
+  put-back {l} {d} {s} {ns₁} {ns₂} {us′} {j′} {u′} {f′} {r} p q x m n o t =
+      let y : Leaves (stepOf todaysShares (lineOf ns (e .line)) (ledgerOf ns us) e (memoryOf j u f)) s j′ u′ f′ = rw (← p, ← q) x in
+      record {
+        result = t ∙ ap (λ (z : Stepped). told (z .answer)) (y .result);
+        numbers = n ∙ ap (λ (z : List ℕ). withSerial z (e .line) (s .ledger)) m ∙ ap (λ (z : Stepped). withSerial (withLine ns (e .line) (z .line)) (e .line) (z .ledger)) (y .result);
+        used = o ∙ ap (λ (z : Stepped). withUsed us (e .line) (z .ledger)) (y .result);
+        journal = y .journal;
+        unfinished = y .unfinished;
+        frames = y .frames;
+      }
+
+-- the ledger after an event still fits
+pub narrow-after : (l : Line) (d : Ledger) (e : Event) (m : Memory) {s : Stepped} → s ≡ stepOf todaysShares l d e m .stepped → Narrow d → Narrow (s .ledger)
+narrow-after l d e m q w = subst (λ (z : Stepped). Narrow (z .ledger)) (sym q) (step-narrow l d e m w)
+
+-- a byte that is only collected
+pub record QuickFacts (i b : ℕ) (ns : List ℕ) (journal unfinished frames : ℕ) : Type 0 where
+  pub line : i < lines
+  pub right : rightLengths journal unfinished frames ≡ true
+  pub within : withinNumbers ns i ≡ true
+  pub only : onlyCollects ns i b ≡ true
+
+pub quick-facts : (i b : ℕ) (ns : List ℕ) (journal unfinished frames : ℕ) → quick i b ns journal unfinished frames ≡ true → QuickFacts i b ns journal unfinished frames
+unfolding quick
+quick-facts i b ns journal unfinished frames e =
+    let rest₁ = and-right (ltb i lines) _ e in
+    let rest₂ = and-right (rightLengths journal unfinished frames) _ rest₁ in
+    record {
+      line = ltb-true _ _ (and-left (ltb i lines) _ e);
+      right = and-left (rightLengths journal unfinished frames) _ rest₁;
+      within = and-left (withinNumbers ns i) _ rest₂;
+      only = and-right (withinNumbers ns i) _ rest₂;
+    }
+
+pub frames-right : (journal unfinished frames : ℕ) → rightLengths journal unfinished frames ≡ true → frames ≡ framesSize
+unfolding rightLengths
+frames-right journal unfinished frames e =
+    let rest = and-right (eqb journal journalSize) (eqb unfinished unfinishedSize && eqb frames framesSize) e in
+    eqb-true frames framesSize (and-right (eqb unfinished unfinishedSize) (eqb frames framesSize) rest)
+
+module _ (ns us : List ℕ) (i b : ℕ) (j u f : List ℕ) (q : QuickFacts i b ns (length j) (length u) (length f)) where
+  abbrev here : Event
+  here = record { line = i; kind = Byte b }
+
+  inside : stateOf (firstAt ns i) ≡ Inside
+  unfolding onlyCollects
+  inside = rw (eqb-true (firstAt ns i) 2 (and-left (eqb (firstAt ns i) 2) (not (is lf b) && not (eqb (numberAt ns i 1) mostCollected)) (q .only)))
+
+  no-end : (is lf b ≡ false) × (eqb (numberAt ns i 1) mostCollected ≡ false)
+  unfolding onlyCollects
+  no-end =
+      let rest = and-right (eqb (firstAt ns i) 2) (not (is lf b) && not (eqb (numberAt ns i 1) mostCollected)) (q .only) in
+      (not-true _ (and-left (not (is lf b)) (not (eqb (numberAt ns i 1) mostCollected)) rest), not-true _ (and-right (not (is lf b)) (not (eqb (numberAt ns i 1) mostCollected)) rest))
+
+  verdict : verdictOf todaysShares (lineOf ns i) (ledgerOf ns us) here j u f ≡ Collects
+  unfolding verdictOf ownWork byteLook insideLook rightLengths
+  verdict = rw (lt-ltb i lines (q .line), q .right, told-within ns i (q .within), inside, no-end .0, no-end .1)
+
+  collects : stepOf todaysShares (lineOf ns i) (ledgerOf ns us) here (memoryOf j u f) ≡ settle Collects (lineOf ns i) (ledgerOf ns us) here (memoryOf j u f)
+  unfolding stepOf
+  collects = ap (λ (v : Verdict). settle v (lineOf ns i) (ledgerOf ns us) here (memoryOf j u f)) verdict
+
+  pub by-quick : {r : Answered} {ns′ f′ : List ℕ} → r ≡ told Nothing → ns′ ≡ oneMore ns i → f′ ≡ set f (frameStart i + numberAt ns i 1) b → Calling ns us here j u f r ns′ us j u f′
+  by-quick {r} {ns′} {f′} p n g = by-step ns us here j u f (q .line) (q .right) (q .within) (as-called (ap (λ (x : AfterStep). putBack ns us i x) collects) (record {
+    result = p;
+    numbers = n ∙ sym (collected-back ns us i (q .line) (q .within));
+    used = sym (used-back ns us i (q .line));
+    journal = refl;
+    unfinished = refl;
+    frames = g;
+  }))
+
+-- a taking
+module _ (ns us : List ℕ) (i : ℕ) (j b : List ℕ) where
+  pub narrow-taken : (d : Ledger) {t : Taking} → t ≡ takeOf d i j b .taking → Narrow d → Narrow (t .ledger)
+  narrow-taken d q w = subst (λ (x : Taking). Narrow (x .ledger)) (sym q) (taking-narrow d i j b w)
+
+  module _ {d : Ledger} {t : Taking} {j′ b′ : List ℕ} {r : Answered} (p : d ≡ ledgerOf ns us) (x : TakenFrom d i j b t j′ b′) (a : r ≡ toldTaking (t .answer)) where
+    told-by : TakenFrom (ledgerOf ns us) i j b t j′ b′
+    told-by = rw (← p) x
+
+    pub taken-nowhere : lines ≤ i → Taken ns us i j b r us j′ b′
+    taken-nowhere h = record {
+      result = a ∙ ap (λ (z : Taking). toldTaking (z .answer)) (told-by .result);
+      used = rw (le-ltb i lines h);
+      journal = told-by .after;
+      buffer = told-by .lent;
+    }
+
+    pub taken-there : {us′ : List ℕ} → i < lines → us′ ≡ withUsed us i (t .ledger) → Taken ns us i j b r us′ j′ b′
+    taken-there h o = record {
+      result = a ∙ ap (λ (z : Taking). toldTaking (z .answer)) (told-by .result);
+      used = rw (lt-ltb i lines h) (o ∙ ap (λ (z : Taking). withUsed us i (z .ledger)) (told-by .result));
+      journal = told-by .after;
+      buffer = told-by .lent;
+    }

@@ -1,0 +1,145 @@
+-- A line's record, the ledger and an answer in plain numbers, as a host keeps them.
+-- Assumes nothing.
+use Prim.Native.Nat.{ℕ, zero, suc, _+_, _*_}
+use mathlib.Core.Bool.{Bool, cond, not, _&&_}
+use mathlib.Core.List.{List, [], _∷_}
+use lib.ListN.{getD, set}
+use lib.Dec.{leb, ltb, eqb}
+use Rattle.memory.specs.Sizes.{lines, messageLimit, journalSize, unfinishedSize, framesSize}
+use Rattle.memory.specs.Tests.{is}
+use Rattle.frame.specs.Control.{lf}
+use Rattle.frame.specs.Number.{mostNumber}
+use Rattle.journal.specs.declared.Ledger.{Ledger}
+use Rattle.line.specs.Line.{mostCollected, mostSeconds}
+use Rattle.line.specs.Paper.{numberOf, replyOf}
+use Rattle.line.specs.declared.Line.{Line}
+use Rattle.line.specs.declared.State.{State}
+use Rattle.line.specs.declared.State.the-variants.{Neutral, Waiting, Inside}
+use Rattle.line.specs.declared.Last.{Last}
+use Rattle.line.specs.declared.Last.the-variants.{NoneYet, Number}
+use Rattle.line.specs.declared.Reply.{Reply}
+use Rattle.line.specs.declared.Reply.the-variants.{Silence, Byte}
+use Rattle.line.specs.declared.Answer.{Answer}
+use Rattle.journal.specs.declared.Took.{Took}
+use Rattle.journal.specs.declared.Took.the-variants.{Taken, NothingWaiting, BufferShort, BrokenJournal, NoSuchLine, WrongSize}
+use Rattle.gateway.specs.Events.{tookAnswer}
+use Rattle.ngachodui.specs.declared.Answered.{Answered}
+
+-- each line has so many numbers, and they start here
+abbrev pub fields : ℕ
+fields = 8
+
+abbrev pub start : ℕ → ℕ
+start i = i * fields
+
+-- the first number of line i, its state, and the number k places on
+abbrev pub firstAt : List ℕ → ℕ → ℕ
+firstAt ns i = getD ns (start i) 0
+
+abbrev pub numberAt : List ℕ → ℕ → ℕ → ℕ
+numberAt ns i k = getD ns (start i + k) 0
+
+-- a state: 0 neutral, 1 waiting, 2 inside
+abbrev pub stateOf : ℕ → State
+stateOf n = cond (eqb n 0) Neutral (cond (eqb n 1) Waiting Inside)
+
+abbrev pub stateNumber : State → ℕ
+stateNumber Neutral = 0
+stateNumber Waiting = 1
+stateNumber Inside = 2
+
+-- the last accepted number: 0 for none, else one more than it
+abbrev pub lastOf : ℕ → Last
+lastOf zero = NoneYet
+lastOf (suc n) = Number n
+
+abbrev pub lastNumber : Last → ℕ
+lastNumber NoneYet = 0
+lastNumber (Number n) = n + 1
+
+abbrev pub flag : Bool → ℕ
+flag b = cond b 1 0
+
+-- a line's first seven numbers are those of a record within its limits; the eighth, a serial, may be any
+unfoldable pub withinNumbers : List ℕ → ℕ → Bool
+withinNumbers ns i =
+    leb (firstAt ns i) 2 && (leb (numberAt ns i 1) mostCollected && (leb (numberAt ns i 2) messageLimit && (leb (numberAt ns i 3) mostSeconds
+    && (leb (numberAt ns i 4) mostNumber && (leb (numberAt ns i 5) (mostNumber + 1) && leb (numberAt ns i 6) 1)))))
+
+-- inside a frame that this byte does not end: it is only collected
+unfoldable pub onlyCollects : List ℕ → ℕ → ℕ → Bool
+onlyCollects ns i b = eqb (firstAt ns i) 2 && (not (is lf b) && not (eqb (numberAt ns i 1) mostCollected))
+
+-- and then it has one more collected
+abbrev pub oneMore : List ℕ → ℕ → List ℕ
+oneMore ns i = set ns (start i + 1) (numberAt ns i 1 + 1)
+
+-- the lengths of the three memories
+unfoldable pub rightLengths : ℕ → ℕ → ℕ → Bool
+rightLengths journal unfinished frames = eqb journal journalSize && (eqb unfinished unfinishedSize && eqb frames framesSize)
+
+-- a byte that passes 40 to 42 and is only collected
+unfoldable pub quick : ℕ → ℕ → List ℕ → ℕ → ℕ → ℕ → Bool
+quick i b ns journal unfinished frames = ltb i lines && (rightLengths journal unfinished frames && (withinNumbers ns i && onlyCollects ns i b))
+
+-- the record that they tell
+abbrev pub lineOf : List ℕ → ℕ → Line
+lineOf ns i = record {
+  state = stateOf (firstAt ns i);
+  collected = numberAt ns i 1;
+  joined = numberAt ns i 2;
+  seconds = numberAt ns i 3;
+  next = numberAt ns i 4;
+  last = lastOf (numberAt ns i 5);
+  refusing = eqb (numberAt ns i 6) 1;
+}
+
+-- the numbers with another record of line i
+unfoldable pub withLine : List ℕ → ℕ → Line → List ℕ
+withLine ns i l =
+    set (set (set (set (set (set (set ns
+    (start i) (stateNumber (l .state)))
+    (start i + 1) (l .collected))
+    (start i + 2) (l .joined))
+    (start i + 3) (l .seconds))
+    (start i + 4) (l .next))
+    (start i + 5) (lastNumber (l .last)))
+    (start i + 6) (flag (l .refusing))
+
+-- the ledger: each line's used count and, behind them, the bytes in use; the serials stand with the lines
+unfoldable pub ledgerOf : List ℕ → List ℕ → Ledger
+ledgerOf ns us = record {
+  in_use = getD us lines 0;
+  used = getD us 0 0 ∷ getD us 1 0 ∷ getD us 2 0 ∷ getD us 3 0 ∷ getD us 4 0 ∷ getD us 5 0 ∷ getD us 6 0 ∷ getD us 7 0 ∷ [];
+  serials = numberAt ns 0 7 ∷ numberAt ns 1 7 ∷ numberAt ns 2 7 ∷ numberAt ns 3 7 ∷ numberAt ns 4 7 ∷ numberAt ns 5 7 ∷ numberAt ns 6 7 ∷ numberAt ns 7 7 ∷ [];
+}
+
+-- the numbers with what a ledger has of line i: no event and no taking changes what it has of another line
+abbrev pub withSerial : List ℕ → ℕ → Ledger → List ℕ
+withSerial ns i d = set ns (start i + 7) (getD (d .serials) i 0)
+
+abbrev pub withUsed : List ℕ → ℕ → Ledger → List ℕ
+withUsed us i d = set (set us i (getD (d .used) i 0)) lines (d .in_use)
+
+-- a reply byte, or 0 for none
+abbrev pub replyByte : Reply → ℕ
+replyByte Silence = 0
+replyByte (Byte b) = b
+
+-- the answer to an event carries no values
+unfoldable pub told : Answer → Answered
+told a = record { number = numberOf a; reply = replyByte (replyOf (numberOf a)); serial = 0; length = 0 }
+
+-- the answer to a taking: for 8 the text's length and the serial
+unfoldable pub toldTaking : Took → Answered
+toldTaking (Taken n serial) = record { number = 8; reply = 0; serial = serial; length = n }
+toldTaking NothingWaiting = told (tookAnswer NothingWaiting)
+toldTaking BufferShort = told (tookAnswer BufferShort)
+toldTaking BrokenJournal = told (tookAnswer BrokenJournal)
+toldTaking NoSuchLine = told (tookAnswer NoSuchLine)
+toldTaking WrongSize = told (tookAnswer WrongSize)
+
+-- fresh lines: neutral, next number 1, and the next serial 0
+abbrev pub freshNumbers : ℕ → List ℕ
+freshNumbers zero = []
+freshNumbers (suc n) = 0 ∷ 0 ∷ 0 ∷ 0 ∷ 1 ∷ 0 ∷ 0 ∷ 0 ∷ freshNumbers n

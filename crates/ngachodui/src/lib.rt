@@ -1,0 +1,161 @@
+// The gateway for hosts in C and Rust. A host keeps the state in plain numbers in its own memory, and lends it to each call:
+//   numbers  eight for each line: state (0 neutral, 1 waiting, 2 inside), collected, joined, seconds, next number,
+//            last number (0 for none, else one more than it), refusing (0 or 1), the serial of its next entry
+//   used     each line's used count, then how many bytes of the journal are in use
+ghost use Prim.Native.Nat.{_<_};
+ghost use mathlib.Core.Path.{_≡_};
+ghost use mathlib.Core.Bool.{true};
+ghost use Rattle.gateway.specs.declared.Kind.the-variants.{Byte, Seconds};
+ghost use Rattle.memory.specs.Sizes.{lines};
+ghost use Rattle.ngachodui.specs.Plain.{withinNumbers};
+ghost use Rattle.ngachodui.specs.Calls.{Calling, Stepping, Taken, Fresh};
+use gateway::Event;
+use gateway::Kind;
+use line::Answer;
+
+mod plain; // plain.rt: records, ledger and answers in plain numbers
+
+// An answer: its number in document 01's table, the byte to send back (0 for none), and for 8 the serial and the text's length.
+#[repr(C)]
+pub struct Answered {
+    pub number: u8,
+    pub reply: u8,
+    pub serial: u16,
+    pub length: usize,
+}
+
+// A byte has come on a line. Most are only collected: that changes one number and one byte, and copies nothing.
+#[no_mangle]
+pub extern "C" fn ngachodui_byte(
+    line: u8,
+    byte: u8,
+    numbers: &mut [u16; 64],
+    used: &mut [u32; 9],
+    journal: &mut [u8],
+    unfinished: &mut [u8],
+    frames: &mut [u8],
+) -> Answered
+    ensures { λ r. ⌜ Calling (now (numbers .entry)) (now (used .entry)) (record { line = line; kind = Byte byte }) (now (journal .entry)) (now (unfinished .entry)) (now (frames .entry))
+        r (now (numbers .exit)) (now (used .exit)) (now (journal .exit)) (now (unfinished .exit)) (now (frames .exit)) ⌝ }
+{
+    if plain::is_quick(
+        line,
+        byte,
+        numbers,
+        journal.len(),
+        unfinished.len(),
+        frames.len(),
+    ) {
+        plain::collect(line as usize, byte, numbers, frames);
+        return plain::told(Answer::Nothing);
+    }
+    let e = Event {
+        line,
+        kind: Kind::Byte(byte),
+    };
+    event(e, numbers, used, journal, unfinished, frames)
+}
+
+// Seconds have passed on a line.
+#[no_mangle]
+pub extern "C" fn ngachodui_seconds(
+    line: u8,
+    seconds: u8,
+    numbers: &mut [u16; 64],
+    used: &mut [u32; 9],
+    journal: &mut [u8],
+    unfinished: &mut [u8],
+    frames: &mut [u8],
+) -> Answered
+    ensures { λ r. ⌜ Calling (now (numbers .entry)) (now (used .entry)) (record { line = line; kind = Seconds seconds }) (now (journal .entry)) (now (unfinished .entry)) (now (frames .entry))
+        r (now (numbers .exit)) (now (used .exit)) (now (journal .exit)) (now (unfinished .exit)) (now (frames .exit)) ⌝ }
+{
+    let e = Event {
+        line,
+        kind: Kind::Seconds(seconds),
+    };
+    event(e, numbers, used, journal, unfinished, frames)
+}
+
+// Any event: 40, 41, 42, then the gateway's step.
+fn event(
+    e: Event,
+    numbers: &mut [u16; 64],
+    used: &mut [u32; 9],
+    journal: &mut [u8],
+    unfinished: &mut [u8],
+    frames: &mut [u8],
+) -> Answered
+    ensures { λ r. ⌜ Calling (now (numbers .entry)) (now (used .entry)) e (now (journal .entry)) (now (unfinished .entry)) (now (frames .entry))
+        r (now (numbers .exit)) (now (used .exit)) (now (journal .exit)) (now (unfinished .exit)) (now (frames .exit)) ⌝ }
+{
+    let i = e.line as usize;
+    if memory::LINES <= i {
+        return plain::told(Answer::NoLine);
+    }
+    if !plain::is_right(journal.len(), unfinished.len(), frames.len()) {
+        return plain::told(Answer::WrongSize);
+    }
+    if !plain::is_within(numbers, i) {
+        return plain::told(Answer::BeyondLimits);
+    }
+    step(e, numbers, used, journal, unfinished, frames)
+}
+
+// The step by value, and its outcome put back into the numbers.
+fn step(
+    e: Event,
+    numbers: &mut [u16; 64],
+    used: &mut [u32; 9],
+    journal: &mut [u8],
+    unfinished: &mut [u8],
+    frames: &mut [u8],
+) -> Answered
+    requires { ⌜ (e .line < lines) × (withinNumbers (now numbers) (e .line) ≡ true) ⌝ }
+    ensures { λ r. ⌜ Stepping (now (numbers .entry)) (now (used .entry)) e (now (journal .entry)) (now (unfinished .entry)) (now (frames .entry))
+        r (now (numbers .exit)) (now (used .exit)) (now (journal .exit)) (now (unfinished .exit)) (now (frames .exit)) ⌝ }
+{
+    let i = e.line as usize;
+    let record = plain::record_of(numbers, i);
+    let ledger = plain::ledger_of(numbers, used);
+    let s = gateway::step(record, ledger, e, journal, unfinished, frames);
+    let after = s.line;
+    let booked = s.ledger;
+    let answer = s.answer;
+    plain::put_record(numbers, i, after);
+    plain::put_serial(numbers, i, booked);
+    plain::put_used(used, i, booked);
+    plain::told(answer)
+}
+
+// The text of a line's oldest entry goes to the start of the buffer.
+#[no_mangle]
+pub extern "C" fn ngachodui_take(
+    line: u8,
+    numbers: &[u16; 64],
+    used: &mut [u32; 9],
+    journal: &mut [u8],
+    buffer: &mut [u8],
+) -> Answered
+    ensures { λ r. ⌜ Taken (now (numbers .entry)) (now (used .entry)) line (now (journal .entry)) (now (buffer .entry)) r (now (used .exit)) (now (journal .exit)) (now (buffer .exit)) ⌝ }
+{
+    let ledger = plain::ledger_of(numbers, used);
+    let taking = journal::take(ledger, line, journal, buffer);
+    let booked = taking.ledger;
+    let took = taking.answer;
+    let i = line as usize;
+    if memory::LINES <= i {
+        return plain::told_taking(took);
+    }
+    plain::put_used(used, i, booked);
+    plain::told_taking(took)
+}
+
+// Every line fresh, the journal empty.
+#[no_mangle]
+pub extern "C" fn ngachodui_fresh(numbers: &mut [u16; 64], used: &mut [u32; 9])
+    ensures { λ _. ⌜ Fresh (now (numbers .exit)) (now (used .exit)) ⌝ }
+{
+    *numbers = plain::FRESH;
+    *used = [0u32; 9];
+}

@@ -1,0 +1,359 @@
+// Records, ledger and answers in plain numbers.
+ghost use Prim.Native.Nat.{_+_, _<_, _≤_, _^_};
+ghost use mathlib.Core.Path.{_≡_};
+ghost use mathlib.Core.Bool.{true};
+ghost use lib.ListN.{length, set};
+ghost use Rattle.memory.specs.Sizes.{lines, framesSize};
+ghost use Rattle.line.specs.Line.{mostCollected};
+ghost use Rattle.gateway.specs.Views.{frameStart};
+ghost use Rattle.ngachodui.specs.Plain.{numberAt, oneMore, rightLengths, quick, stateOf, stateNumber, lastOf, lastNumber, flag, withinNumbers, onlyCollects, lineOf, withLine, ledgerOf, withSerial, withUsed, replyByte, told as Plain·told, toldTaking};
+use super::Answered;
+use frame::LF;
+use journal::Ledger;
+use journal::Took;
+use line::Answer;
+use line::Last;
+use line::Line;
+use line::Reply;
+use line::State;
+
+// Each line's numbers: state, collected, joined, seconds, next, last, refusing, serial.
+const FIELDS: usize = 8;
+
+const INSIDE: u16 = 2;
+
+// Eight fresh lines.
+pub const FRESH: [u16; 64] = [
+    0,
+    0,
+    0,
+    0,
+    1,
+    0,
+    0,
+    0,
+    0,
+    0,
+    0,
+    0,
+    1,
+    0,
+    0,
+    0,
+    0,
+    0,
+    0,
+    0,
+    1,
+    0,
+    0,
+    0,
+    0,
+    0,
+    0,
+    0,
+    1,
+    0,
+    0,
+    0,
+    0,
+    0,
+    0,
+    0,
+    1,
+    0,
+    0,
+    0,
+    0,
+    0,
+    0,
+    0,
+    1,
+    0,
+    0,
+    0,
+    0,
+    0,
+    0,
+    0,
+    1,
+    0,
+    0,
+    0,
+    0,
+    0,
+    0,
+    0,
+    1,
+    0,
+    0,
+    0,
+];
+
+// Whether a line's numbers are those of a record within its limits.
+pub fn is_within(numbers: &[u16; 64], i: usize) -> bool
+    requires { ⌜ i < lines ⌝ }
+    ensures { λ r. ⌜ r ≡ withinNumbers (now (numbers .entry)) i ⌝ }
+{
+    let at = i * FIELDS;
+    if INSIDE < numbers[at] {
+        return false;
+    }
+    if Line::MOST_COLLECTED < numbers[at + 1] {
+        return false;
+    }
+    if Line::MOST_JOINED < numbers[at + 2] {
+        return false;
+    }
+    if (Line::MOST_SECONDS as u16) < numbers[at + 3] {
+        return false;
+    }
+    if (Line::MOST_NUMBER as u16) < numbers[at + 4] {
+        return false;
+    }
+    if (Line::MOST_NUMBER as u16) + 1 < numbers[at + 5] {
+        return false;
+    }
+    numbers[at + 6] <= 1
+}
+
+// Whether the three memories have the sizes of document 01.
+pub fn is_right(journal: usize, unfinished: usize, frames: usize) -> bool
+    ensures { λ r. ⌜ r ≡ rightLengths journal unfinished frames ⌝ }
+{
+    if journal != memory::JOURNAL_SIZE {
+        return false;
+    }
+    if unfinished != memory::UNFINISHED_SIZE {
+        return false;
+    }
+    frames == memory::FRAMES_SIZE
+}
+
+// Whether a byte passes 40 to 42 and is then only collected.
+pub fn is_quick(
+    line: u8,
+    byte: u8,
+    numbers: &[u16; 64],
+    journal: usize,
+    unfinished: usize,
+    frames: usize,
+) -> bool
+    ensures { λ r. ⌜ r ≡ quick line byte (now (numbers .entry)) journal unfinished frames ⌝ }
+{
+    let i = line as usize;
+    if memory::LINES <= i {
+        return false;
+    }
+    if !is_right(journal, unfinished, frames) {
+        return false;
+    }
+    if !is_within(numbers, i) {
+        return false;
+    }
+    collects(numbers, i, byte)
+}
+
+// The byte behind those collected, and one more collected.
+pub fn collect(i: usize, byte: u8, numbers: &mut [u16; 64], frames: &mut [u8])
+    requires { ⌜ (i < lines) × (numberAt (now numbers) i 1 ≤ mostCollected) × (length (now frames) ≡ framesSize) ⌝ }
+    ensures { λ _. ⌜ (now (numbers .exit) ≡ oneMore (now (numbers .entry)) i) × (now (frames .exit) ≡ set (now (frames .entry)) (frameStart i + numberAt (now (numbers .entry)) i 1) byte) ⌝ }
+{
+    let at = i * FIELDS + 1;
+    let collected = numbers[at];
+    let place = i * memory::FRAME_PART + collected as usize;
+    frames[place] = byte;
+    numbers[at] = collected + 1;
+}
+
+// Whether a byte is only collected: inside a frame that it does not end.
+pub fn collects(numbers: &[u16; 64], i: usize, byte: u8) -> bool
+    requires { ⌜ i < lines ⌝ }
+    ensures { λ r. ⌜ r ≡ onlyCollects (now (numbers .entry)) i byte ⌝ }
+{
+    let at = i * FIELDS;
+    if numbers[at] != INSIDE {
+        return false;
+    }
+    if byte == LF {
+        return false;
+    }
+    numbers[at + 1] != Line::MOST_COLLECTED
+}
+
+// The record that a line's numbers tell.
+pub fn record_of(numbers: &[u16; 64], i: usize) -> Line
+    requires { ⌜ (i < lines) × (withinNumbers (now numbers) i ≡ true) ⌝ }
+    ensures { λ r. ⌜ r ≡ lineOf (now (numbers .entry)) i ⌝ }
+{
+    let at = i * FIELDS;
+    let state = state_of(numbers[at]);
+    let last = last_of(numbers[at + 5]);
+    Line {
+        state,
+        collected: numbers[at + 1],
+        joined: numbers[at + 2],
+        seconds: numbers[at + 3] as u8,
+        next: numbers[at + 4] as u8,
+        last,
+        refusing: numbers[at + 6] == 1,
+    }
+}
+
+fn state_of(n: u16) -> State
+    ensures { λ r. ⌜ r ≡ stateOf n ⌝ }
+{
+    if n == 0 {
+        return State::Neutral;
+    }
+    if n == 1 {
+        return State::Waiting;
+    }
+    State::Inside
+}
+
+fn last_of(n: u16) -> Last
+    requires { ⌜ n ≤ 256 ⌝ }
+    ensures { λ r. ⌜ r ≡ lastOf n ⌝ }
+{
+    if n == 0 {
+        return Last::NoneYet;
+    }
+    Last::Number((n - 1) as u8)
+}
+
+// Puts a record in the place of a line's first seven numbers.
+pub fn put_record(numbers: &mut [u16; 64], i: usize, line: Line)
+    requires { ⌜ i < lines ⌝ }
+    ensures { λ _. ⌜ now (numbers .exit) ≡ withLine (now (numbers .entry)) i line ⌝ }
+{
+    let at = i * FIELDS;
+    let state = line.state;
+    let last = line.last;
+    numbers[at] = state_number(state);
+    numbers[at + 1] = line.collected;
+    numbers[at + 2] = line.joined;
+    numbers[at + 3] = line.seconds as u16;
+    numbers[at + 4] = line.next as u16;
+    numbers[at + 5] = last_number(last);
+    numbers[at + 6] = flag_number(line.refusing);
+}
+
+fn state_number(state: State) -> u16
+    ensures { λ r. ⌜ r ≡ stateNumber state ⌝ }
+{
+    match state {
+        State::Neutral => 0,
+        State::Waiting => 1,
+        State::Inside => INSIDE,
+    }
+}
+
+fn last_number(last: Last) -> u16
+    ensures { λ r. ⌜ r ≡ lastNumber last ⌝ }
+{
+    match last {
+        Last::NoneYet => 0,
+        Last::Number(n) => n as u16 + 1,
+    }
+}
+
+fn flag_number(b: bool) -> u16
+    ensures { λ r. ⌜ r ≡ flag b ⌝ }
+{
+    if b {
+        return 1;
+    }
+    0
+}
+
+// A cast by itself asks nothing of the number.
+fn wide(n: u32) -> usize
+    ensures { λ r. ⌜ (r ≡ n) × (r < 2 ^ 32) ⌝ }
+{
+    n as usize
+}
+
+// The ledger that the numbers tell.
+pub fn ledger_of(numbers: &[u16; 64], used: &[u32; 9]) -> Ledger
+    ensures { λ r. ⌜ (r ≡ ledgerOf (now (numbers .entry)) (now (used .entry))) × (r .in_use < 2 ^ 32) ⌝ }
+{
+    Ledger {
+        in_use: wide(used[8]),
+        used: [
+            used[0],
+            used[1],
+            used[2],
+            used[3],
+            used[4],
+            used[5],
+            used[6],
+            used[7],
+        ],
+        serials: [
+            numbers[7],
+            numbers[15],
+            numbers[23],
+            numbers[31],
+            numbers[39],
+            numbers[47],
+            numbers[55],
+            numbers[63],
+        ],
+    }
+}
+
+// Puts back what a ledger has of a line.
+pub fn put_serial(numbers: &mut [u16; 64], i: usize, ledger: Ledger)
+    requires { ⌜ i < lines ⌝ }
+    ensures { λ _. ⌜ now (numbers .exit) ≡ withSerial (now (numbers .entry)) i ledger ⌝ }
+{
+    let at = i * FIELDS + 7;
+    numbers[at] = ledger.serials[i];
+}
+
+pub fn put_used(used: &mut [u32; 9], i: usize, ledger: Ledger)
+    requires { ⌜ (i < lines) × (ledger .in_use < 2 ^ 32) ⌝ }
+    ensures { λ _. ⌜ now (used .exit) ≡ withUsed (now (used .entry)) i ledger ⌝ }
+{
+    used[i] = ledger.used[i];
+    used[8] = ledger.in_use as u32;
+}
+
+fn reply_byte(reply: Reply) -> u8
+    ensures { λ r. ⌜ r ≡ replyByte reply ⌝ }
+{
+    match reply {
+        Reply::Silence => 0,
+        Reply::Byte(b) => b,
+    }
+}
+
+pub fn told(answer: Answer) -> Answered
+    ensures { λ r. ⌜ r ≡ Plain·told answer ⌝ }
+{
+    Answered {
+        number: answer.number(),
+        reply: reply_byte(answer.reply()),
+        serial: 0,
+        length: 0,
+    }
+}
+
+pub fn told_taking(took: Took) -> Answered
+    ensures { λ r. ⌜ r ≡ toldTaking took ⌝ }
+{
+    match took {
+        Took::Taken(n, serial) => Answered {
+            number: 8,
+            reply: 0,
+            serial,
+            length: n,
+        },
+        Took::NothingWaiting => told(Answer::NothingWaiting),
+        Took::BufferShort => told(Answer::BufferShort),
+        Took::BrokenJournal => told(Answer::Broken),
+        Took::NoSuchLine => told(Answer::NoLine),
+        Took::WrongSize => told(Answer::WrongSize),
+    }
+}
