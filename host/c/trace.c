@@ -4,6 +4,7 @@
  *
  * The same two numbers give the same trace. The analyzers and the laboratories' readers are blind
  * here: they go on as if each frame were acknowledged, unless this program decided that it was not. */
+#include <assert.h>
 #include <inttypes.h>
 #include <stdbool.h>
 #include <stdio.h>
@@ -16,7 +17,7 @@ enum {
     TEXT_LIMIT = 3900,
     PIECE = 240,
     FRAME_LIMIT = PIECE + 7,
-    SCRIPT_LIMIT = 1 << 18,
+    SCRIPT_LIMIT = 1 << 18,   /* twelve messages, the longest, each frame sent three times */
     SECONDS = 256,            /* a step from here on is that many seconds more than 0 */
     MESSAGE_SENT = 1024,      /* a step that is no event: one more message waits for its reader */
     STX = 0x02, ETX = 0x03, EOT = 0x04, ENQ = 0x05, LF = 0x0A, CR = 0x0D, ETB = 0x17
@@ -77,7 +78,8 @@ static void write_message(struct message *message, unsigned length)
     char record[512];
     unsigned patients = 0, orders = 0, results = 0, comments = 0;
     char day[32];
-    snprintf(day, sizeof day, "20260%u%02u%02u%02u%02u", 1 + below(9), 1 + below(28), 6 + below(6), below(60), below(60));
+    snprintf(day, sizeof day, "20260%u%02u%02u%02u%02u", 1 + below(9), 1 + below(28), 6 + below(6), below(60),
+             below(60));
 
     message->length = 0;
     snprintf(record, sizeof record, "H|\\^&|||AN%u^1.0%02u|||||||P||%s", 100 + below(900), below(100), day);
@@ -125,8 +127,8 @@ static struct script scripts[LINES];
 
 static void plan(struct script *script, unsigned step)
 {
-    if (script->length < SCRIPT_LIMIT)
-        script->steps[script->length++] = (uint16_t)step;
+    assert(script->length < SCRIPT_LIMIT);
+    script->steps[script->length++] = (uint16_t)step;
 }
 
 static void plan_frame(struct script *script, unsigned number, const char *text, unsigned n, unsigned char end)
@@ -252,14 +254,19 @@ static void step(unsigned line)
         print_event(line, 'B', step);
 }
 
+static bool read_argument(const char *text, uint64_t *value)
+{
+    char *end;
+    *value = strtoull(text, &end, 10);
+    return *text >= '0' && *text <= '9' && *end == '\0';
+}
+
 int main(int argc, char **argv)
 {
-    if (argc != 3) {
+    if (argc != 3 || !read_argument(argv[1], &events_left) || !read_argument(argv[2], &seed)) {
         fprintf(stderr, "usage: trace EVENTS SEED\n");
         return 2;
     }
-    events_left = strtoull(argv[1], NULL, 10);
-    seed = strtoull(argv[2], NULL, 10);
     while (events_left > 0) {
         unsigned pick = below(LINES + 2);
         step(pick < LINES ? pick : FLOODING);
