@@ -1,0 +1,135 @@
+/* The gateway of document 01 in plain C: no proofs, written from the document alone. It is the
+ * yardstick for the proved gateway: a second reading of the rules, and a measure of speed.
+ *
+ * Nothing is allocated and nothing is kept between calls but what the caller lends. Every call
+ * is answered with a number of document 01's table; a refusal (40 to 47) changes nothing. */
+#ifndef PLAIN_BASELINE_H
+#define PLAIN_BASELINE_H
+
+#include <stdbool.h>
+#include <stddef.h>
+#include <stdint.h>
+
+enum {
+    PLAIN_LINES = 8,
+    PLAIN_TEXT = 4000,    /* longest message, and a line's part of the unfinished text */
+    PLAIN_FRAME = 246,    /* longest frame without STX, and a line's part of the frames */
+    PLAIN_PIECE = 240,    /* longest text of one frame */
+    PLAIN_HEADER = 4,     /* bytes in front of a journal entry's text */
+    PLAIN_SHARE = 2048,   /* journal bytes that each line is sure of */
+    PLAIN_SECONDS_LIMIT = 30,
+
+    PLAIN_JOURNAL_SIZE = 32768,
+    PLAIN_UNFINISHED_SIZE = PLAIN_LINES * PLAIN_TEXT,
+    PLAIN_FRAMES_SIZE = PLAIN_LINES * PLAIN_FRAME,
+
+    PLAIN_NO_LAST = 255,  /* a line's last number before its first accepted frame */
+    PLAIN_NO_REPLY = -1
+};
+
+/* The answers, by document 01's numbers. */
+enum plain_number {
+    PLAIN_NOTHING = 0,            /* ignored, collected, seconds counted; also success of the text functions */
+    PLAIN_OPENED = 1,
+    PLAIN_ACCEPTED = 2,
+    PLAIN_REPEATED = 3,
+    PLAIN_STORED = 4,
+    PLAIN_ENDED = 5,
+    PLAIN_ENDED_UNFINISHED = 6,
+    PLAIN_TIMED_OUT = 7,
+    PLAIN_TAKEN = 8,
+    PLAIN_BUSY = 20,
+    PLAIN_FRAME_TOO_LONG = 21,
+    PLAIN_FRAME_MISSHAPEN = 22,
+    PLAIN_CHECK_WRONG = 23,
+    PLAIN_BYTE_NOT_ALLOWED = 24,
+    PLAIN_NUMBER_NOT_ALLOWED = 25,
+    PLAIN_REFUSING = 26,
+    PLAIN_NUMBER_OUT_OF_TURN = 27,
+    PLAIN_TEXT_TOO_LONG = 28,
+    PLAIN_TEXT_NOT_ENDED = 29,
+    PLAIN_NOT_A_MESSAGE = 30,
+    PLAIN_NO_ROOM = 31,
+    PLAIN_NO_SUCH_LINE = 40,
+    PLAIN_MEMORY_SIZE = 41,
+    PLAIN_RECORD_LIMITS = 42,
+    PLAIN_JOURNAL_BROKEN = 43,
+    PLAIN_NONE_WAITING = 44,
+    PLAIN_BUFFER_TOO_SHORT = 45,
+    PLAIN_TEXT_MALFORMED = 46,
+    PLAIN_OUTPUT_TOO_SHORT = 47
+};
+
+enum plain_state { PLAIN_NEUTRAL, PLAIN_WAITING, PLAIN_INSIDE };
+enum plain_kind { PLAIN_BYTE, PLAIN_SECONDS };
+
+struct plain_line {
+    uint16_t collected;   /* bytes of the open frame */
+    uint16_t joined;      /* bytes of unfinished text */
+    uint8_t seconds;
+    uint8_t state;        /* enum plain_state */
+    uint8_t next;         /* frame number that is due */
+    uint8_t last;         /* last accepted frame number, or PLAIN_NO_LAST */
+    uint8_t refusing;     /* not 0: a message of this transfer was decided against */
+};
+
+struct plain_ledger {
+    uint32_t in_use;                /* journal bytes that hold entries */
+    uint32_t used[PLAIN_LINES];     /* those of each line, headers counted */
+    uint16_t serials[PLAIN_LINES];  /* serial of each line's next entry */
+};
+
+struct plain_gateway {
+    struct plain_line lines[PLAIN_LINES];
+    struct plain_ledger ledger;
+};
+
+/* The lent memories, each with the length that is really lent. They do not overlap. */
+struct plain_memory {
+    uint8_t *journal;
+    size_t journal_length;
+    uint8_t *unfinished;
+    size_t unfinished_length;
+    uint8_t *frames;
+    size_t frames_length;
+};
+
+/* Eight bytes, so that it is handed back in one register. */
+struct plain_answer {
+    uint32_t number;
+    uint16_t length;   /* of the text taken; 0 unless number is 8 */
+    uint16_t serial;   /* of the entry taken; 0 unless number is 8 */
+};
+
+/* One record of a message. Owner is the owning record's number from 1, or 0 for H and L. */
+struct plain_record {
+    uint8_t type;
+    uint16_t offset;
+    uint16_t length;   /* without CR */
+    uint16_t owner;
+};
+
+struct plain_gateway plain_fresh(void);
+
+/* A byte or a number of seconds on one line. A kind other than PLAIN_SECONDS is a byte. */
+struct plain_answer plain_event(struct plain_gateway *gateway, const struct plain_memory *memory,
+                                unsigned line, enum plain_kind kind, uint8_t value);
+
+/* The line's oldest entry goes to the start of the buffer, and later entries close up. */
+struct plain_answer plain_take(struct plain_gateway *gateway, uint8_t *journal, size_t journal_length,
+                               unsigned line, uint8_t *buffer, size_t buffer_length);
+
+/* The byte that goes back to the analyzer: 0x06, 0x15 or PLAIN_NO_REPLY. */
+int plain_reply(unsigned number);
+
+bool plain_is_message(const uint8_t *text, size_t n);
+
+/* The text functions give PLAIN_NOTHING when done, else 46 or 47 with nothing written. Output
+ * does not overlap the text; what the output does not need of its room keeps its bytes. */
+enum plain_number plain_cut(const uint8_t *text, size_t n, uint8_t *out, size_t cap, size_t *length);
+enum plain_number plain_escape(const uint8_t *text, size_t n, uint8_t *out, size_t cap, size_t *length);
+enum plain_number plain_unescape(const uint8_t *text, size_t n, uint8_t *out, size_t cap, size_t *length);
+enum plain_number plain_read(const uint8_t *text, size_t n, struct plain_record *records, size_t cap,
+                             size_t *count);
+
+#endif
