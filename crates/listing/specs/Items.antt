@@ -1,10 +1,10 @@
 -- A line of a trace, as document 01's "Replay listing" has it: line digit, space, letter, space, operand.
 -- Assumes nothing.
 use Prim.Native.Nat.{ℕ, _+_, _*_, _-_}
-use mathlib.Core.Bool.{Bool, cond, _&&_, _||_}
+use mathlib.Core.Bool.{Bool, cond, _&&_}
 use mathlib.Core.List.{List}
 use lib.ListN.{length, getD, drop}
-use lib.Dec.{leb, eqb}
+use lib.Dec.{leb, ltb, eqb}
 use Rattle.memory.specs.Sizes.{messageLimit}
 use Rattle.memory.specs.Tests.{is, between, all, unless}
 use Rattle.record.specs.Numbers.{isDigit, decimal}
@@ -27,16 +27,18 @@ lineLimit = 4096
 abbrev pub operandAt : ℕ
 operandAt = 4
 
--- hex digits, of either case
-abbrev pub isHex : ℕ → Bool
-isHex b = isDigit b || between 0x41 0x46 b || between 0x61 0x66 b
-
-abbrev pub hexValue : ℕ → ℕ
-hexValue b = cond (isDigit b) (b - 0x30) (cond (between 0x41 0x46 b) (b - 0x41 + 10) (b - 0x61 + 10))
-
--- what stands for the value of another byte
+-- the value of a hex digit, of either case; 16 stands for no such digit
 abbrev pub notHex : ℕ
 notHex = 16
+
+unfoldable pub hexValue : ℕ → ℕ
+hexValue b =
+    cond (isDigit b) (b - 0x30)
+    (cond (between 0x41 0x46 b) (b - 0x41 + 10)
+    (cond (between 0x61 0x66 b) (b - 0x61 + 10) notHex))
+
+abbrev pub isHex : ℕ → Bool
+isHex b = ltb (hexValue b) notHex
 
 -- a number in decimal of any number of digits, if it is at most `most`
 unfoldable pub amountOf : ℕ → List ℕ → Amount

@@ -1,10 +1,9 @@
 // What stands behind a line's letter: two hex digits, seconds, or the length of a buffer.
 ghost use mathlib.Core.Path.{_≡_};
 ghost use Prim.Native.Nat.{_≤_};
-ghost use mathlib.Core.Bool.{cond};
 ghost use lib.ListN.{length, getD, drop};
 ghost use Rattle.memory.specs.Sizes.{messageLimit};
-ghost use Rattle.listing.specs.Items.{shortest, operandAt, hexValue, isHex, notHex, operandOf, byteItem, secondsItem, takingItem, amountOf};
+ghost use Rattle.listing.specs.Items.{shortest, operandAt, hexValue, operandOf, byteItem, secondsItem, takingItem, amountOf};
 use super::Item;
 use gateway::Event;
 use gateway::Kind;
@@ -45,11 +44,11 @@ fn byte_item(line: u8, text: &[u8]) -> Item
         return Item::NotAnEvent;
     }
     let high = hex_value(text[OPERAND]);
-    if high == NOT_HEX {
+    if NOT_HEX <= high {
         return Item::NotAnEvent;
     }
     let low = hex_value(text[OPERAND + 1]);
-    if low == NOT_HEX {
+    if NOT_HEX <= low {
         return Item::NotAnEvent;
     }
     Item::Event(Event {
@@ -113,9 +112,9 @@ fn wide(x: u8) -> usize
     x as usize
 }
 
-// The value of a hex digit of either case.
+// The value of a hex digit of either case, or NOT_HEX.
 fn hex_value(b: u8) -> u8
-    ensures { λ r. ⌜ (r ≡ cond (isHex b) (hexValue b) notHex) × (r ≤ notHex) ⌝ }
+    ensures { λ r. ⌜ r ≡ hexValue b ⌝ }
 {
     if b < b'0' {
         return NOT_HEX;
