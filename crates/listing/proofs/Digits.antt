@@ -7,7 +7,7 @@ use Prim.Native.Nat.{ℕ, zero, suc, _+_, _-_, _*_, _/_, _%_, _^_, _≤_, _<_}
 use native.Mathlib.Nat.{pow-suc, add-zero, add-suc}
 use native.Mathlib.Decide.{decLe}
 use native.Mathlib.Omega.{arith}
-use lib.ListN.{length, getD, length-append}
+use lib.ListN.{length, getD, length-append, List·getD-append}
 use borrow.Author.Tests.{lt-ltb, le-ltb, le-leb}
 use Rattle.memory.specs.Tests.{all, between}
 use Rattle.memory.proofs.Tests.{all-append}
@@ -116,6 +116,12 @@ module _ (P : ℕ → Type 0) (one : (n : ℕ) → n < 10 → P n) (more : (n : 
   by-digits : (n : ℕ) → P n
   by-digits n = by-turns n n (omega arith)
 
+some-digit : (n : ℕ) → 0 < length (decimalOf n)
+some-digit =
+    by-digits (λ (n : ℕ). 0 < length (decimalOf n))
+    (λ n h. rw (one-long n h) (omega arith))
+    (λ n h k. rw (one-longer n h) (omega arith))
+
 pub read-back : (n : ℕ) → decimal 0 (decimalOf n) ≡ n
 read-back =
     by-digits (λ (n : ℕ). decimal 0 (decimalOf n) ≡ n)
@@ -130,3 +136,12 @@ all-digits =
     by-digits (λ (n : ℕ). all isDigit (decimalOf n) ≡ true)
     (λ n h. rw (one-digit n h, le-leb 0x30 (digitFor n) (omega arith), le-leb (digitFor n) 0x39 (omega arith)))
     (λ n h e. rw (last-digit n h, all-append isDigit (decimalOf (n / 10)) (digitFor (n % 10) ∷ []), e, le-leb 0x30 (digitFor (n % 10)) (omega arith), le-leb (digitFor (n % 10)) 0x39 (omega arith)))
+
+-- no leading zero, but in 0 itself
+pub no-leading-zero : (n : ℕ) → 1 ≤ n → getD (decimalOf n) 0 0 ≡ 0x30 → ⊥
+no-leading-zero =
+    by-digits (λ (n : ℕ). 1 ≤ n → getD (decimalOf n) 0 0 ≡ 0x30 → ⊥)
+    (λ n h k e. let z = rw (one-digit n h) at e in omega arith)
+    (λ n h f k e.
+    let some : 0 < length (decimalOf (n / 10)) = some-digit (n / 10) in
+    f (omega arith) (sym (List·getD-append (decimalOf (n / 10)) (digitFor (n % 10) ∷ []) 0 0 some) ∙ rw (← last-digit n h) e))

@@ -2,3 +2,6 @@ pub mod Digits
 pub mod Operands
 pub mod Stores
 pub mod Columns
+pub mod Bounds
+pub mod OneOutcome
+pub mod Examples

@@ -13,7 +13,7 @@ use Rattle.memory.specs.Tests.{all}
 use Rattle.memory.proofs.Tests.{and-right, and-not-right}
 use Rattle.record.specs.Numbers.{isDigit, decimal}
 use Rattle.gateway.specs.declared.Kind.the-variants.{Byte}
-use Rattle.listing.specs.Items.{operandAt, notHex, hexValue, isHex, happening, byteItem, amountOf}
+use Rattle.listing.specs.Items.{operandAt, notHex, hexValue, isHex, eventOn, byteItem, amountOf}
 use Rattle.listing.specs.declared.Item.the-variants.{NotAnEvent}
 use Rattle.listing.specs.declared.reading.Amount.{Amount}
 use Rattle.listing.specs.declared.reading.Amount.the-variants.{Is, NotANumber}
@@ -44,11 +44,15 @@ module _ (line : ℕ) (text : List ℕ) where
   byte-low e h k = rw (two-long e, high, low, lt-ltb (hexValue (getD text 4 0)) notHex h, le-ltb (hexValue (getD text 5 0)) notHex k)
 
   pub byte-is : length text ≡ 6 → hexValue (getD text 4 0) < notHex → hexValue (getD text 5 0) < notHex
-      → happening line (Byte (hexValue (getD text 4 0) * 16 + hexValue (getD text 5 0))) ≡ byteItem line (drop operandAt text)
+      → eventOn line (Byte (hexValue (getD text 4 0) * 16 + hexValue (getD text 5 0))) ≡ byteItem line (drop operandAt text)
   unfolding byteItem
   byte-is e h k = rw (two-long e, high, low, lt-ltb (hexValue (getD text 4 0)) notHex h, lt-ltb (hexValue (getD text 5 0)) notHex k)
 
 -- a number up to a limit
+abbrev pub valueOf : Amount → ℕ
+valueOf (Is n) = n
+valueOf NotANumber = 0
+
 module _ (most : ℕ) (text : List ℕ) where
   pub amount-bad : false ≡ all isDigit text → NotANumber ≡ amountOf most text
   unfolding amountOf
@@ -62,20 +66,18 @@ module _ (most : ℕ) (text : List ℕ) where
   unfolding amountOf
   amount-is e h = rw (← e, le-leb (decimal 0 text) most h)
 
-  abbrev valueOf : Amount → ℕ
-  valueOf (Is n) = n
-  valueOf NotANumber = 0
-
   value-most : (b : Bool) → all isDigit text && leb (decimal 0 text) most ≡ b → valueOf (cond b (Is (decimal 0 text)) NotANumber) ≤ most
   value-most true e = leb-true (decimal 0 text) most (and-right (all isDigit text) (leb (decimal 0 text) most) e)
   value-most false e = zero-le
 
-  pub amount-most : (n : ℕ) → amountOf most text ≡ Is n → n ≤ most
+  pub value-of : valueOf (amountOf most text) ≤ most
   unfolding amountOf
+  value-of = value-most (all isDigit text && leb (decimal 0 text) most) refl
+
+  pub amount-most : (n : ℕ) → amountOf most text ≡ Is n → n ≤ most
   amount-most n e =
       let v : valueOf (amountOf most text) ≡ n = ap valueOf e in
-      let m : valueOf (amountOf most text) ≤ most = value-most (all isDigit text && leb (decimal 0 text) most) refl in
-      omega arith
+      omega (arith, value-of)
 
 -- digits behind a number only make it larger
 pub decimal-grows : (n : ℕ) (text : List ℕ) → n ≤ decimal n text

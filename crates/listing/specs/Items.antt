@@ -44,18 +44,19 @@ isHex b = ltb (hexValue b) notHex
 unfoldable pub amountOf : ℕ → List ℕ → Amount
 amountOf most text = cond (all isDigit text && leb (decimal 0 text) most) (Is (decimal 0 text)) NotANumber
 
-abbrev pub happening : ℕ → Kind → Item
-happening line kind = Event (record { line = line; kind = kind })
+-- an event on a line
+abbrev pub eventOn : ℕ → Kind → Item
+eventOn line kind = Event (record { line = line; kind = kind })
 
 -- B: exactly two hex digits
 unfoldable pub byteItem : ℕ → List ℕ → Item
 byteItem line text =
     unless (eqb (length text) 2 && isHex (getD text 0 0) && isHex (getD text 1 0)) NotAnEvent
-    (happening line (Byte (hexValue (getD text 0 0) * 16 + hexValue (getD text 1 0))))
+    (eventOn line (Byte (hexValue (getD text 0 0) * 16 + hexValue (getD text 1 0))))
 
 -- S: 0 to 255
 abbrev pub bySeconds : ℕ → Amount → Item
-bySeconds line (Is n) = happening line (Seconds n)
+bySeconds line (Is n) = eventOn line (Seconds n)
 bySeconds line NotANumber = NotAnEvent
 
 unfoldable pub secondsItem : ℕ → List ℕ → Item

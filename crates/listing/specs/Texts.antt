@@ -49,24 +49,25 @@ replyDigits number = replyIn (replyOf number)
 
 -- the last column: the length of an entry taken, and the reply to any other answer
 unfoldable pub lastText : ℕ → ℕ → List ℕ
-lastText number length = cond (is taken number) (decimalOf length) (replyDigits number .high ∷ replyDigits number .low ∷ [])
+lastText number size = cond (is taken number) (decimalOf size) (replyDigits number .high ∷ replyDigits number .low ∷ [])
 
 -- a number and the space behind it
 unfoldable pub wordText : ℕ → List ℕ
 wordText n = decimalOf n ++ (space ∷ [])
 
--- the row of an event or a taking: its number, its line, the answer's number, and the reply or the length taken
+-- the row of an event or a taking: its number, its line, the answer's number, and the reply or the length of the entry taken
 unfoldable pub rowText : ℕ → ℕ → ℕ → ℕ → List ℕ
-rowText event line number length = wordText event ++ (wordText line ++ (wordText number ++ (lastText number length ++ (newline ∷ []))))
+rowText event line number size = wordText event ++ (wordText line ++ (wordText number ++ (lastText number size ++ (newline ∷ []))))
 
--- ` events`, behind the number of events
+-- ` events`
 abbrev pub eventsText : List ℕ
 eventsText = space ∷ 0x65 ∷ 0x76 ∷ 0x65 ∷ 0x6e ∷ 0x74 ∷ 0x73 ∷ newline ∷ []
 
+-- the last line of a listing that ran to its end: `3 events`
 unfoldable pub totalText : ℕ → List ℕ
 totalText events = decimalOf events ++ eventsText
 
--- `line ` and `: not an event`, around the number of the line
+-- `line ` and `: not an event`
 abbrev pub lineText : List ℕ
 lineText = 0x6c ∷ 0x69 ∷ 0x6e ∷ 0x65 ∷ space ∷ []
 
@@ -77,18 +78,19 @@ noEventText =
     ∷ 0x61 ∷ 0x6e ∷ space
     ∷ 0x65 ∷ 0x76 ∷ 0x65 ∷ 0x6e ∷ 0x74 ∷ newline ∷ []
 
+-- the last line of one that ends at a line that is not an event: `line 7: not an event`
 unfoldable pub faultText : ℕ → List ℕ
 faultText line = lineText ++ (decimalOf line ++ noEventText)
 
 -- the columns of a row, measured
 unfoldable pub sizesOf : ℕ → ℕ → ℕ → ℕ → Sizes
-sizesOf event line number taken =
+sizesOf event line number size =
     record {
       event = length (decimalOf event);
       line = length (decimalOf line);
       number = length (decimalOf number);
-      last = length (lastText number taken);
-      row = length (rowText event line number taken);
+      last = length (lastText number size);
+      row = length (rowText event line number size);
     }
 
 -- where the text ends, or no room for it

@@ -71,7 +71,7 @@ pub fn write_header(out: &mut [u8], at: usize) -> Written
     Written::To(at + HEADER.len())
 }
 
-// Writes the row of an event or a taking: its number, its line, the answer's number, and the reply or the length taken.
+// Writes the row of an event or a taking: its number, its line, the answer's number, and the reply or, for an entry taken, its length.
 pub fn write_row(
     event: u64,
     line: u8,
