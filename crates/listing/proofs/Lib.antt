@@ -1,0 +1,7 @@
+pub mod Digits
+pub mod Operands
+pub mod Stores
+pub mod Columns
+pub mod Bounds
+pub mod OneOutcome
+pub mod Examples

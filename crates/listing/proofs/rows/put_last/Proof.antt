@@ -1,0 +1,48 @@
+-- `listing::rows::put_last` meets its contract.
+-- Assumes nothing.
+use mathlib.Core.Path.{_≡_, sym, ap, _∙_}
+use Prim.Native.Nat.{_+_, _≤_}
+use native.Mathlib.Omega.{arith}
+use borrow.Author.Needs.{needs}
+use lib.ListN.{length, length-set}
+use denote.Ref.{now}
+use Rattle.listing.proofs.Stores.{put-two}
+use Rattle.listing.proofs.Columns.{last-taken, last-reply}
+use Rattle.listing.proofs.rows.put_last.Statement.{statement}
+use Rattle.listing.proofs.rows.put_last.Tie as tie
+
+put-requires : tie.Need-put-requires
+put-requires c κs =
+    let s = c .before .before .before in
+    let a = s .args in
+    (s .pre .0 ∙ ap length (last-taken (a .number) (a .taken) (c .before .if1 .taken)), s .pre .1)
+
+returns : tie.Need-returns
+returns c =
+    let a = c .before .before .before .before .before .before .args in
+    rw (last-taken (a .number) (a .taken) (c .before .before .before .before .if1 .taken)) (c .before .before .put .ensures)
+
+two : (c : tie.After-reply-digits) → c .before .before .before .args .at + 2 ≤ length (now (c .before .before .before .args .out))
+two c =
+    let s = c .before .before .before in
+    let e = ap length (last-reply (s .args .number) (s .args .taken) (c .before .if1 .left)) in
+    omega (arith, s .pre, e)
+
+returns-2 : tie.Need-returns-2
+returns-2 c =
+    let a = c .before .before .before .args in
+    rw (last-reply (a .number) (a .taken) (c .before .if1 .left), c .reply-digits .ensures) (put-two (now (a .out)) (a .at) _ _ (two c))
+
+pub put-last-spec : {M : Type 1} → statement M
+put-last-spec =
+    tie.close
+    (tie.spec
+    put-requires
+    (λ c. search needs)
+    returns
+    (λ c κs. search needs)
+    (λ c. omega (arith, two c))
+    (λ c. search needs)
+    (λ c. simp length-set (omega (arith, two c)))
+    (λ c. search needs)
+    returns-2)
