@@ -48,11 +48,15 @@ mod tests {
 
     #[test]
     fn ack_nak_or_none() {
+        let ack = [1, 2, 3, 4];
+        let nak = [20, 21, 22, 23, 24, 25, 26, 27, 28, 29, 30, 31];
         for number in 0..=255 {
-            let expected = match number {
-                1 | 2 | 3 | 4 => Some(0x06),
-                20 | 21 | 22 | 23 | 24 | 25 | 26 | 27 | 28 | 29 | 30 | 31 => Some(0x15),
-                _ => None,
+            let expected = if ack.contains(&number) {
+                Some(0x06)
+            } else if nak.contains(&number) {
+                Some(0x15)
+            } else {
+                None
             };
             assert_eq!(reply(number), expected, "answer {}", number);
         }

@@ -403,9 +403,11 @@ fn lines_do_not_touch_each_other() {
         sent.push([&[ENQ], &out[..length], &[EOT]].concat());
     }
     let mut answers = vec![Vec::new(); 8];
-    for index in 0..sent[0].len() {
-        for line in World::lines() {
-            let byte = sent[usize::from(line)][index];
+    let longest = sent[0].len();
+    assert!(sent.iter().all(|bytes| bytes.len() == longest));
+    for index in 0..longest {
+        for (line, bytes) in World::lines().zip(&sent) {
+            let byte = bytes[index];
             let answer = world.event(line, Kind::Byte(byte)).number;
             if answer != 0 {
                 answers[usize::from(line)].push(answer);

@@ -102,23 +102,31 @@ impl Ledger {
         }
     }
 
-    /// Answer 43: "exactly if the bytes in use exceed the journal, or aren't a whole chain of
-    /// entries with spare bit 0 and lengths 1 to 4,000 whose sums are the lines' used counts".
-    /// `journal` is of the right size: 41 comes first.
-    pub fn is_broken(&self, journal: &[u8]) -> bool {
+    /// The entries in the bytes in use, or none where these "exceed the journal, or aren't a whole
+    /// chain of entries". `journal` is of the right size: 41 comes first.
+    pub fn chain(&self, journal: &[u8]) -> Option<Vec<Entry>> {
         if self.in_use > JOURNAL {
-            return true;
+            return None;
         }
-        let mut sums = [0; LINES];
+        let mut entries = Vec::new();
         let mut start = 0;
         while start < self.in_use {
-            match entry_at(journal, self.in_use, start) {
-                None => return true,
-                Some(entry) => {
-                    sums[entry.line] += HEADER + entry.length;
-                    start = entry.end();
-                }
-            }
+            let entry = entry_at(journal, self.in_use, start)?;
+            start = entry.end();
+            entries.push(entry);
+        }
+        Some(entries)
+    }
+
+    /// Answer 43: no whole chain, or not one "whose sums are the lines' used counts".
+    pub fn is_broken(&self, journal: &[u8]) -> bool {
+        let entries = match self.chain(journal) {
+            None => return true,
+            Some(entries) => entries,
+        };
+        let mut sums = [0; LINES];
+        for entry in entries {
+            sums[entry.line] += HEADER + entry.length;
         }
         sums != self.used
     }
@@ -148,17 +156,10 @@ impl Ledger {
         self.serials[line] = serial_after(serial);
     }
 
-    /// "the line's oldest entry". The chain is whole.
+    /// "the line's oldest entry". The chain is whole: 43 comes first.
     pub fn oldest(&self, journal: &[u8], line: usize) -> Option<Entry> {
-        let mut start = 0;
-        while start < self.in_use {
-            let entry = entry_at(journal, self.in_use, start)?;
-            if entry.line == line {
-                return Some(entry);
-            }
-            start = entry.end();
-        }
-        None
+        let entries = self.chain(journal)?;
+        entries.into_iter().find(|entry| entry.line == line)
     }
 
     /// "later entries close up"; "Bytes not named here keep their value, also those past the

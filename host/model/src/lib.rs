@@ -19,6 +19,7 @@ pub mod listing;
 pub mod model;
 pub mod records;
 pub mod texts;
+pub mod traffic;
 pub mod world;
 
 pub use answers::{reply, Answer};
@@ -44,3 +45,5 @@ pub const FRAMES: usize = LINES * FRAME_PART;
 mod dialogues;
 #[cfg(test)]
 mod examples;
+#[cfg(test)]
+mod left;
