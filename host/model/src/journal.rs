@@ -256,8 +256,15 @@ mod tests {
     }
 
     #[test]
-    fn lengths_over_4000_break_the_chain() {
-        for (length, expected) in [(4_000, false), (4_001, true), (4_095, true)] {
+    fn lengths_but_1_to_4000_break_the_chain() {
+        let cases = [
+            (0, true),
+            (1, false),
+            (4_000, false),
+            (4_001, true),
+            (4_095, true),
+        ];
+        for (length, expected) in cases {
             let mut journal = vec![0; JOURNAL];
             journal[..HEADER].copy_from_slice(&header(2, length, 0));
             let mut ledger = Ledger::fresh();
@@ -276,6 +283,10 @@ mod tests {
         assert!(!ledger.is_broken(&journal));
         // Made by hand: the sum of the larger of used and share is over the journal already.
         assert!(!ledger.has_room(5, 1));
+        for beyond in 1..9 {
+            ledger.in_use = JOURNAL + beyond;
+            assert!(ledger.is_broken(&journal));
+        }
     }
 
     #[test]

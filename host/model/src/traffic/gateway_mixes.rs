@@ -45,6 +45,52 @@ fn poke(index: usize, value: u8) -> Op {
     }
 }
 
+/// A way to break a journal, or nearly.
+#[derive(Clone, Copy)]
+enum Break {
+    /// The bytes in use a few more or fewer.
+    InUse,
+    /// More bytes in use than the journal has.
+    BeyondJournal,
+    /// One line's used count off.
+    Used,
+    /// Two lines' used counts changed over: their sum is still right.
+    UsedChangedOver,
+    /// Harmless: serials are not tested.
+    Serials,
+    /// One more entry, all counts with it: broken only by a bad length or the spare bit.
+    Appended,
+    /// Bytes in use and used count off together by one, so that only the last entry's end tells.
+    LastEntry,
+    /// One byte of the journal changed.
+    Byte,
+}
+
+impl Break {
+    const ANY_JOURNAL: [Break; 6] = [
+        Break::InUse,
+        Break::BeyondJournal,
+        Break::Used,
+        Break::UsedChangedOver,
+        Break::Serials,
+        Break::Appended,
+    ];
+    const WITH_ENTRIES: [Break; 12] = [
+        Break::InUse,
+        Break::BeyondJournal,
+        Break::Used,
+        Break::UsedChangedOver,
+        Break::Serials,
+        Break::Appended,
+        Break::Appended,
+        Break::LastEntry,
+        Break::Byte,
+        Break::Byte,
+        Break::Byte,
+        Break::Byte,
+    ];
+}
+
 struct Writer<'a> {
     random: &'a mut Random,
     script: Script,
@@ -75,119 +121,119 @@ impl Writer<'_> {
             Some(entries) if !world.is_broken() => entries,
             _ => Vec::new(),
         };
-        let in_use = entries.last().map_or(0, |entry| entry.end());
         let mut used = [0; LINES];
         for entry in &entries {
             used[entry.line] += HEADER + entry.length;
         }
-        let line = self.any_line();
-        let count = used[usize::from(line)];
-        let mut back = Vec::new();
-        let kind = if entries.is_empty() {
-            self.random.below(5)
+        let in_use = used.iter().sum();
+        let break_by = if entries.is_empty() {
+            self.random.pick(&Break::ANY_JOURNAL)
         } else {
-            self.random.below(14)
+            self.random.pick(&Break::WITH_ENTRIES)
         };
-        match kind {
-            // Ledger counts.
-            0 => {
-                let off = self.random.between(1, 5);
-                let less = self.random.once_in(2) && in_use >= off;
-                let count = if less { in_use - off } else { in_use + off };
-                self.script.push(Op::InUse {
-                    count: count as u32,
-                });
+        let line = self.random.below(LINES);
+        match break_by {
+            Break::InUse => {
+                let count = self.off(in_use, &[1, 2, 3, 4, 5]);
+                self.set_in_use(count);
             }
-            1 => {
-                let count = self.random.pick(&[32_768, 32_769, 32_772, 65_535]);
-                self.script.push(Op::InUse { count });
+            Break::BeyondJournal => {
+                let count = self.random.pick(&[32_769, 32_772, 65_535]);
+                self.set_in_use(count);
             }
-            2 => {
-                let off = self.random.pick(&[1, 4, 16, 2_048, 32_768]);
-                let less = self.random.once_in(2) && count >= off;
-                let count = if less { count - off } else { count + off };
-                self.script.push(Op::Used {
-                    line,
-                    count: count as u32,
-                });
+            Break::Used => {
+                let count = self.off(used[line], &[1, 4, 16, 2_048, 32_768]);
+                self.set_used(line, count);
             }
-            3 => {
-                // Two counts changed over: their sum is still right.
-                let other = (line + 1 + self.random.below(7) as u8) % 8;
-                let swapped = used[usize::from(other)];
-                self.script.push(Op::Used {
-                    line,
-                    count: swapped as u32,
-                });
-                self.script.push(Op::Used {
-                    line: other,
-                    count: count as u32,
-                });
+            Break::UsedChangedOver => {
+                let other = (line + self.random.between(1, 7)) % LINES;
+                self.set_used(line, used[other]);
+                self.set_used(other, used[line]);
             }
-            // Harmless: serials are not tested.
-            4 => {
+            Break::Serials => {
                 let serial = self.random.pick(&[0, 1, 65_535]);
+                let line = line as u8;
                 self.script.push(Op::Serial { line, serial });
             }
-            // Entries.
-            5 => {
-                // Only the last entry's end moves: one byte more or fewer in use and used.
-                let entry = entries[entries.len() - 1];
-                let owner = entry.line as u8;
-                let off = self.random.pick(&[0, 2]);
-                self.script.push(Op::InUse {
-                    count: (in_use + off - 1) as u32,
-                });
-                self.script.push(Op::Used {
-                    line: owner,
-                    count: (used[entry.line] + off - 1) as u32,
-                });
+            Break::Appended => {
+                let length = self.random.pick(&[0, 0, 1, 10, 4_001, 4_002, 4_095]);
+                if in_use + HEADER + length <= JOURNAL {
+                    let mut bytes = header(line, length, 0);
+                    if self.random.once_in(3) {
+                        bytes[0] |= 0x10;
+                    }
+                    for (index, &value) in bytes.iter().enumerate() {
+                        self.script.push(poke(in_use + index, value));
+                    }
+                    self.set_in_use(in_use + HEADER + length);
+                    self.set_used(line, used[line] + HEADER + length);
+                }
             }
-            _ => {
+            Break::LastEntry => {
+                let entry = entries[entries.len() - 1];
+                let off = self.random.pick(&[0, 2]);
+                self.set_in_use(in_use + off - 1);
+                self.set_used(entry.line, used[entry.line] + off - 1);
+            }
+            Break::Byte => {
                 let entry = self.random.pick(&entries);
-                let index = self.byte_of(&entry, in_use, kind);
-                let old = world.journal[index];
-                let value = self.value_for(kind, old);
+                let (index, value) = self.byte_changed(world, &entry, in_use);
                 self.script.push(poke(index, value));
-                back.push(poke(index, old));
+                self.probes();
+                self.script.push(poke(index, world.journal[index]));
+                return;
             }
         }
         self.probes();
         // Everything back, so that the journal is whole again where nothing was taken or stored.
-        self.script.ops.extend(back);
-        if kind < 6 && kind != 4 {
-            self.script.push(Op::InUse {
-                count: in_use as u32,
-            });
-            for line in World::lines() {
-                let count = used[usize::from(line)] as u32;
-                self.script.push(Op::Used { line, count });
-            }
+        self.set_in_use(in_use);
+        for (line, &count) in used.iter().enumerate() {
+            self.set_used(line, count);
         }
     }
 
-    /// Which byte of the journal a kind of change is for.
-    fn byte_of(&mut self, entry: &Entry, in_use: usize, kind: usize) -> usize {
-        match kind {
-            // Spare bit, line, high part of the length.
-            6..=8 => entry.start,
-            // Low part of the length.
-            9 | 10 => entry.start + 1,
-            // Harmless: serial, text, what is past the end in use.
-            11 => entry.start + self.random.between(2, 3),
-            12 => entry.start + HEADER + self.random.below(entry.length),
-            _ => in_use.min(JOURNAL - 1),
+    /// A count off by one of these, to either side.
+    fn off(&mut self, count: usize, by: &[usize]) -> usize {
+        let by = self.random.pick(by);
+        if self.random.once_in(2) && count >= by {
+            return count - by;
         }
+        count + by
     }
 
-    fn value_for(&mut self, kind: usize, old: u8) -> u8 {
-        match kind {
-            6 => old | 0x10,
-            7 => old ^ (self.random.between(1, 7) as u8) << 5,
-            8 => old & 0xE0 | self.random.pick(&[0x00, 0x0F, 0x0E]),
-            9 => 0,
-            10 => old.wrapping_add(self.random.pick(&[1, 255, 4])),
-            _ => self.random.byte(),
+    fn set_in_use(&mut self, count: usize) {
+        let count = count as u32;
+        self.script.push(Op::InUse { count });
+    }
+
+    fn set_used(&mut self, line: usize, count: usize) {
+        let (line, count) = (line as u8, count as u32);
+        self.script.push(Op::Used { line, count });
+    }
+
+    /// A byte of this entry, or past the end in use, and another value for it.
+    fn byte_changed(&mut self, world: &World, entry: &Entry, in_use: usize) -> (usize, u8) {
+        let [high, low] = [world.journal[entry.start], world.journal[entry.start + 1]];
+        match self.random.below(9) {
+            // The spare bit, the line, the length.
+            0 | 1 => (entry.start, high | 0x10),
+            2 => (entry.start, high ^ (self.random.between(1, 7) as u8) << 5),
+            3 => (
+                entry.start,
+                high & 0xE0 | self.random.pick(&[0x00, 0x0E, 0x0F]),
+            ),
+            4 => (entry.start + 1, 0),
+            5 => (
+                entry.start + 1,
+                low.wrapping_add(self.random.pick(&[1, 255, 4])),
+            ),
+            // Harmless: the serial, the text, what is past the end in use.
+            6 => (entry.start + self.random.between(2, 3), self.random.byte()),
+            7 => (
+                entry.start + HEADER + self.random.below(entry.length),
+                self.random.byte(),
+            ),
+            _ => (in_use.min(JOURNAL - 1), self.random.byte()),
         }
     }
 
@@ -412,12 +458,9 @@ impl Writer<'_> {
             }
             start += HEADER + length;
         }
-        self.script.push(Op::InUse {
-            count: start as u32,
-        });
-        for line in World::lines() {
-            let count = used[usize::from(line)] as u32;
-            self.script.push(Op::Used { line, count });
+        self.set_in_use(start);
+        for (line, &count) in used.iter().enumerate() {
+            self.set_used(line, count);
         }
     }
 }
