@@ -16,7 +16,7 @@ fn bytes(hex: &str) -> Vec<u8> {
 /// ENQ, the frames, EOT on a fresh line 4: the answers that are not 0, and the world after.
 fn run(frames: &[u8]) -> (Vec<u8>, World) {
     let mut world = World::fresh(0x77);
-    let sent = [&[ENQ], frames, &[EOT]].concat();
+    let sent = [&[ENQ][..], frames, &[EOT]].concat();
     let mut answers = world.bytes(4, &sent);
     answers.retain(|&answer| answer != 0);
     (answers, world)

@@ -4,6 +4,8 @@ use crate::frames::{check, write};
 use crate::journal::{fits, serial_after};
 use crate::lines::{Kind, Line, State};
 use crate::texts::{ENQ, EOT, ETB, ETX, LF, STX};
+use crate::traffic::messages::{exact, right};
+use crate::traffic::random::Random;
 use crate::world::{Memory, Op, World};
 use crate::{cut, is_message, JOURNAL};
 
@@ -392,6 +394,33 @@ fn records_that_no_run_reaches_follow_the_words() {
 }
 
 #[test]
+fn a_cut_message_is_stored_by_a_fresh_line() {
+    // "Demand 2 reads: ENQ, then these bytes, with no seconds events between."
+    let mut random = Random::new(21);
+    for round in 0..400 {
+        let line = (round % 8) as u8;
+        let text = if round % 10 == 0 {
+            let length = random.between(3_900, 4_000);
+            exact(&mut random, length)
+        } else {
+            let longest = random.between(11, 1_500);
+            right(&mut random, longest)
+        };
+        let mut out = vec![0; 2 * text.len() + 4_000];
+        let length = cut(&text, &mut out).unwrap();
+        let mut world = World::fresh(random.byte());
+        assert_eq!(world.send(line, &[ENQ]), 1);
+        let mut answers = world.bytes(line, &out[..length]);
+        answers.retain(|&answer| answer != 0);
+        assert_eq!(answers.pop(), Some(4));
+        assert_eq!(length, text.len() + 7 * (answers.len() + 1));
+        assert!(answers.iter().all(|&answer| answer == 2));
+        assert_eq!(world.take(line, text.len()).number, 8);
+        assert_eq!(world.buffer, text);
+    }
+}
+
+#[test]
 fn lines_do_not_touch_each_other() {
     // Eight transfers byte by byte in turn, each with its own text.
     let mut world = World::fresh(0x11);
@@ -400,7 +429,7 @@ fn lines_do_not_touch_each_other() {
         let text = format!("H|\\^&|line {}\rP|1\rL|1\r", line).into_bytes();
         let mut out = vec![0; 200];
         let length = cut(&text, &mut out).unwrap();
-        sent.push([&[ENQ], &out[..length], &[EOT]].concat());
+        sent.push([&[ENQ][..], &out[..length], &[EOT]].concat());
     }
     let mut answers = vec![Vec::new(); 8];
     let longest = sent[0].len();

@@ -60,42 +60,31 @@ pub enum Mix {
 }
 
 impl Mix {
-    /// Scripts for one line, in the weights of `Traffic::new`.
-    pub const LINE: [Mix; 14] = [
-        Mix::Noise,
-        Mix::Polite,
-        Mix::Polite,
-        Mix::Damaged,
-        Mix::Damaged,
-        Mix::Records,
-        Mix::Records,
-        Mix::Records,
-        Mix::Long,
-        Mix::Clock,
-        Mix::Flood,
-        Mix::Takings,
-        Mix::Takings,
-        Mix::Takings,
+    /// Scripts for one line, and how many of each come in 30. The long ones are rare, or their
+    /// bytes would leave little room for the others.
+    const LINE: [(Mix, usize); 8] = [
+        (Mix::Noise, 2),
+        (Mix::Polite, 4),
+        (Mix::Damaged, 4),
+        (Mix::Records, 10),
+        (Mix::Long, 1),
+        (Mix::Clock, 2),
+        (Mix::Flood, 1),
+        (Mix::Takings, 6),
     ];
 
-    /// Scripts for the whole gateway, in the weights of `Traffic::new`.
-    pub const GATEWAY: [Mix; 12] = [
-        Mix::BrokenJournal,
-        Mix::BrokenJournal,
-        Mix::BrokenJournal,
-        Mix::BrokenJournal,
-        Mix::BeyondLimits,
-        Mix::BeyondLimits,
-        Mix::BeyondLimits,
-        Mix::WrongSizes,
-        Mix::WrongLines,
-        Mix::FullJournal,
-        Mix::FullJournal,
-        Mix::Renewal,
+    /// Scripts for the whole gateway, and how many of each come in 12.
+    const GATEWAY: [(Mix, usize); 6] = [
+        (Mix::BrokenJournal, 4),
+        (Mix::BeyondLimits, 3),
+        (Mix::WrongSizes, 1),
+        (Mix::WrongLines, 1),
+        (Mix::FullJournal, 2),
+        (Mix::Renewal, 1),
     ];
 
     fn is_for_one_line(self) -> bool {
-        Mix::LINE.contains(&self)
+        Mix::LINE.iter().any(|&(mix, _)| mix == self)
     }
 }
 
@@ -120,9 +109,13 @@ const GATEWAY_SCRIPT_ONCE_IN: usize = 400;
 const TURN_ONCE_IN: usize = 12;
 
 impl Traffic {
-    /// All mixes.
+    /// All mixes, in their usual weights.
     pub fn new(seed: u64) -> Traffic {
-        Traffic::of(seed, &[Mix::LINE.to_vec(), Mix::GATEWAY.to_vec()].concat())
+        let mut mixes = Vec::new();
+        for (mix, weight) in Mix::LINE.iter().chain(&Mix::GATEWAY) {
+            mixes.extend(vec![*mix; *weight]);
+        }
+        Traffic::of(seed, &mixes)
     }
 
     /// Only these mixes, at least one; a mix named twice comes twice as often.

@@ -342,7 +342,7 @@ impl Writer<'_> {
     fn flood(&mut self, record: &Line) {
         let mut number = self.open(record);
         for _ in 0..self.random.between(1, 3) {
-            let longest = self.random.between(300, 2_500);
+            let longest = self.random.between(300, 1_500);
             let text = right(self.random, longest);
             for frame in self.frames(&text, number) {
                 self.send(&frame);

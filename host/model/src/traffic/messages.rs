@@ -20,47 +20,51 @@ struct Walk {
 }
 
 impl Walk {
-    /// The next record's type letter and sequence number.
-    fn go(&mut self, random: &mut Random) -> (u8, usize) {
-        let choices: &[u8] = match self.before {
+    /// Types that may come next, the likelier ones twice; L is left to the end.
+    fn choices(&self) -> &'static [u8] {
+        match self.before {
             b'H' | b'P' => b"POQCM",
             b'O' => b"OORRPQCM",
             b'R' => b"RROPQCM",
             _ => b"QPCM",
-        };
-        let kind = random.pick(choices);
-        let number = match kind {
-            b'C' => {
-                self.comments += 1;
-                return (kind, self.comments);
+        }
+    }
+
+    /// A type that may not come next.
+    fn stray(&self, random: &mut Random) -> u8 {
+        loop {
+            let kind = random.pick(b"HPORQL");
+            if !self.choices().contains(&kind) {
+                return kind;
             }
-            b'M' => {
-                self.makers += 1;
-                return (kind, self.makers);
-            }
+        }
+    }
+
+    /// The sequence number for a record of this type, whether it may come next or not.
+    fn number(&mut self, kind: u8) -> usize {
+        let count = match kind {
+            b'C' => &mut self.comments,
+            b'M' => &mut self.makers,
             b'P' => {
-                self.patients += 1;
                 self.orders = 0;
-                self.patients
+                &mut self.patients
             }
-            b'Q' => {
-                self.queries += 1;
-                self.queries
-            }
+            b'Q' => &mut self.queries,
             b'O' => {
-                self.orders += 1;
                 self.results = 0;
-                self.orders
+                &mut self.orders
             }
-            _ => {
-                self.results += 1;
-                self.results
-            }
+            b'R' => &mut self.results,
+            _ => return 1,
         };
-        self.comments = 0;
-        self.makers = 0;
-        self.before = kind;
-        (kind, number)
+        *count += 1;
+        let number = *count;
+        if kind != b'C' && kind != b'M' {
+            self.comments = 0;
+            self.makers = 0;
+            self.before = kind;
+        }
+        number
     }
 }
 
@@ -87,9 +91,10 @@ fn fields(random: &mut Random, room: usize) -> Vec<u8> {
     text
 }
 
-/// The records of a right message, each without its CR, the whole no longer than `longest`, which
-/// is at least 11.
-fn records(random: &mut Random, longest: usize) -> Vec<Vec<u8>> {
+/// The records of a message, each without its CR, the whole no longer than `longest`, which is at
+/// least 11. It is right unless there is a stray: at that place a record of a type that may not
+/// stand there, with the number that type would have, so that only the order of types tells.
+fn records(random: &mut Random, longest: usize, stray: Option<usize>) -> Vec<Vec<u8>> {
     let mut walk = Walk {
         before: b'H',
         patients: 0,
@@ -99,18 +104,23 @@ fn records(random: &mut Random, longest: usize) -> Vec<Vec<u8>> {
         comments: 0,
         makers: 0,
     };
-    // Five bytes are kept for the L record, and each CR is counted.
+    // Five bytes are kept for the L record, and each CR is counted. No record takes more than a
+    // quarter of the rest, so that short messages too have several.
     let mut room = longest - 5;
     let mut all = Vec::new();
     let mut record = b"H|\\^&".to_vec();
-    let tail = fields(random, room - record.len() - 1);
+    let tail = fields(random, (room - record.len() - 1) / 4);
     record.extend_from_slice(&tail);
     while record.len() < room {
         room -= record.len() + 1;
         all.push(record);
-        let (kind, number) = walk.go(random);
-        record = format!("{}|{}", kind as char, number).into_bytes();
-        let tail = fields(random, room.saturating_sub(record.len() + 1));
+        let kind = if stray == Some(all.len()) {
+            walk.stray(random)
+        } else {
+            random.pick(walk.choices())
+        };
+        record = format!("{}|{}", kind as char, walk.number(kind)).into_bytes();
+        let tail = fields(random, room.saturating_sub(record.len() + 1) / 4);
         record.extend_from_slice(&tail);
     }
     all.push(random.pick(&[&b"L|1"[..], b"L|1|"]).to_vec());
@@ -128,7 +138,7 @@ fn joined(records: &[Vec<u8>]) -> Vec<u8> {
 
 /// A right message, no longer than `longest`.
 pub fn right(random: &mut Random, longest: usize) -> Vec<u8> {
-    joined(&records(random, longest))
+    joined(&records(random, longest, None))
 }
 
 /// A right message but for its length, which is exactly this: over 4,000 it is none. At least 11.
@@ -145,7 +155,13 @@ pub fn exact(random: &mut Random, length: usize) -> Vec<u8> {
 
 /// A message with one fault of the kind a sender makes; now and then the fault is none.
 pub fn wrong(random: &mut Random, longest: usize) -> Vec<u8> {
-    let mut all = records(random, longest);
+    if random.once_in(3) {
+        // Short, so that the stray is the only fault.
+        let longest = random.between(30, 60);
+        let stray = random.between(1, 4);
+        return joined(&records(random, longest, Some(stray)));
+    }
+    let mut all = records(random, longest, None);
     let place = random.below(all.len());
     let last = all.len() - 1;
     match random.below(18) {
