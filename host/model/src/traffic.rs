@@ -321,6 +321,37 @@ mod tests {
     }
 
     #[test]
+    fn a_trace_lists_what_the_world_answers() {
+        let mut world = World::fresh(0xD7);
+        let mut traffic = Traffic::new(6);
+        let mut trace = String::new();
+        let mut expected = String::from("event line answer reply\n");
+        let mut events = 0;
+        while events < 60_000 {
+            let op = traffic.next(&world);
+            // What a trace cannot say is left out on both sides.
+            let written = match op.trace() {
+                Some(written) => written,
+                None => continue,
+            };
+            let answer = world.apply(op).expect("traces hold no edits");
+            let last = match (answer.number, crate::reply(answer.number)) {
+                (8, _) => answer.length.to_string(),
+                (_, Some(0x06)) => "06".to_string(),
+                (_, Some(_)) => "15".to_string(),
+                (_, None) => "--".to_string(),
+            };
+            events += 1;
+            let line = &written[..1];
+            expected += &format!("{} {} {} {}\n", events, line, answer.number, last);
+            trace += &written;
+        }
+        expected += "60000 events\n";
+        assert!(expected.contains(" 4 06\n") && expected.contains(" 30 15\n"));
+        assert!(crate::listing(trace.as_bytes()) == expected);
+    }
+
+    #[test]
     fn takings_meet_every_buffer() {
         let mut world = World::fresh(0);
         let mut traffic = Traffic::of(4, &[Mix::Polite, Mix::Takings, Mix::Takings]);

@@ -104,6 +104,23 @@ pub enum Op {
     },
 }
 
+impl Op {
+    /// The line of a trace that asks for this, if a trace can: it knows no edits, no lines over 9
+    /// and no buffers over 4,000.
+    pub fn trace(self) -> Option<String> {
+        match self {
+            Op::Event { line, kind } if line <= 9 => Some(match kind {
+                Kind::Byte(byte) => format!("{} B {:02X}\n", line, byte),
+                Kind::Seconds(seconds) => format!("{} S {}\n", line, seconds),
+            }),
+            Op::Take { line, buffer } if line <= 9 && buffer <= 4_000 => {
+                Some(format!("{} T {}\n", line, buffer))
+            }
+            _ => None,
+        }
+    }
+}
+
 /// What a buffer holds before a taking.
 pub const BLANK: u8 = 0xB5;
 

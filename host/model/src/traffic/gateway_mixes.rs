@@ -237,7 +237,7 @@ impl Writer<'_> {
         }
     }
 
-    /// Takings and a message that reaches room, LF once more, and the line freed.
+    /// Takings before and behind a message that reaches room, with LF once more behind it.
     fn probes(&mut self) {
         for _ in 0..self.random.between(1, 2) {
             let line = self.any_line();

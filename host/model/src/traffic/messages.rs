@@ -42,6 +42,11 @@ impl Walk {
 
     /// The sequence number for a record of this type, whether it may come next or not.
     fn number(&mut self, kind: u8) -> usize {
+        if kind != b'C' && kind != b'M' {
+            self.comments = 0;
+            self.makers = 0;
+            self.before = kind;
+        }
         let count = match kind {
             b'C' => &mut self.comments,
             b'M' => &mut self.makers,
@@ -58,13 +63,7 @@ impl Walk {
             _ => return 1,
         };
         *count += 1;
-        let number = *count;
-        if kind != b'C' && kind != b'M' {
-            self.comments = 0;
-            self.makers = 0;
-            self.before = kind;
-        }
-        number
+        *count
     }
 }
 
