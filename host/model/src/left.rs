@@ -1,0 +1,156 @@
+//! "What is left": from an answer's number alone, the paragraph of document 01 says all that has
+//! changed. Here it is followed sentence by sentence, and compared with the model byte for byte
+//! under traffic of all mixes.
+
+use crate::answers::Answer;
+use crate::lines::{Kind, Line, State};
+use crate::traffic::Traffic;
+use crate::world::{Op, World, BLANK};
+
+/// The world after an event that was given this answer.
+fn after_event(before: &World, line: u8, kind: Kind, number: u8) -> World {
+    let mut world = before.clone();
+    // "40 to 47, 20 and ignored events change nothing at all."
+    if number == 20 || number >= 40 {
+        return world;
+    }
+    let n = usize::from(line);
+    let record = &mut world.model.lines[n];
+    let old = *record;
+    // "1, 5, 6 and 7 change only the line's state".
+    if matches!(number, 1 | 5 | 6 | 7) {
+        *record = Line::fresh();
+        if number == 1 {
+            record.state = State::Waiting;
+        }
+        return world;
+    }
+    let byte = match kind {
+        Kind::Seconds(seconds) => {
+            // "seconds to the second count"; a neutral line has ignored them.
+            assert_eq!(number, 0);
+            if old.state != State::Neutral {
+                record.seconds += usize::from(seconds);
+            }
+            return world;
+        }
+        Kind::Byte(byte) => byte,
+    };
+    match old.state {
+        State::Neutral => return world,
+        State::Waiting => {
+            // "STX only moves the line inside."
+            if byte == 0x02 {
+                record.state = State::Inside;
+            }
+            return world;
+        }
+        State::Inside => {}
+    }
+    // "A collected byte is added to the frame bytes"; "A judged frame .. adds its last byte".
+    let part = &mut world.frames[246 * n..246 * (n + 1)];
+    part[old.collected] = byte;
+    if number == 0 {
+        record.collected += 1;
+        return world;
+    }
+    // "sets the collected and second counts to 0, and the line waits".
+    record.collected = 0;
+    record.seconds = 0;
+    record.state = State::Waiting;
+    if !matches!(number, 2 | 4 | 30 | 31) {
+        return world;
+    }
+    // "2, 4, 30 and 31 also write the text behind the joined text": of the collected bytes the
+    // first is the number, and the last five close the frame.
+    let text = &part[1..old.collected - 4];
+    let joined = old.joined + text.len();
+    let start = 4_000 * n;
+    world.unfinished[start + old.joined..start + joined].copy_from_slice(text);
+    // "the joined count grows by it after 2 and is 0 after the others".
+    record.joined = if number == 2 { joined } else { 0 };
+    // "2 and 4 advance the number; 30 and 31 make the line refuse."
+    if number == 2 || number == 4 {
+        record.last = Some(part[0] - b'0');
+        record.next = (old.next + 1) % 8;
+    } else {
+        record.refusing = true;
+    }
+    // "Only 4 and 8 change the journal."
+    if number == 4 {
+        let ledger = &mut world.model.ledger;
+        let mut entry = vec![
+            (n * 32 + joined / 256) as u8,
+            (joined % 256) as u8,
+            (ledger.serials[n] / 256) as u8,
+            (ledger.serials[n] % 256) as u8,
+        ];
+        entry.extend_from_slice(&world.unfinished[start..start + joined]);
+        world.journal[ledger.in_use..ledger.in_use + entry.len()].copy_from_slice(&entry);
+        ledger.in_use += entry.len();
+        ledger.used[n] += entry.len();
+        ledger.serials[n] = ((u32::from(ledger.serials[n]) + 1) % 65_536) as u16;
+    }
+    world
+}
+
+/// The world after a taking that was given this answer.
+fn after_taking(before: &World, line: u8, buffer: usize, answer: Answer) -> World {
+    let mut world = before.clone();
+    world.buffer = vec![BLANK; buffer];
+    if answer.number != 8 {
+        return world;
+    }
+    // The line's oldest entry: the first whose header bears its number.
+    let mut start = 0;
+    let mut length;
+    loop {
+        let header = &before.journal[start..start + 4];
+        length = usize::from(header[0] % 16) * 256 + usize::from(header[1]);
+        if header[0] / 32 == line {
+            assert_eq!(
+                answer.serial,
+                u16::from(header[2]) * 256 + u16::from(header[3])
+            );
+            break;
+        }
+        start += 4 + length;
+    }
+    assert_eq!(answer.length, length);
+    let end = start + 4 + length;
+    world.buffer[..length].copy_from_slice(&before.journal[start + 4..end]);
+    // "later entries close up".
+    for place in end..before.model.ledger.in_use {
+        world.journal[place - 4 - length] = before.journal[place];
+    }
+    world.model.ledger.in_use -= 4 + length;
+    world.model.ledger.used[usize::from(line)] -= 4 + length;
+    world
+}
+
+#[test]
+fn each_answer_leaves_what_the_document_says() {
+    let mut world = World::fresh(0x2D);
+    let mut traffic = Traffic::new(11);
+    let mut seen = [0; 256];
+    for _ in 0..60_000 {
+        let op = traffic.next(&world);
+        let before = world.clone();
+        let answer = world.apply(op);
+        let expected = match (op, answer) {
+            (Op::Event { line, kind }, Some(answer)) => {
+                after_event(&before, line, kind, answer.number)
+            }
+            (Op::Take { line, buffer }, Some(answer)) => {
+                after_taking(&before, line, buffer, answer)
+            }
+            _ => continue,
+        };
+        let number = answer.map_or(0, |answer| answer.number);
+        seen[usize::from(number)] += 1;
+        assert!(world == expected, "{:?} with answer {}", op, number);
+    }
+    for number in (0..=8).chain(20..=31).chain(40..=45) {
+        assert!(seen[number] > 0, "answer {} did not occur", number);
+    }
+}

@@ -1,0 +1,49 @@
+//! A model of document 01: the eight lines, their frames and messages, the journal with its
+//! shares, cutting, escaping and the replay listing.
+//!
+//! It is written from the document alone and for reading beside it: answers are the document's
+//! numbers, each rule carries the few words it comes from in quotes, and where the words leave
+//! a choice the comment says which reading was taken. It uses nothing but the standard library.
+//!
+//! The caller owns the memories and lends them to each call, as the document has it; `Model`
+//! holds only the eight records and the ledger, all of it open, so that a test can also set
+//! what no run reaches.
+
+pub mod answers;
+pub mod cutting;
+pub mod escapes;
+pub mod frames;
+pub mod journal;
+pub mod lines;
+pub mod listing;
+pub mod model;
+pub mod records;
+pub mod texts;
+pub mod traffic;
+pub mod world;
+
+pub use answers::{reply, Answer};
+pub use cutting::cut;
+pub use escapes::{escape, unescape};
+pub use journal::Ledger;
+pub use lines::{Kind, Line, State};
+pub use listing::listing;
+pub use model::Model;
+pub use records::{component_end, field, is_message, read, read_into, Record};
+
+/// "Eight serial lines, numbered 0 to 7."
+pub const LINES: usize = 8;
+
+/// "Memory: journal 32,768 bytes, unfinished text 8 parts of 4,000, frames 8 parts of 246."
+pub const JOURNAL: usize = 32_768;
+pub const UNFINISHED_PART: usize = 4_000;
+pub const UNFINISHED: usize = LINES * UNFINISHED_PART;
+pub const FRAME_PART: usize = 246;
+pub const FRAMES: usize = LINES * FRAME_PART;
+
+#[cfg(test)]
+mod dialogues;
+#[cfg(test)]
+mod examples;
+#[cfg(test)]
+mod left;

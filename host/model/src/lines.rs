@@ -1,0 +1,296 @@
+//! One line's record: what it holds, its limits, and the events that need no frame judged.
+
+use crate::texts::{ENQ, EOT, LF, STX};
+
+/// "A line is neutral, waiting, or inside a frame."
+#[derive(Clone, Copy, PartialEq, Eq, Debug)]
+pub enum State {
+    Neutral,
+    Waiting,
+    Inside,
+}
+
+/// "An event belongs to one line and is either a byte or a number of seconds passed (0 to 255)."
+#[derive(Clone, Copy, PartialEq, Eq, Debug)]
+pub enum Kind {
+    Byte(u8),
+    Seconds(u8),
+}
+
+/// The record of a line. The counts are wider than their limits, so that a test can break them.
+#[derive(Clone, Copy, PartialEq, Eq, Debug)]
+pub struct Line {
+    pub state: State,
+    /// How many bytes of the open frame stand in the line's part of the frames.
+    pub collected: usize,
+    /// How many bytes of unfinished text stand in the line's part.
+    pub joined: usize,
+    /// Seconds since the transfer opened or a frame was judged.
+    pub seconds: usize,
+    /// The number the next frame must have.
+    pub next: u8,
+    /// The number of the last accepted frame of this transfer.
+    pub last: Option<u8>,
+    /// A message was decided against in this transfer.
+    pub refusing: bool,
+}
+
+/// "Record limits: collected up to 245, joined up to 4,000, seconds up to 29, numbers up to 7."
+pub const COLLECTED_LIMIT: usize = 245;
+pub const JOINED_LIMIT: usize = 4_000;
+pub const SECONDS_LIMIT: usize = 29;
+pub const NUMBER_LIMIT: u8 = 7;
+
+/// What an event asks for once 40, 41 and 42 are past.
+#[derive(Clone, Copy, PartialEq, Eq, Debug)]
+pub enum Step {
+    /// The event is done with this answer; only the record has changed, or nothing.
+    Done(u8),
+    /// The byte is collected and the frame goes on.
+    Collect,
+    /// The byte is collected and the frame is judged.
+    Judge,
+}
+
+impl Line {
+    /// "its three counts 0, next number 1, no last number, no refusing".
+    fn cleared(state: State) -> Line {
+        Line {
+            state,
+            collected: 0,
+            joined: 0,
+            seconds: 0,
+            next: 1,
+            last: None,
+            refusing: false,
+        }
+    }
+
+    /// "Fresh means: all lines neutral with counts 0". The rest is as after answer 5.
+    pub fn fresh() -> Line {
+        Line::cleared(State::Neutral)
+    }
+
+    /// Answer 42 is given where this fails. State and counts need not agree.
+    pub fn is_within_limits(&self) -> bool {
+        self.collected <= COLLECTED_LIMIT
+            && self.joined <= JOINED_LIMIT
+            && self.seconds <= SECONDS_LIMIT
+            && self.next <= NUMBER_LIMIT
+            && self.last.unwrap_or(0) <= NUMBER_LIMIT
+    }
+
+    /// One event on a record within its limits. A frame is not judged here, only called for.
+    pub fn step(&mut self, kind: Kind) -> Step {
+        match (self.state, kind) {
+            (State::Neutral, Kind::Byte(byte)) => self.byte_while_neutral(byte),
+            (State::Waiting, Kind::Byte(byte)) => self.byte_while_waiting(byte),
+            (State::Inside, Kind::Byte(byte)) => self.byte_inside(byte),
+            // "A seconds event adds to it in waiting or inside", so not here.
+            (State::Neutral, Kind::Seconds(_)) => Step::Done(0),
+            (_, Kind::Seconds(seconds)) => self.pass(seconds),
+        }
+    }
+
+    fn byte_while_neutral(&mut self, byte: u8) -> Step {
+        if byte == ENQ {
+            // "ENQ (05) opens the transfer"; "change only the line's state".
+            *self = Line::cleared(State::Waiting);
+            return Step::Done(1);
+        }
+        // "Anything else is ignored."
+        Step::Done(0)
+    }
+
+    fn byte_while_waiting(&mut self, byte: u8) -> Step {
+        match byte {
+            STX => {
+                // "STX only moves the line inside": the collected count stays what it is.
+                self.state = State::Inside;
+                Step::Done(0)
+            }
+            EOT => {
+                // "EOT with no / with some unfinished text".
+                let answer = if self.joined == 0 { 5 } else { 6 };
+                *self = Line::cleared(State::Neutral);
+                Step::Done(answer)
+            }
+            // "ENQ is answered NAK (house)."
+            ENQ => Step::Done(20),
+            // "Other bytes are ignored."
+            _ => Step::Done(0),
+        }
+    }
+
+    fn byte_inside(&mut self, byte: u8) -> Step {
+        // "judged at the first LF (0A), or at the 246th collected byte".
+        if byte == LF || self.collected + 1 == 246 {
+            return Step::Judge;
+        }
+        // "every byte is collected".
+        Step::Collect
+    }
+
+    fn pass(&mut self, seconds: u8) -> Step {
+        let total = self.seconds + usize::from(seconds);
+        if total >= 30 {
+            // "At 30 or more the line turns neutral and unfinished text is dropped."
+            *self = Line::cleared(State::Neutral);
+            return Step::Done(7);
+        }
+        self.seconds = total;
+        Step::Done(0)
+    }
+}
+
+#[cfg(test)]
+mod tests {
+    use super::*;
+
+    fn waiting() -> Line {
+        let mut line = Line::fresh();
+        assert_eq!(line.step(Kind::Byte(ENQ)), Step::Done(1));
+        line
+    }
+
+    #[test]
+    fn only_enq_moves_a_neutral_line() {
+        for byte in 0..=255 {
+            let mut line = Line::fresh();
+            let step = line.step(Kind::Byte(byte));
+            if byte == 0x05 {
+                assert_eq!((step, line.state), (Step::Done(1), State::Waiting));
+            } else {
+                assert_eq!((step, line), (Step::Done(0), Line::fresh()));
+            }
+        }
+        let mut line = Line::fresh();
+        assert_eq!(line.step(Kind::Seconds(255)), Step::Done(0));
+        assert_eq!(line, Line::fresh());
+    }
+
+    #[test]
+    fn enq_clears_what_an_odd_record_holds() {
+        let mut line = Line {
+            collected: 9,
+            joined: 4_000,
+            seconds: 29,
+            next: 7,
+            last: Some(7),
+            refusing: true,
+            ..Line::fresh()
+        };
+        assert!(line.is_within_limits());
+        assert_eq!(line.step(Kind::Byte(ENQ)), Step::Done(1));
+        assert_eq!(line, waiting());
+    }
+
+    #[test]
+    fn a_waiting_line_knows_three_bytes() {
+        for byte in 0..=255 {
+            let mut line = waiting();
+            let step = line.step(Kind::Byte(byte));
+            let mut expected = waiting();
+            let number = match byte {
+                0x02 => {
+                    expected.state = State::Inside;
+                    0
+                }
+                0x04 => {
+                    expected = Line::fresh();
+                    5
+                }
+                0x05 => 20,
+                _ => 0,
+            };
+            assert_eq!((step, line), (Step::Done(number), expected));
+        }
+    }
+
+    #[test]
+    fn eot_tells_whether_text_was_dropped() {
+        let mut line = waiting();
+        line.joined = 1;
+        line.refusing = true;
+        assert_eq!(line.step(Kind::Byte(EOT)), Step::Done(6));
+        assert_eq!(line, Line::fresh());
+    }
+
+    #[test]
+    fn stx_keeps_a_collected_count_that_no_run_leaves() {
+        let mut line = waiting();
+        line.collected = 245;
+        assert_eq!(line.step(Kind::Byte(STX)), Step::Done(0));
+        assert_eq!((line.state, line.collected), (State::Inside, 245));
+        assert_eq!(line.step(Kind::Byte(b'1')), Step::Judge);
+    }
+
+    #[test]
+    fn a_frame_ends_at_lf_or_at_its_246th_byte() {
+        let mut line = waiting();
+        line.state = State::Inside;
+        for collected in 0..=245 {
+            line.collected = collected;
+            assert_eq!(line.step(Kind::Byte(LF)), Step::Judge);
+            let other = if collected == 245 {
+                Step::Judge
+            } else {
+                Step::Collect
+            };
+            for byte in [b'A', EOT, ENQ, STX, 0x00, 0xFF] {
+                assert_eq!(line.step(Kind::Byte(byte)), other, "{}", collected);
+            }
+        }
+    }
+
+    #[test]
+    fn thirty_seconds_end_a_transfer() {
+        for state in [State::Waiting, State::Inside] {
+            let mut line = Line { state, ..waiting() };
+            assert_eq!(line.step(Kind::Seconds(0)), Step::Done(0));
+            assert_eq!(line.step(Kind::Seconds(29)), Step::Done(0));
+            assert_eq!(line.seconds, 29);
+            assert_eq!(line.step(Kind::Seconds(0)), Step::Done(0));
+            assert_eq!(line.step(Kind::Seconds(1)), Step::Done(7));
+            assert_eq!(line, Line::fresh());
+        }
+        // 29 and 255 are 284, which is 28 modulo 256: a narrow sum would miss it.
+        let mut line = Line {
+            seconds: 29,
+            ..waiting()
+        };
+        assert_eq!(line.step(Kind::Seconds(255)), Step::Done(7));
+    }
+
+    #[test]
+    fn each_limit_has_two_sides() {
+        let at = Line {
+            collected: 245,
+            joined: 4_000,
+            seconds: 29,
+            next: 7,
+            last: Some(7),
+            ..Line::fresh()
+        };
+        assert!(at.is_within_limits());
+        let beyond = [
+            Line {
+                collected: 246,
+                ..at
+            },
+            Line {
+                joined: 4_001,
+                ..at
+            },
+            Line { seconds: 30, ..at },
+            Line { next: 8, ..at },
+            Line {
+                last: Some(8),
+                ..at
+            },
+        ];
+        for line in beyond {
+            assert!(!line.is_within_limits(), "{:?}", line);
+        }
+    }
+}

@@ -1,0 +1,386 @@
+//! The scripts for one line.
+
+use super::messages::{exact, right, wrong};
+use super::random::Random;
+use super::{Mix, Script};
+use crate::frames::{after, write};
+use crate::lines::{Line, State};
+use crate::texts::{ACK, CR, ENQ, EOT, ETB, ETX, LF, NAK, STX};
+use crate::world::{Memory, Op, World};
+use crate::{JOURNAL, UNFINISHED_PART};
+
+/// A script of this mix for a line as it stands.
+pub fn script(mix: Mix, random: &mut Random, line: u8, world: &World) -> Script {
+    let mut writer = Writer {
+        random,
+        line,
+        script: Script::default(),
+    };
+    let record = &world.model.lines[usize::from(line)];
+    match mix {
+        Mix::Noise => writer.noise(record),
+        Mix::Polite => writer.polite(record),
+        Mix::Damaged => writer.damaged(record),
+        Mix::Records => writer.records(record),
+        Mix::Long => writer.long(record),
+        Mix::Clock => writer.clock(record),
+        Mix::Flood => writer.flood(record),
+        Mix::Takings => writer.takings(world),
+        _ => unreachable!("{:?} is for the whole gateway", mix),
+    }
+    writer.script
+}
+
+struct Writer<'a> {
+    random: &'a mut Random,
+    line: u8,
+    script: Script,
+}
+
+impl Writer<'_> {
+    fn send(&mut self, bytes: &[u8]) {
+        self.script.bytes(self.line, bytes);
+    }
+
+    fn seconds(&mut self, seconds: u8) {
+        self.script.seconds(self.line, seconds);
+    }
+
+    /// Brings the line to waiting with no text and not refusing; the number its next frame needs.
+    fn open(&mut self, record: &Line) -> u8 {
+        match record.state {
+            State::Neutral => {}
+            State::Waiting => {
+                if record.joined == 0 && !record.refusing && self.random.once_in(2) {
+                    return record.next;
+                }
+                self.send(&[EOT]);
+            }
+            State::Inside => {
+                if self.random.once_in(2) {
+                    self.send(&[LF, EOT]);
+                } else {
+                    self.seconds(255);
+                }
+            }
+        }
+        self.send(&[ENQ]);
+        1
+    }
+
+    /// A text as frames from this number on: each record for itself, packed full, or cut anywhere.
+    fn frames(&mut self, text: &[u8], first: u8) -> Vec<Vec<u8>> {
+        let style = self.random.below(3);
+        let mut frames = Vec::new();
+        let mut number = first;
+        let mut start = 0;
+        while start < text.len() {
+            let longest = (text.len() - start).min(240);
+            let size = match style {
+                0 => match text[start..start + longest].iter().position(|&b| b == CR) {
+                    Some(place) => place + 1,
+                    None => longest,
+                },
+                1 => longest,
+                _ => self.random.below(longest + 1),
+            };
+            let piece = &text[start..start + size];
+            start += size;
+            let is_last = start == text.len();
+            let ends_record = piece.last() == Some(&CR);
+            // Now and then the whole message stands before an empty ETX frame.
+            let is_etx = match style {
+                0 => ends_record,
+                1 => is_last,
+                _ if is_last => !self.random.once_in(4),
+                _ => ends_record && self.random.once_in(2),
+            };
+            frames.push(write(number, piece, if is_etx { ETX } else { ETB }));
+            number = after(number);
+            if is_last && !is_etx {
+                frames.push(write(number, b"", ETX));
+            }
+        }
+        frames
+    }
+
+    fn noise(&mut self, record: &Line) {
+        if record.state == State::Neutral && self.random.once_in(2) {
+            self.send(&[ENQ]);
+        }
+        // Without LF for long, so that the 246th byte is met too.
+        let without_lf = self.random.once_in(4);
+        let count = if without_lf {
+            300
+        } else {
+            self.random.between(1, 60)
+        };
+        if without_lf {
+            self.send(&[STX]);
+        }
+        for _ in 0..count {
+            let byte = match self.random.below(5) {
+                0 | 1 => self
+                    .random
+                    .pick(&[ENQ, STX, STX, EOT, ETX, ETB, CR, LF, ACK, NAK]),
+                2 => self.random.pick(b"01234567890ABCDEF"),
+                _ => self.random.byte(),
+            };
+            if !(without_lf && byte == LF) {
+                self.send(&[byte]);
+            }
+        }
+    }
+
+    fn polite(&mut self, record: &Line) {
+        if self.random.once_in(8) {
+            let serial = self.random.pick(&[65_534, 65_535, 0, 255, 256]);
+            self.script.push(Op::Serial {
+                line: self.line,
+                serial,
+            });
+        }
+        let first = self.open(record);
+        let longest = self.random.pick(&[11, 40, 250, 800]);
+        let text = right(self.random, longest);
+        for frame in self.frames(&text, first) {
+            self.send(&frame);
+            match self.random.below(30) {
+                0 | 1 => self.send(&frame),
+                2 => self.send(&[ENQ]),
+                3 => {
+                    let byte = self.random.pick(&[CR, LF, ACK, NAK, 0x00, b'H', 0xFF]);
+                    self.send(&[byte]);
+                }
+                4 => {
+                    let seconds = self.random.below(10) as u8;
+                    self.seconds(seconds);
+                }
+                _ => {}
+            }
+        }
+        if !self.random.once_in(4) {
+            self.send(&[EOT]);
+        }
+    }
+
+    fn damaged(&mut self, record: &Line) {
+        let number = self.open(record);
+        let text = self.some_text();
+        let end = self.random.pick(&[ETB, ETX]);
+        let whole = write(number, &text, end);
+        let frame = self.with_fault(&whole, number, &text, end);
+        self.send(&frame);
+        // What is left of a frame without LF would swallow the next: end it.
+        if self.random.once_in(2) {
+            self.send(&[LF]);
+        }
+        if self.random.once_in(2) {
+            self.send(&whole);
+        }
+    }
+
+    /// Text for one frame, allowed bytes only.
+    fn some_text(&mut self) -> Vec<u8> {
+        let length = self.random.pick(&[0, 1, 2, 20, 100, 239, 240]);
+        let mut text: Vec<u8> = (0..length)
+            .map(|_| {
+                self.random
+                    .pick(b"|\\^&0123456789abcHPORQLCM\x07\xFE\x80\x20\x7E")
+            })
+            .collect();
+        if length > 0 && self.random.once_in(2) {
+            text[length - 1] = CR;
+        }
+        text
+    }
+
+    fn with_fault(&mut self, whole: &[u8], number: u8, text: &[u8], end: u8) -> Vec<u8> {
+        let mut frame = whole.to_vec();
+        let count = frame.len();
+        match self.random.below(14) {
+            // Too long: 241 text bytes or more.
+            0 => {
+                let length = self.random.pick(&[241, 242, 250]);
+                return write(number, &vec![b'x'; length], end);
+            }
+            // Too short: fewer than six collected.
+            1 => {
+                let size = self.random.between(1, 5.min(count - 1));
+                frame.truncate(size);
+                frame.push(LF);
+            }
+            // No CR before LF, no ETB or ETX in its place.
+            2 => frame[count - 2] = self.random.pick(&[b'0', LF, 0x00]),
+            3 => frame[count - 5] = self.random.pick(&[EOT, STX, b'x', CR]),
+            // Check digits: another, small letters, STX counted too, ETX left out, spaces.
+            4 => frame[count - 3] = self.random.pick(b"0123456789ABCDEF"),
+            5 => frame[count - 4..count - 2].make_ascii_lowercase(),
+            6 => set_digits(&mut frame, |sum| sum.wrapping_add(STX)),
+            7 => set_digits(&mut frame, |sum| sum.wrapping_sub(end)),
+            8 => frame[count - 4..count - 2].copy_from_slice(b"  "),
+            // A byte that is not allowed, with right digits.
+            9 => {
+                let mut text = text.to_vec();
+                let place = self.random.below(text.len() + 1);
+                let bytes = [0x00, 0x02, 0x04, 0x05, LF, 0x0E, 0x15, 0x1F, 0x7F, 0xFF];
+                text.insert(place, self.random.pick(&bytes));
+                return write(number, &text, end);
+            }
+            // A number that is none, or another one.
+            10 => {
+                let digit = self.random.pick(&[8, 9, 0xFF, 0x11, 0xF0, 10]);
+                return write_any(digit, text, end);
+            }
+            11 => {
+                let other = (usize::from(number) + self.random.between(1, 7)) % 8;
+                return write(other as u8, text, end);
+            }
+            // On the wire: a bit turned, a byte lost.
+            12 => {
+                let place = self.random.below(count);
+                frame[place] ^= 1 << self.random.below(8);
+            }
+            _ => {
+                let place = self.random.below(count);
+                frame.remove(place);
+            }
+        }
+        frame
+    }
+
+    fn records(&mut self, record: &Line) {
+        let first = self.open(record);
+        let longest = self.random.pick(&[11, 30, 80, 300]);
+        let text = if self.random.once_in(2) {
+            right(self.random, longest)
+        } else {
+            wrong(self.random, longest)
+        };
+        for frame in self.frames(&text, first) {
+            self.send(&frame);
+        }
+        // Where it was decided against, these are refused; where it was stored, they go on.
+        if self.random.once_in(3) {
+            let number = self.random.below(8) as u8;
+            let more = right(self.random, 20);
+            self.send(&write(number, &more, ETX));
+        }
+        if self.random.once_in(3) {
+            self.send(&[EOT]);
+        }
+    }
+
+    fn long(&mut self, record: &Line) {
+        if self.random.once_in(12) {
+            let first = self.open(record);
+            let length = self.random.between(3_985, 4_001);
+            let text = exact(self.random, length);
+            for frame in self.frames(&text, first) {
+                self.send(&frame);
+            }
+            return;
+        }
+        let mut number = self.open(record);
+        if !self.random.once_in(4) {
+            self.set_joined();
+        }
+        for _ in 0..self.random.between(1, 4) {
+            let length = self
+                .random
+                .pick(&[0, 0, 1, 2, 5, 8, 10, 11, 12, 238, 239, 240, 241]);
+            let mut text = vec![b'L'; length];
+            if length > 0 && !self.random.once_in(3) {
+                text[length - 1] = CR;
+            }
+            if length > 1 && self.random.once_in(3) {
+                text[length - 2] = CR;
+            }
+            let end = self.random.pick(&[ETB, ETX]);
+            self.send(&write(number, &text, end));
+            // The number is right again if the frame was accepted.
+            if self.random.once_in(2) {
+                number = after(number);
+            }
+        }
+    }
+
+    /// Unfinished text near its limit, by hand, with or without CR and a last record L.
+    fn set_joined(&mut self) {
+        let count = self.random.between(3_985, 4_000);
+        self.script.push(Op::Joined {
+            line: self.line,
+            count: count as u16,
+        });
+        let end = usize::from(self.line) * UNFINISHED_PART + count;
+        for back in 1..=3 {
+            let value = self.random.pick(&[CR, b'L', b'x']);
+            self.script.push(Op::Poke {
+                memory: Memory::Unfinished,
+                index: end - back,
+                value,
+            });
+        }
+    }
+
+    fn clock(&mut self, record: &Line) {
+        let number = self.open(record);
+        for _ in 0..self.random.between(2, 6) {
+            match self.random.below(5) {
+                0 => self.send(&[STX, b'1']),
+                1 => self.send(&write(number, b"H|\\^&\r", ETB)),
+                2 => self.send(&[ENQ]),
+                _ => {}
+            }
+            let seconds = self
+                .random
+                .pick(&[0, 1, 2, 13, 14, 15, 16, 28, 29, 30, 31, 226, 227, 255]);
+            self.seconds(seconds);
+        }
+    }
+
+    fn flood(&mut self, record: &Line) {
+        let mut number = self.open(record);
+        for _ in 0..self.random.between(1, 3) {
+            let longest = self.random.between(300, 1_500);
+            let text = right(self.random, longest);
+            for frame in self.frames(&text, number) {
+                self.send(&frame);
+                number = after(number);
+            }
+        }
+    }
+
+    fn takings(&mut self, world: &World) {
+        let ledger = &world.model.ledger;
+        let oldest = ledger.oldest(&world.journal[..JOURNAL], usize::from(self.line));
+        let length = oldest.map_or(0, |entry| entry.length);
+        let buffer = match self.random.below(8) {
+            0 => 0,
+            1 => length.saturating_sub(1),
+            2 | 3 => length,
+            4 => length + 1,
+            5 => self.random.pick(&[4_001, 5_000]),
+            6 => self.random.below(4_001),
+            _ => 4_000,
+        };
+        self.script.take(self.line, buffer);
+    }
+}
+
+/// A frame whose number digit is any byte.
+fn write_any(digit: u8, text: &[u8], end: u8) -> Vec<u8> {
+    let mut frame = write(0, text, end);
+    frame[1] = b'0'.wrapping_add(digit);
+    set_digits(&mut frame, |sum| sum);
+    frame
+}
+
+/// The check digits of a frame made from its sum, changed or not.
+fn set_digits(frame: &mut [u8], change: impl Fn(u8) -> u8) {
+    let count = frame.len();
+    let counted = &frame[1..count - 4];
+    let sum = counted.iter().fold(0, |sum: u8, &b| sum.wrapping_add(b));
+    let digits = format!("{:02X}", change(sum));
+    frame[count - 4..count - 2].copy_from_slice(digits.as_bytes());
+}
