@@ -1,0 +1,3 @@
+pub mod Newlines
+pub mod Ways
+pub mod Pieces

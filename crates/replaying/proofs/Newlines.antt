@@ -1,0 +1,84 @@
+-- The next line: where it ends, and what it says.
+-- Assumes nothing.
+use mathlib.Core.Path.{_≡_, refl, sym, ap, _∙_}
+use mathlib.Core.Bool.{Bool, true, false, not, cond, _&&_}
+use mathlib.Core.List.{List, [], _∷_}
+use Prim.Native.Nat.{ℕ, suc, _+_, _-_, _≤_, _<_}
+use native.Mathlib.Omega.{arith}
+use native.Mathlib.Decide.{ℕ-discrete}
+use borrow.Author.Tests.{ltb-true, lt-ltb, le-ltb, not-true}
+use lib.Dec.{ltb}
+use lib.ListN.{length, getD, take, drop}
+use lib.Seq.{take-all}
+use lib.ListN.{length-drop}
+use Rattle.memory.specs.Tests.{is, find}
+use Rattle.memory.proofs.Tests.{and-left, and-right, find-le}
+use Rattle.listing.specs.Texts.{newline}
+use Rattle.listing.specs.Items.{itemOf}
+use Rattle.listing.specs.declared.Item.{Item}
+use Rattle.replaying.specs.Lines.{firstLine, usual, isUsual, nextOf}
+use Rattle.replaying.specs.declared.Next.{Next}
+use Rattle.replaying.specs.declared.Next.the-variants.{Whole, Unended}
+
+module _ (text : List ℕ) (at : ℕ) where
+  -- no newline in it
+  pub unended : find (is newline) text ≡ length text → Unended ≡ firstLine text at
+  unfolding firstLine
+  unended e = rw (e, le-ltb (length text) (length text) (omega arith))
+
+  -- a newline behind n bytes
+  pub whole : {n : ℕ} {item : Item} → n ≡ find (is newline) text → n < length text → item ≡ itemOf (take n text) → Whole item (at + n + 1) ≡ firstLine text at
+  unfolding firstLine
+  whole {n} {item} e h i = rw (i, ← e, lt-ltb n (length text) h)
+
+-- a text of seven bytes and more, whose first newline is the seventh
+pub usual-line : (text : List ℕ) → isUsual text ≡ true → (usual < length text) × (usual ≡ find (is newline) text)
+unfolding isUsual
+usual-line text e = (ltb-true usual (length text) (and-left (ltb usual (length text)) _ e), by-bytes text (ltb-true usual (length text) (and-left (ltb usual (length text)) _ e)) (and-right (ltb usual (length text)) _ e))
+  where
+    by-bytes : (t : List ℕ) → usual < length t
+        → is newline (getD t usual 0) && (not (is newline (getD t 0 0)) && (not (is newline (getD t 1 0)) && (not (is newline (getD t 2 0)) && (not (is newline (getD t 3 0)) && (not (is newline (getD t 4 0)) && not (is newline (getD t 5 0))))))) ≡ true
+        → usual ≡ find (is newline) t
+    by-bytes (a ∷ b ∷ c ∷ d ∷ e ∷ f ∷ g ∷ t) h q =
+        let r₁ = and-right (is newline g) _ q in
+        let r₂ = and-right (not (is newline a)) _ r₁ in
+        let r₃ = and-right (not (is newline b)) _ r₂ in
+        let r₄ = and-right (not (is newline c)) _ r₃ in
+        let r₅ = and-right (not (is newline d)) _ r₄ in
+        rw (
+          not-true (is newline a) (and-left (not (is newline a)) _ r₁),
+          not-true (is newline b) (and-left (not (is newline b)) _ r₂),
+          not-true (is newline c) (and-left (not (is newline c)) _ r₃),
+          not-true (is newline d) (and-left (not (is newline d)) _ r₄),
+          not-true (is newline e) (and-left (not (is newline e)) _ r₅),
+          not-true (is newline f) (and-right (not (is newline e)) _ r₅),
+          and-left (is newline g) _ q,
+        )
+    by-bytes [] h q = absurd (omega arith)
+    by-bytes (a ∷ []) h q = absurd (omega arith)
+    by-bytes (a ∷ b ∷ []) h q = absurd (omega arith)
+    by-bytes (a ∷ b ∷ c ∷ []) h q = absurd (omega arith)
+    by-bytes (a ∷ b ∷ c ∷ d ∷ []) h q = absurd (omega arith)
+    by-bytes (a ∷ b ∷ c ∷ d ∷ e ∷ []) h q = absurd (omega arith)
+    by-bytes (a ∷ b ∷ c ∷ d ∷ e ∷ f ∷ []) h q = absurd (omega arith)
+
+pub scanned : (text : List ℕ) (n : ℕ) → n ≡ find (is newline) text → n ≤ length text
+scanned text n e = rw e (find-le (is newline) text)
+
+pub below : (n m : ℕ) → n ≤ m → (n ≡ m → ⊥) → n < m
+below n m h q = elim (ℕ-discrete n m) [
+  | yes e ↦ absurd (q e)
+  | no e ↦ omega (arith, h, e)
+]
+
+-- past the end nothing is left
+pub nothing-left : (input : List ℕ) (at : ℕ) → length input < at → Unended ≡ nextOf input at
+nothing-left input at h = unended (drop at input) at (by-length (drop at input) (rw length-drop (omega arith)))
+  where
+    by-length : (t : List ℕ) → length t ≡ 0 → find (is newline) t ≡ length t
+    by-length [] e = refl
+    by-length (b ∷ t) e = absurd (omega arith)
+
+-- the rest, lent as a part, is the rest
+pub rest-is : (input : List ℕ) (at : ℕ) → at ≤ length input → take (length input - at) (drop at input) ≡ drop at input
+rest-is input at h = take-all (length input - at) (drop at input) (rw length-drop (omega arith))

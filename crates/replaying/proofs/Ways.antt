@@ -1,0 +1,147 @@
+-- One line replayed, one way out after the other.
+-- Assumes nothing.
+use mathlib.Core.Path.{_≡_, refl, sym, ap, subst, _∙_}
+use mathlib.Core.List.{List, [], _∷_, _++_}
+use Prim.Native.Nat.{ℕ, zero, suc, _+_, _-_, _^_, _≤_, _<_, min}
+use native.Mathlib.Omega.{arith}
+use native.Mathlib.Numerals.{unary-clauses}
+use borrow.Author.Tests.{le-leb, lt-leb}
+use lib.ListN.{length, take, drop}
+use lib.Seq.{take-all}
+use Rattle.memory.specs.Parts.{splice}
+use Rattle.memory.specs.Moves.{copied}
+use mathlib.Core.Bool.{Bool, true, false, cond, true≢false}
+use Rattle.memory.specs.Tests.{is}
+use Rattle.listing.specs.Texts.{taken, replyDigits, lastText, rowText, endOf, TextWritten}
+use Rattle.listing.specs.Numbers.{decimalOf}
+use Rattle.listing.specs.declared.Item.{Item}
+use Rattle.listing.specs.declared.Item.the-variants.{Event, Taking, NotAnEvent as NoItem}
+use Rattle.listing.specs.declared.Written.{Written}
+use Rattle.listing.specs.declared.Written.the-variants.{To, NoRoom}
+use Rattle.listing.proofs.Columns.{length-row}
+use Rattle.listing.proofs.Digits.{most-digits, twenty}
+use Rattle.gateway.specs.declared.Event.{Event as GatewayEvent}
+use Rattle.gateway.specs.declared.Kind.{Kind}
+use Rattle.ngachodui.specs.Calls.{Calling, Taken}
+use Rattle.ngachodui.specs.declared.Answered.{Answered}
+use Rattle.replaying.specs.Lines.{nextOf}
+use Rattle.replaying.specs.Desk.{rowRoom, Desk, eventAsked, takingAsked}
+use Rattle.replaying.specs.Turns.{AfterTurn, stopped, wrote, acted, onLine, turnOf, Leaves, deskOf, Telling}
+use Rattle.replaying.specs.declared.Next.{Next}
+use Rattle.replaying.specs.declared.Stop.{Stop}
+use Rattle.replaying.specs.declared.Stop.the-variants.{Output, NotAnEvent}
+use Rattle.replaying.specs.declared.Turn.{Turn}
+use Rattle.replaying.specs.declared.Turn.the-variants.{Went, Stopped}
+
+-- an event is its line and its kind
+pub as-kind : (ns us : List ℕ) (e : GatewayEvent) (j u f : List ℕ) {k : Kind} {r : Answered} {ns′ us′ j′ u′ f′ : List ℕ} → e .kind ≡ k
+    → Calling ns us (record { line = e .line; kind = k }) j u f r ns′ us′ j′ u′ f′ → Calling ns us e j u f r ns′ us′ j′ u′ f′
+as-kind ns us e j u f {k} {r} {ns′} {us′} {j′} {u′} {f′} q c =
+    subst (λ (x : Kind). Calling ns us (record { line = e .line; kind = x }) j u f r ns′ us′ j′ u′ f′) (sym q) c
+
+-- the first n bytes, or all where there are fewer
+take-least : (n : ℕ) (b : List ℕ) → take (min n (length b)) b ≡ take n b
+take-least zero b = simp unary-clauses
+take-least (suc n) [] = simp unary-clauses
+take-least (suc n) (x ∷ b) = simp unary-clauses (ap (λ (t : List ℕ). x ∷ t) (take-least n b))
+
+drop-least : (n : ℕ) (b : List ℕ) → drop (min n (length b)) b ≡ drop n b
+drop-least zero b = simp unary-clauses
+drop-least (suc n) [] = simp unary-clauses
+drop-least (suc n) (x ∷ b) = simp unary-clauses (drop-least n b)
+
+last-fits : (answer size : ℕ) → size < 2 ^ 64 → length (lastText answer size) ≤ 20
+unfolding lastText
+last-fits answer size h = by-answer (is taken answer)
+  where
+    by-answer : (t : Bool) → length (cond t (decimalOf size) (replyDigits answer .high ∷ replyDigits answer .low ∷ [])) ≤ 20
+    by-answer true = twenty size h
+    by-answer false = omega arith
+
+-- the longest row has its room
+pub row-fits : (number line answer size : ℕ) → number < 2 ^ 64 → line < 256 → answer < 256 → size < 2 ^ 64 → length (rowText number line answer size) ≤ rowRoom
+row-fits number line answer size h i j k =
+    omega (arith, length-row number line answer size, twenty number h, most-digits 2 line (omega arith), most-digits 2 answer (omega arith), last-fits answer size k)
+
+-- a text that fits is written
+pub fits-written : (text out : List ℕ) (at : ℕ) {r : Written} {out′ : List ℕ} → at + length text ≤ length out → TextWritten text out at r out′
+    → (r ≡ To (at + length text)) × (out′ ≡ splice out at text)
+unfolding endOf copied
+fits-written text out at h w =
+    let t = le-leb (at + length text) (length out) h in
+    (rw t at (w .answer), rw t at (w .after))
+
+-- a row that has its room ends behind its bytes
+module _ (number line answer size behind : ℕ) (out : List ℕ) (put : ℕ) {w : Written} {out′ : List ℕ} (room : put + length (rowText number line answer size) ≤ length out)
+    (t : TextWritten (rowText number line answer size) out put w out′) where
+  abbrev endIn : Written → ℕ
+  endIn (To n) = n
+  endIn NoRoom = 0
+
+  abbrev isTo : Written → Bool
+  isTo (To n) = true
+  isTo NoRoom = false
+
+  pub told-row : {end : ℕ} → w ≡ To end → Telling number line answer size behind out put (Went behind end) out′
+  told-row {end} e =
+      let (ends, after) = fits-written (rowText number line answer size) out put room t in
+      record { turn = ap (λ (x : Written). Went behind (endIn x)) (sym e ∙ ends); after = after }
+
+  pub never-short : w ≡ NoRoom → ⊥
+  never-short e = true≢false (ap isTo (sym (fits-written (rowText number line answer size) out put room t .0) ∙ e))
+
+module _ (ns us j u f b out : List ℕ) (put : ℕ) where
+  as-turn : {s t : AfterTurn} {r : Turn} {out′ ns′ us′ j′ u′ f′ b′ : List ℕ} → s ≡ t → Leaves t r out′ ns′ us′ j′ u′ f′ b′ → Leaves s r out′ ns′ us′ j′ u′ f′ b′
+  as-turn {s} {t} {r} {out′} {ns′} {us′} {j′} {u′} {f′} {b′} q l = subst (λ (x : AfterTurn). Leaves x r out′ ns′ us′ j′ u′ f′ b′) (sym q) l
+
+  abbrev here : Desk
+  here = deskOf ns us j u f b
+
+  pub stays : (s : Stop) → Leaves (stopped s out here) (Stopped s) out ns us j u f b
+  stays s = record { turn = refl; out = refl; numbers = refl; used = refl; journal = refl; unfinished = refl; frames = refl; buffer = refl }
+
+  module _ (item : Item) (number behind : ℕ) where
+    pub acted-event : {e : GatewayEvent} {a : Answered} {r : Turn} {out′ ns′ us′ j′ u′ f′ : List ℕ} → item ≡ Event e → Calling ns us e j u f a ns′ us′ j′ u′ f′
+        → Telling number (e .line) (a .number) (a .length) behind out put r out′ → Leaves (acted item number behind out put here) r out′ ns′ us′ j′ u′ f′ b
+    unfolding eventAsked
+    acted-event {e} {a} {r} {out′} q c t = as-turn (ap (λ (x : Item). acted x number behind out put here) q) (record {
+      turn = t .turn ∙ ap (λ (x : Answered). Went behind (put + length (rowText number (e .line) (x .number) (x .length)))) (c .result);
+      out = t .after ∙ ap (λ (x : Answered). splice out put (rowText number (e .line) (x .number) (x .length))) (c .result);
+      numbers = c .numbers;
+      used = c .used;
+      journal = c .journal;
+      unfinished = c .unfinished;
+      frames = c .frames;
+      buffer = refl;
+    })
+
+    pub acted-taking : {i n m : ℕ} {a : Answered} {r : Turn} {out′ us′ j′ b₁ b′ : List ℕ} → item ≡ Taking i n → m ≡ min n (length b) → Taken ns us i j (take m b) a us′ j′ b₁
+        → b′ ≡ b₁ ++ drop m b → Telling number i (a .number) (a .length) behind out put r out′ → Leaves (acted item number behind out put here) r out′ ns us′ j′ u f b′
+    unfolding takingAsked
+    acted-taking {i} {n} {m} {a} {r} {out′} {us′} {j′} {b₁} {b′} q p c e t =
+        let d : drop m b ≡ drop n b = rw p (drop-least n b) in
+        let k : take m b ≡ take n b = rw p (take-least n b) in
+        let c′ : Taken ns us i j (take n b) a us′ j′ b₁ = rw (← k) c in
+        as-turn (ap (λ (x : Item). acted x number behind out put here) q) (record {
+          turn = t .turn ∙ ap (λ (x : Answered). Went behind (put + length (rowText number i (x .number) (x .length)))) (c′ .result);
+          out = t .after ∙ ap (λ (x : Answered). splice out put (rowText number i (x .number) (x .length))) (c′ .result);
+          numbers = refl;
+          used = c′ .used;
+          journal = c′ .journal;
+          unfinished = refl;
+          frames = refl;
+          buffer = e ∙ rw (d, c′ .buffer);
+        })
+
+    pub acted-none : item ≡ NoItem → Leaves (acted item number behind out put here) (Stopped NotAnEvent) out ns us j u f b
+    acted-none q = as-turn (ap (λ (x : Item). acted x number behind out put here) q) (stays NotAnEvent)
+
+  module _ (input : List ℕ) (at number : ℕ) where
+    pub no-room : length out < put + rowRoom → Leaves (turnOf number input at out put here) (Stopped Output) out ns us j u f b
+    unfolding turnOf
+    no-room h = as-turn (rw (lt-leb (put + rowRoom) (length out) h)) (stays Output)
+
+    pub has-room : {x : Next} {r : Turn} {out′ ns′ us′ j′ u′ f′ b′ : List ℕ} → put + rowRoom ≤ length out → x ≡ nextOf input at → Leaves (onLine x number out put here) r out′ ns′ us′ j′ u′ f′ b′
+        → Leaves (turnOf number input at out put here) r out′ ns′ us′ j′ u′ f′ b′
+    unfolding turnOf
+    has-room h q l = as-turn (rw (le-leb (put + rowRoom) (length out) h, ← q)) l

@@ -1,0 +1,46 @@
+-- What a replay lends to the gateway, and what an event and a taking make of it.
+-- Assumes nothing.
+use Prim.Native.Nat.{ℕ}
+use mathlib.Core.List.{List, _++_}
+use lib.ListN.{take, drop}
+use Rattle.journal.specs.Removal.{takeOf}
+use Rattle.gateway.specs.Events.{memoryOf}
+use Rattle.gateway.specs.declared.Event.{Event}
+use Rattle.ngachodui.specs.Plain.{ledgerOf, toldTaking}
+use Rattle.ngachodui.specs.Calls.{callOf, usedAfter}
+use Rattle.ngachodui.specs.declared.Answered.{Answered}
+
+-- the longest row: 20 digits, 3, 3 and 20, with three spaces and the newline
+abbrev pub rowRoom : ℕ
+rowRoom = 50
+
+-- the gateway's numbers, its three memories, and the buffer for takings
+pub record Desk : Type 0 where
+  pub numbers : List ℕ
+  pub used : List ℕ
+  pub journal : List ℕ
+  pub unfinished : List ℕ
+  pub frames : List ℕ
+  pub buffer : List ℕ
+
+pub record Asked : Type 0 where
+  pub answered : Answered
+  pub desk : Desk
+
+-- an event
+unfoldable pub eventAsked : Event → Desk → Asked
+eventAsked e d =
+    let c = callOf (d .numbers) (d .used) e (memoryOf (d .journal) (d .unfinished) (d .frames)) in
+    record {
+      answered = c .answered;
+      desk = record { numbers = c .numbers; used = c .used; journal = c .memory .journal; unfinished = c .memory .unfinished; frames = c .memory .frames; buffer = d .buffer };
+    }
+
+-- a taking, with the first n bytes of the buffer
+unfoldable pub takingAsked : ℕ → ℕ → Desk → Asked
+takingAsked i n d =
+    let t = takeOf (ledgerOf (d .numbers) (d .used)) i (d .journal) (take n (d .buffer)) in
+    record {
+      answered = toldTaking (t .taking .answer);
+      desk = record { numbers = d .numbers; used = usedAfter (d .used) i t; journal = t .journal; unfinished = d .unfinished; frames = d .frames; buffer = t .buffer ++ drop n (d .buffer) };
+    }

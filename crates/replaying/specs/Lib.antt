@@ -1,0 +1,4 @@
+pub mod Lines
+pub mod Desk
+pub mod Turns
+pub mod Runs

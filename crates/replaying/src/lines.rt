@@ -1,0 +1,64 @@
+// The next line of a trace.
+ghost use Prim.Native.Nat.{_+_, _<_, _^_};
+ghost use mathlib.Core.Path.{_≡_};
+ghost use lib.ListN.{length};
+ghost use Rattle.replaying.specs.Lines.{nextOf, firstLine, isUsual};
+use super::Next;
+
+const NEWLINE: u8 = b'\n';
+
+// The length of the usual line, as `0 B 41`.
+const USUAL: usize = 6;
+
+// The line that starts at `at`.
+pub fn next(input: &[u8], at: usize) -> Next
+    ensures { λ r. ⌜ r ≡ nextOf (now (input .entry)) at ⌝ }
+{
+    if input.len() < at {
+        return Next::Unended;
+    }
+    first(&input[at..], at)
+}
+
+// The first line of what is left behind `at` bytes. A line of the usual length is seen without a scan.
+fn first(rest: &[u8], at: usize) -> Next
+    requires { ⌜ at + length (now rest) < 2 ^ 64 ⌝ }
+    ensures { λ r. ⌜ r ≡ firstLine (now (rest .entry)) at ⌝ }
+{
+    if is_usual(rest) {
+        return Next::Whole(listing::read(&rest[..USUAL]), at + USUAL + 1);
+    }
+    let n = record::index_of(rest, NEWLINE);
+    if n == rest.len() {
+        return Next::Unended;
+    }
+    Next::Whole(listing::read(&rest[..n]), at + n + 1)
+}
+
+// Whether the first newline is the seventh byte.
+fn is_usual(rest: &[u8]) -> bool
+    ensures { λ r. ⌜ r ≡ isUsual (now (rest .entry)) ⌝ }
+{
+    if rest.len() <= USUAL {
+        return false;
+    }
+    if rest[USUAL] != NEWLINE {
+        return false;
+    }
+    if rest[0] == NEWLINE {
+        return false;
+    }
+    if rest[1] == NEWLINE {
+        return false;
+    }
+    if rest[2] == NEWLINE {
+        return false;
+    }
+    if rest[3] == NEWLINE {
+        return false;
+    }
+    if rest[4] == NEWLINE {
+        return false;
+    }
+    rest[5] != NEWLINE
+}

@@ -1,0 +1,164 @@
+// One line replayed: read, asked, and its row written.
+ghost use Prim.Native.Nat.{_+_, _≤_, min};
+ghost use mathlib.Core.Path.{_≡_};
+ghost use lib.ListN.{length};
+ghost use Rattle.replaying.specs.Desk.{rowRoom};
+ghost use Rattle.replaying.specs.Turns.{Turning, Acting, Telling};
+ghost use Rattle.ngachodui.specs.Calls.{Calling};
+use super::Next;
+use super::Stop;
+use super::Turn;
+use super::lines;
+use gateway::Event;
+use gateway::Kind;
+use listing::Item;
+use listing::Written;
+use ngachodui::Answered;
+
+// The line that starts at `at`, as event `number`, and its row behind `put` bytes of the listing.
+pub fn turn(
+    number: u64,
+    input: &[u8],
+    at: usize,
+    out: &mut [u8],
+    put: usize,
+    numbers: &mut [u16; 64],
+    used: &mut [u32; 9],
+    journal: &mut [u8],
+    unfinished: &mut [u8],
+    frames: &mut [u8],
+    buffer: &mut [u8],
+) -> Turn
+    ensures { λ r. ⌜ Turning number (now (input .entry)) at (now (out .entry)) put (now (numbers .entry)) (now (used .entry)) (now (journal .entry)) (now (unfinished .entry)) (now (frames .entry)) (now (buffer .entry))
+        r (now (out .exit)) (now (numbers .exit)) (now (used .exit)) (now (journal .exit)) (now (unfinished .exit)) (now (frames .exit)) (now (buffer .exit)) ⌝ }
+{
+    if out.len() < put {
+        return Turn::Stopped(Stop::Output);
+    }
+    if out.len() - put < super::ROW_ROOM {
+        return Turn::Stopped(Stop::Output);
+    }
+    match lines::next(input, at) {
+        Next::Unended => Turn::Stopped(Stop::Input),
+        Next::Whole(item, behind) => act(
+            item,
+            number,
+            behind,
+            out,
+            put,
+            numbers,
+            used,
+            journal,
+            unfinished,
+            frames,
+            buffer,
+        ),
+    }
+}
+
+// What a line asks, done; a line that asks nothing changes nothing.
+fn act(
+    item: Item,
+    number: u64,
+    behind: usize,
+    out: &mut [u8],
+    put: usize,
+    numbers: &mut [u16; 64],
+    used: &mut [u32; 9],
+    journal: &mut [u8],
+    unfinished: &mut [u8],
+    frames: &mut [u8],
+    buffer: &mut [u8],
+) -> Turn
+    requires { ⌜ put + rowRoom ≤ length (now out) ⌝ }
+    ensures { λ r. ⌜ Acting item number behind (now (out .entry)) put (now (numbers .entry)) (now (used .entry)) (now (journal .entry)) (now (unfinished .entry)) (now (frames .entry)) (now (buffer .entry))
+        r (now (out .exit)) (now (numbers .exit)) (now (used .exit)) (now (journal .exit)) (now (unfinished .exit)) (now (frames .exit)) (now (buffer .exit)) ⌝ }
+{
+    match item {
+        Item::Event(e) => {
+            let line = e.line;
+            let answered = event(e, numbers, used, journal, unfinished, frames);
+            tell(
+                number,
+                line,
+                answered.number,
+                answered.length,
+                behind,
+                out,
+                put,
+            )
+        }
+        Item::Taking(line, n) => {
+            let lent = least(n, buffer.len());
+            let answered = ngachodui::ngachodui_take(
+                line,
+                numbers,
+                used,
+                journal,
+                &mut buffer[..lent],
+            );
+            tell(
+                number,
+                line,
+                answered.number,
+                answered.length,
+                behind,
+                out,
+                put,
+            )
+        }
+        Item::NotAnEvent => Turn::Stopped(Stop::NotAnEvent),
+    }
+}
+
+// An event is a byte or seconds.
+fn event(
+    e: Event,
+    numbers: &mut [u16; 64],
+    used: &mut [u32; 9],
+    journal: &mut [u8],
+    unfinished: &mut [u8],
+    frames: &mut [u8],
+) -> Answered
+    ensures { λ r. ⌜ Calling (now (numbers .entry)) (now (used .entry)) e (now (journal .entry)) (now (unfinished .entry)) (now (frames .entry))
+        r (now (numbers .exit)) (now (used .exit)) (now (journal .exit)) (now (unfinished .exit)) (now (frames .exit)) ⌝ }
+{
+    let line = e.line;
+    let kind = e.kind;
+    match kind {
+        Kind::Byte(b) => {
+            ngachodui::ngachodui_byte(line, b, numbers, used, journal, unfinished, frames)
+        }
+        Kind::Seconds(s) => {
+            ngachodui::ngachodui_seconds(line, s, numbers, used, journal, unfinished, frames)
+        }
+    }
+}
+
+// The row of an answer; there is room for it.
+fn tell(
+    number: u64,
+    line: u8,
+    answer: u8,
+    size: usize,
+    behind: usize,
+    out: &mut [u8],
+    put: usize,
+) -> Turn
+    requires { ⌜ put + rowRoom ≤ length (now out) ⌝ }
+    ensures { λ r. ⌜ Telling number line answer size behind (now (out .entry)) put r (now (out .exit)) ⌝ }
+{
+    match listing::write_row(number, line, answer, size, out, put) {
+        Written::To(end) => Turn::Went(behind, end),
+        Written::NoRoom => Turn::Stopped(Stop::Output),
+    }
+}
+
+fn least(a: usize, b: usize) -> usize
+    ensures { λ r. ⌜ (r ≤ b) × (r ≡ min a b) ⌝ }
+{
+    if a < b {
+        return a;
+    }
+    b
+}
