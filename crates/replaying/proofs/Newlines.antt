@@ -1,17 +1,17 @@
 -- The next line: where it ends, and what it says.
 -- Assumes nothing.
-use mathlib.Core.Path.{_≡_, refl, sym, ap, _∙_}
+use mathlib.Core.Path.{_≡_, refl, sym, subst}
 use mathlib.Core.Bool.{Bool, true, false, not, cond, _&&_}
 use mathlib.Core.List.{List, [], _∷_}
 use Prim.Native.Nat.{ℕ, suc, _+_, _-_, _≤_, _<_}
 use native.Mathlib.Omega.{arith}
-use native.Mathlib.Decide.{ℕ-discrete}
+use native.Mathlib.Decide.{ℕ-discrete, decLe}
 use borrow.Author.Tests.{ltb-true, lt-ltb, le-ltb, not-true}
 use lib.Dec.{ltb}
 use lib.ListN.{length, getD, take, drop}
 use lib.Seq.{take-all}
 use lib.ListN.{length-drop}
-use Rattle.memory.specs.Tests.{is, find}
+use Rattle.memory.specs.Tests.{is, find, unless}
 use Rattle.memory.proofs.Tests.{and-left, and-right, find-le}
 use Rattle.listing.specs.Texts.{newline}
 use Rattle.listing.specs.Items.{itemOf}
@@ -82,3 +82,22 @@ nothing-left input at h = unended (drop at input) at (by-length (drop at input) 
 -- the rest, lent as a part, is the rest
 pub rest-is : (input : List ℕ) (at : ℕ) → at ≤ length input → take (length input - at) (drop at input) ≡ drop at input
 rest-is input at h = take-all (length input - at) (drop at input) (rw length-drop (omega arith))
+
+-- and the line behind starts within it
+abbrev BehindIn : Next → ℕ → Type 0
+BehindIn Unended most = Unit {0}
+BehindIn (Whole item behind) most = behind ≤ most
+
+first-within : (text : List ℕ) (at most : ℕ) → at + length text ≤ most → BehindIn (firstLine text at) most
+unfolding firstLine
+first-within text at most h = by-end (ltb (find (is newline) text) (length text)) refl
+  where
+    by-end : (t : Bool) → ltb (find (is newline) text) (length text) ≡ t → BehindIn (unless t Unended (Whole (itemOf (take (find (is newline) text) text)) (at + find (is newline) text + 1))) most
+    by-end true e = omega (arith, h, ltb-true _ _ e)
+    by-end false e = tt
+
+pub behind-within : (input : List ℕ) (at : ℕ) {item : Item} {behind : ℕ} → Whole item behind ≡ nextOf input at → behind ≤ length input
+behind-within input at {item} {behind} e = subst (λ (x : Next). BehindIn x (length input)) (sym e) (elim (decLe at (length input)) [
+    | yes h ↦ first-within (drop at input) at (length input) (rw length-drop (omega arith))
+    | no h ↦ subst (λ (x : Next). BehindIn x (length input)) (nothing-left input at (omega (arith, h))) tt
+  ])

@@ -2,11 +2,11 @@
 -- Assumes nothing.
 use mathlib.Core.Path.{_≡_, refl, sym, ap, subst, _∙_}
 use mathlib.Core.List.{List}
-use Prim.Native.Nat.{ℕ, zero, suc, _+_, _-_, _<_}
+use Prim.Native.Nat.{ℕ, zero, suc, _-_, _≤_, _<_}
 use native.Mathlib.Omega.{arith}
 use native.Mathlib.Numerals.{unary-clauses}
 use Rattle.replaying.specs.Desk.{Desk}
-use Rattle.replaying.specs.Turns.{AfterTurn, turnOf, Leaves, deskOf}
+use Rattle.replaying.specs.Turns.{AfterTurn, turnOf, Leaves, deskOf, ReadIn, EndsIn}
 use Rattle.replaying.specs.Runs.{AfterRun, following, left, byTurn, runOf, Ran}
 use Rattle.replaying.specs.declared.Progress.{Progress}
 use Rattle.replaying.specs.declared.Stop.{Stop}
@@ -17,8 +17,8 @@ use Rattle.replaying.specs.declared.Turn.the-variants.{Went, Stopped}
 desk-is : (d : Desk) {ns us j u f b : List ℕ} → ns ≡ d .numbers → us ≡ d .used → j ≡ d .journal → u ≡ d .unfinished → f ≡ d .frames → b ≡ d .buffer → deskOf ns us j u f b ≡ d
 desk-is d p q r s t v = rw (p, q, r, s, t, v)
 
-as-run : {s t : AfterRun} {r : Progress} {out ns us j u f b : List ℕ} → s ≡ t → Ran t r out ns us j u f b → Ran s r out ns us j u f b
-as-run {s} {t} {r} {out} {ns} {us} {j} {u} {f} {b} q l = subst (λ (x : AfterRun). Ran x r out ns us j u f b) (sym q) l
+pub as-piece : {s t : AfterRun} {r : Progress} {out ns us j u f b : List ℕ} → s ≡ t → Ran t r out ns us j u f b → Ran s r out ns us j u f b
+as-piece {s} {t} {r} {out} {ns} {us} {j} {u} {f} {b} q l = subst (λ (x : AfterRun). Ran x r out ns us j u f b) (sym q) l
 
 module _ (input : List ℕ) (count at put : ℕ) (out : List ℕ) (d : Desk) {next : ℕ} {r : Turn} {out′ ns us j u f b : List ℕ} (n : next ≡ following count)
     (l : Leaves (turnOf next input at out put d) r out′ ns us j u f b) where
@@ -42,7 +42,7 @@ module _ (input : List ℕ) (count at put : ℕ) (out : List ℕ) (d : Desk) {ne
   pub stopped-at : (most : ℕ) {s : Stop} → 0 < most → r ≡ Stopped s
       → Ran (runOf most input count at put out d) (record { events = count; read = at; written = put; stop = s }) out′ ns us j u f b
   stopped-at zero h e = absurd (omega arith)
-  stopped-at (suc most) {s} h e = as-run (one-more most ∙ rw e) (record { progress = refl; out = refl; numbers = refl; used = refl; journal = refl; unfinished = refl; frames = refl; buffer = refl })
+  stopped-at (suc most) {s} h e = as-piece (one-more most ∙ rw e) (record { progress = refl; out = refl; numbers = refl; used = refl; journal = refl; unfinished = refl; frames = refl; buffer = refl })
 
 -- no line more
 pub ran-out : (input : List ℕ) (count at put : ℕ) (out ns us j u f b : List ℕ)
@@ -50,5 +50,9 @@ pub ran-out : (input : List ℕ) (count at put : ℕ) (out ns us j u f b : List 
 unfolding runOf
 ran-out input count at put out ns us j u f b = record { progress = refl; out = refl; numbers = refl; used = refl; journal = refl; unfinished = refl; frames = refl; buffer = refl }
 
-pub as-piece : {s t : AfterRun} {r : Progress} {out ns us j u f b : List ℕ} → s ≡ t → Ran t r out ns us j u f b → Ran s r out ns us j u f b
-as-piece q l = as-run q l
+-- what is known of a turn that went on
+pub read-in : {r : Turn} {behind end most : ℕ} → r ≡ Went behind end → ReadIn r most → behind ≤ most
+read-in {r} {behind} {end} {most} e h = subst (λ (x : Turn). ReadIn x most) e h
+
+pub ends-in : {r : Turn} {behind end most : ℕ} → r ≡ Went behind end → EndsIn r most → end ≤ most
+ends-in {r} {behind} {end} {most} e h = subst (λ (x : Turn). EndsIn x most) e h

@@ -10,6 +10,7 @@ use lib.ListN.{length, take, drop}
 use lib.Seq.{take-all}
 use Rattle.memory.specs.Parts.{splice}
 use Rattle.memory.specs.Moves.{copied}
+use Rattle.memory.proofs.Parts.{length-splice}
 use mathlib.Core.Bool.{Bool, true, false, cond, true≢false}
 use Rattle.memory.specs.Tests.{is}
 use Rattle.listing.specs.Texts.{taken, replyDigits, lastText, rowText, endOf, TextWritten}
@@ -26,7 +27,7 @@ use Rattle.ngachodui.specs.Calls.{Calling, Taken}
 use Rattle.ngachodui.specs.declared.Answered.{Answered}
 use Rattle.replaying.specs.Lines.{nextOf}
 use Rattle.replaying.specs.Desk.{rowRoom, Desk, eventAsked, takingAsked}
-use Rattle.replaying.specs.Turns.{AfterTurn, stopped, wrote, acted, onLine, turnOf, Leaves, deskOf, Telling}
+use Rattle.replaying.specs.Turns.{AfterTurn, stopped, wrote, acted, onLine, turnOf, Leaves, deskOf, Telling, ReadIn}
 use Rattle.replaying.specs.declared.Next.{Next}
 use Rattle.replaying.specs.declared.Stop.{Stop}
 use Rattle.replaying.specs.declared.Stop.the-variants.{Output, NotAnEvent}
@@ -87,6 +88,13 @@ module _ (number line answer size behind : ℕ) (out : List ℕ) (put : ℕ) {w 
       let (ends, after) = fits-written (rowText number line answer size) out put room t in
       record { turn = ap (λ (x : Written). Went behind (endIn x)) (sym e ∙ ends); after = after }
 
+  pub told-within : {end : ℕ} → w ≡ To end → end ≤ length out′
+  told-within {end} e =
+      let (ends, after) = fits-written (rowText number line answer size) out put room t in
+      let is : end ≡ put + length (rowText number line answer size) = ap endIn (sym e ∙ ends) in
+      let long : length out′ ≡ length out = ap length after ∙ length-splice out put (rowText number line answer size) room in
+      omega (arith, is, long, room)
+
   pub never-short : w ≡ NoRoom → ⊥
   never-short e = true≢false (ap isTo (sym (fits-written (rowText number line answer size) out put room t .0) ∙ e))
 
@@ -132,6 +140,15 @@ module _ (ns us j u f b out : List ℕ) (put : ℕ) where
           frames = refl;
           buffer = e ∙ rw (d, c′ .buffer);
         })
+
+    -- where the line behind starts
+    pub acted-behind : (most : ℕ) {r : Turn} → behind ≤ most → r ≡ acted item number behind out put here .turn → ReadIn r most
+    acted-behind most {r} h q = subst (λ (x : Turn). ReadIn x most) (sym q) (by-item item)
+      where
+        by-item : (x : Item) → ReadIn (acted x number behind out put here .turn) most
+        by-item (Event e) = h
+        by-item (Taking i n) = h
+        by-item NoItem = tt
 
     pub acted-none : item ≡ NoItem → Leaves (acted item number behind out put here) (Stopped NotAnEvent) out ns us j u f b
     acted-none q = as-turn (ap (λ (x : Item). acted x number behind out put here) q) (stays NotAnEvent)

@@ -1,6 +1,6 @@
 -- One line replayed: what it leaves of the listing and the desk.
 -- Assumes nothing.
-use Prim.Native.Nat.{ℕ, _+_}
+use Prim.Native.Nat.{ℕ, _+_, _≤_}
 use mathlib.Core.Path.{_≡_}
 use mathlib.Core.List.{List}
 use lib.ListN.{length}
@@ -77,3 +77,12 @@ Acting item number behind out put ns us j u f b r out′ ns′ us′ j′ u′ f
 pub record Telling (number line answer size behind : ℕ) (out : List ℕ) (put : ℕ) (r : Turn) (out′ : List ℕ) : Type 0 where
   pub turn : r ≡ Went behind (put + length (rowText number line answer size))
   pub after : out′ ≡ splice out put (rowText number line answer size)
+
+-- a row put ends within the listing, and a line read within the piece
+abbrev pub EndsIn : Turn → ℕ → Type 0
+EndsIn (Went behind end) most = end ≤ most
+EndsIn (Stopped s) most = Unit {0}
+
+abbrev pub ReadIn : Turn → ℕ → Type 0
+ReadIn (Went behind end) most = behind ≤ most
+ReadIn (Stopped s) most = Unit {0}

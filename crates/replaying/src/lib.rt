@@ -1,4 +1,6 @@
 // A trace replayed piece by piece: its lines read, the gateway asked, the listing's rows written, all in lent memory.
+ghost use Prim.Native.Nat.{_≤_};
+ghost use lib.ListN.{length};
 ghost use Rattle.replaying.specs.Runs.{Running};
 
 mod lines; // lines.rt: the next line of a trace
@@ -47,7 +49,8 @@ pub fn run(
     buffer: &mut [u8],
 ) -> Progress
     ensures { λ r. ⌜ Running events (now (input .entry)) (now (out .entry)) (now (numbers .entry)) (now (used .entry)) (now (journal .entry)) (now (unfinished .entry)) (now (frames .entry)) (now (buffer .entry))
-        r (now (out .exit)) (now (numbers .exit)) (now (used .exit)) (now (journal .exit)) (now (unfinished .exit)) (now (frames .exit)) (now (buffer .exit)) ⌝ }
+        r (now (out .exit)) (now (numbers .exit)) (now (used .exit)) (now (journal .exit)) (now (unfinished .exit)) (now (frames .exit)) (now (buffer .exit))
+        × (r .read ≤ length (now (input .entry))) × (r .written ≤ length (now (out .exit))) ⌝ }
 {
     let mut count = events;
     let mut at = 0;

@@ -3,7 +3,7 @@ ghost use Prim.Native.Nat.{_+_, _≤_, min};
 ghost use mathlib.Core.Path.{_≡_};
 ghost use lib.ListN.{length};
 ghost use Rattle.replaying.specs.Desk.{rowRoom};
-ghost use Rattle.replaying.specs.Turns.{Turning, Acting, Telling};
+ghost use Rattle.replaying.specs.Turns.{Turning, Acting, Telling, ReadIn, EndsIn};
 ghost use Rattle.ngachodui.specs.Calls.{Calling};
 use super::Next;
 use super::Stop;
@@ -30,7 +30,8 @@ pub fn turn(
     buffer: &mut [u8],
 ) -> Turn
     ensures { λ r. ⌜ Turning number (now (input .entry)) at (now (out .entry)) put (now (numbers .entry)) (now (used .entry)) (now (journal .entry)) (now (unfinished .entry)) (now (frames .entry)) (now (buffer .entry))
-        r (now (out .exit)) (now (numbers .exit)) (now (used .exit)) (now (journal .exit)) (now (unfinished .exit)) (now (frames .exit)) (now (buffer .exit)) ⌝ }
+        r (now (out .exit)) (now (numbers .exit)) (now (used .exit)) (now (journal .exit)) (now (unfinished .exit)) (now (frames .exit)) (now (buffer .exit))
+        × ReadIn r (length (now (input .entry))) × EndsIn r (length (now (out .exit))) ⌝ }
 {
     if out.len() < put {
         return Turn::Stopped(Stop::Output);
@@ -72,7 +73,8 @@ fn act(
 ) -> Turn
     requires { ⌜ put + rowRoom ≤ length (now out) ⌝ }
     ensures { λ r. ⌜ Acting item number behind (now (out .entry)) put (now (numbers .entry)) (now (used .entry)) (now (journal .entry)) (now (unfinished .entry)) (now (frames .entry)) (now (buffer .entry))
-        r (now (out .exit)) (now (numbers .exit)) (now (used .exit)) (now (journal .exit)) (now (unfinished .exit)) (now (frames .exit)) (now (buffer .exit)) ⌝ }
+        r (now (out .exit)) (now (numbers .exit)) (now (used .exit)) (now (journal .exit)) (now (unfinished .exit)) (now (frames .exit)) (now (buffer .exit))
+        × EndsIn r (length (now (out .exit))) ⌝ }
 {
     match item {
         Item::Event(e) => {
@@ -146,7 +148,7 @@ fn tell(
     put: usize,
 ) -> Turn
     requires { ⌜ put + rowRoom ≤ length (now out) ⌝ }
-    ensures { λ r. ⌜ Telling number line answer size behind (now (out .entry)) put r (now (out .exit)) ⌝ }
+    ensures { λ r. ⌜ Telling number line answer size behind (now (out .entry)) put r (now (out .exit)) × EndsIn r (length (now (out .exit))) ⌝ }
 {
     match listing::write_row(number, line, answer, size, out, put) {
         Written::To(end) => Turn::Went(behind, end),

@@ -70,7 +70,7 @@ same-length-4 c = search needs
 
 -- src/turns.rt:60:1
 returns : tie.Need-returns
-returns c = let a = c .before .before .before .before .before .before .before .before .before .before .before .before .before .before .before .before .before .before .before .before .before .before .before .before .args in acted-event (now (a .numbers)) (now (a .used)) (now (a .journal)) (now (a .unfinished)) (now (a .frames)) (now (a .buffer)) (now (a .out)) (a .put) (a .item) (a .number) (a .behind) (c .before .before .before .before .before .before .before .before .before .before .before .before .before .before .before .before .before .item .given .1) (c .before .before .before .before .before .before .before .before .before .before .event .ensures) (c .before .before .tell .ensures)
+returns c = let a = c .before .before .before .before .before .before .before .before .before .before .before .before .before .before .before .before .before .before .before .before .before .before .before .before .args in (acted-event (now (a .numbers)) (now (a .used)) (now (a .journal)) (now (a .unfinished)) (now (a .frames)) (now (a .buffer)) (now (a .out)) (a .put) (a .item) (a .number) (a .behind) (c .before .before .before .before .before .before .before .before .before .before .before .before .before .before .before .before .before .item .given .1) (c .before .before .before .before .before .before .before .before .before .before .event .ensures) (c .before .before .tell .ensures .0), c .before .before .tell .ensures .1)
 
 -- src/turns.rt:60:1
 same-length-5 : tie.Need-same-length-5
@@ -86,11 +86,11 @@ same-length-7 c = search needs
 
 -- src/turns.rt:60:1
 returns-2 : tie.Need-returns-2
-returns-2 c = let a = c .before .before .before .before .before .before .before .before .before .before .before .before .before .before .before .before .before .before .before .before .before .before .args in acted-taking (now (a .numbers)) (now (a .used)) (now (a .journal)) (now (a .unfinished)) (now (a .frames)) (now (a .buffer)) (now (a .out)) (a .put) (a .item) (a .number) (a .behind) (c .before .before .before .before .before .before .before .before .before .before .before .before .before .before .before .item2 .given .1) (c .before .before .before .before .before .before .before .before .before .before .before .before .before .least .ensures .1) (c .before .before .before .before .before .before .before .before .ngachodui-take .ensures) refl (c .before .before .tell2 .ensures)
+returns-2 c = let a = c .before .before .before .before .before .before .before .before .before .before .before .before .before .before .before .before .before .before .before .before .before .before .args in (acted-taking (now (a .numbers)) (now (a .used)) (now (a .journal)) (now (a .unfinished)) (now (a .frames)) (now (a .buffer)) (now (a .out)) (a .put) (a .item) (a .number) (a .behind) (c .before .before .before .before .before .before .before .before .before .before .before .before .before .before .before .item2 .given .1) (c .before .before .before .before .before .before .before .before .before .before .before .before .before .least .ensures .1) (c .before .before .before .before .before .before .before .before .ngachodui-take .ensures) refl (c .before .before .tell2 .ensures .0), c .before .before .tell2 .ensures .1)
 
 -- src/turns.rt:60:1
 returns-3 : tie.Need-returns-3
-returns-3 c = let a = c .before .before .before .before .before .before .before .args in acted-none (now (a .numbers)) (now (a .used)) (now (a .journal)) (now (a .unfinished)) (now (a .frames)) (now (a .buffer)) (now (a .out)) (a .put) (a .item) (a .number) (a .behind) (c .enum-told .given .1)
+returns-3 c = let a = c .before .before .before .before .before .before .before .args in (acted-none (now (a .numbers)) (now (a .used)) (now (a .journal)) (now (a .unfinished)) (now (a .frames)) (now (a .buffer)) (now (a .out)) (a .put) (a .item) (a .number) (a .behind) (c .enum-told .given .1), tt)
 
 pub act-spec : {M : Type 1} → statement M
 act-spec =

@@ -1,7 +1,7 @@
 use borrow.Author.Needs.{needs}
 use native.Mathlib.Omega.{arith}
 use denote.Ref.{now}
-use Rattle.replaying.proofs.Ways.{row-fits, told-row, never-short}
+use Rattle.replaying.proofs.Ways.{row-fits, told-row, told-within, never-short}
 use Rattle.replaying.proofs.turns.tell.Statement.{statement}
 use Rattle.replaying.proofs.turns.tell.Tie as tie
 use Rattle.replaying.proofs.turns.tell.Reads as reads
@@ -26,7 +26,9 @@ same-length c = search needs
 
 -- src/turns.rt:139:1
 returns : tie.Need-returns
-returns c = let a = c .before .before .before .before .before .before .before .before .args in told-row (a .number) (a .line) (a .answer) (a .size) (a .behind) (now (a .out)) (a .put) (omega (arith, row-fits (a .number) (a .line) (a .answer) (a .size) (omega arith) (omega arith) (omega arith) (omega arith), c .before .before .before .before .before .before .before .before .pre)) (c .before .before .before .before .before .write-row .ensures) (c .before .end .given .1)
+returns c =
+    let a = c .before .before .before .before .before .before .before .before .args in
+    (told-row (a .number) (a .line) (a .answer) (a .size) (a .behind) (now (a .out)) (a .put) (omega (arith, row-fits (a .number) (a .line) (a .answer) (a .size) (omega arith) (omega arith) (omega arith) (omega arith), c .before .before .before .before .before .before .before .before .pre)) (c .before .before .before .before .before .write-row .ensures) (c .before .end .given .1), told-within (a .number) (a .line) (a .answer) (a .size) (a .behind) (now (a .out)) (a .put) (omega (arith, row-fits (a .number) (a .line) (a .answer) (a .size) (omega arith) (omega arith) (omega arith) (omega arith), c .before .before .before .before .before .before .before .before .pre)) (c .before .before .before .before .before .write-row .ensures) (c .before .end .given .1))
 
 -- src/turns.rt:139:1
 same-length-2 : tie.Need-same-length-2

@@ -3,7 +3,9 @@ use native.Mathlib.Omega.{arith}
 use mathlib.Core.Path.{sym, _∙_}
 use denote.Ref.{now}
 use Rattle.replaying.specs.declared.Stop.the-variants.{Input}
-use Rattle.replaying.proofs.Ways.{no-room, has-room, stays}
+use Rattle.replaying.proofs.Ways.{no-room, has-room, stays, acted-behind}
+use Rattle.replaying.proofs.Newlines.{behind-within}
+use lib.ListN.{length}
 use Rattle.replaying.proofs.turns.turn.Statement.{statement}
 use Rattle.replaying.proofs.turns.turn.Tie as tie
 use Rattle.replaying.proofs.turns.turn.Reads as reads
@@ -13,7 +15,7 @@ use Rattle.replaying.proofs.turns.act.Reads as act-reads
 
 -- src/turns.rt:36:9
 returns : tie.Need-returns
-returns c = let a = c .before .before .before .before .before .before .before .args in no-room (now (a .numbers)) (now (a .used)) (now (a .journal)) (now (a .unfinished)) (now (a .frames)) (now (a .buffer)) (now (a .out)) (a .put) (now (a .input)) (a .at) (a .number) (omega arith)
+returns c = let a = c .before .before .before .before .before .before .before .args in (no-room (now (a .numbers)) (now (a .used)) (now (a .journal)) (now (a .unfinished)) (now (a .frames)) (now (a .buffer)) (now (a .out)) (a .put) (now (a .input)) (a .at) (a .number) (omega arith), tt, tt)
 
 -- src/turns.rt:38:8
 sub-if2 : tie.Need-sub-if2
@@ -21,7 +23,7 @@ sub-if2 c = search needs
 
 -- src/turns.rt:39:9
 returns-2 : tie.Need-returns-2
-returns-2 c = let a = c .before .before .before .before .before .before .before .before .args in no-room (now (a .numbers)) (now (a .used)) (now (a .journal)) (now (a .unfinished)) (now (a .frames)) (now (a .buffer)) (now (a .out)) (a .put) (now (a .input)) (a .at) (a .number) (omega arith)
+returns-2 c = let a = c .before .before .before .before .before .before .before .before .args in (no-room (now (a .numbers)) (now (a .used)) (now (a .journal)) (now (a .unfinished)) (now (a .frames)) (now (a .buffer)) (now (a .out)) (a .put) (now (a .input)) (a .at) (a .number) (omega arith), tt, tt)
 
 -- src/turns.rt:41:11
 next-requires : tie.Need-next-requires
@@ -41,7 +43,7 @@ act-requires c κs = search needs
 
 -- src/turns.rt:19:1
 returns-3 : tie.Need-returns-3
-returns-3 c = let a = c .before .before .before .before .before .before .before .before .before .before .before .args in has-room (now (a .numbers)) (now (a .used)) (now (a .journal)) (now (a .unfinished)) (now (a .frames)) (now (a .buffer)) (now (a .out)) (a .put) (now (a .input)) (a .at) (a .number) (omega arith) (sym (c .enum-told .given .1) ∙ c .before .before .next .ensures) (stays (now (a .numbers)) (now (a .used)) (now (a .journal)) (now (a .unfinished)) (now (a .frames)) (now (a .buffer)) (now (a .out)) (a .put) Input)
+returns-3 c = let a = c .before .before .before .before .before .before .before .before .before .before .before .args in (has-room (now (a .numbers)) (now (a .used)) (now (a .journal)) (now (a .unfinished)) (now (a .frames)) (now (a .buffer)) (now (a .out)) (a .put) (now (a .input)) (a .at) (a .number) (omega arith) (sym (c .enum-told .given .1) ∙ c .before .before .next .ensures) (stays (now (a .numbers)) (now (a .used)) (now (a .journal)) (now (a .unfinished)) (now (a .frames)) (now (a .buffer)) (now (a .out)) (a .put) Input), tt, tt)
 
 -- src/turns.rt:19:1
 same-length : tie.Need-same-length
@@ -65,7 +67,10 @@ same-length-5 c = search needs
 
 -- src/turns.rt:19:1
 returns-4 : tie.Need-returns-4
-returns-4 c = let a = c .before .before .before .before .before .before .before .before .before .before .before .before .before .before .before .before .before .before .before .before .before .before .before .before .before .before .before .before .before .before .args in has-room (now (a .numbers)) (now (a .used)) (now (a .journal)) (now (a .unfinished)) (now (a .frames)) (now (a .buffer)) (now (a .out)) (a .put) (now (a .input)) (a .at) (a .number) (omega arith) (sym (c .before .before .before .before .before .before .before .before .before .before .before .before .before .before .before .before .before .before .before .item .given .1) ∙ c .before .before .before .before .before .before .before .before .before .before .before .before .before .before .before .before .before .before .before .before .before .next .ensures) (c .before .before .before .before .before .before .before .before .before .before .act .ensures)
+returns-4 c =
+    let a = c .before .before .before .before .before .before .before .before .before .before .before .before .before .before .before .before .before .before .before .before .before .before .before .before .before .before .before .before .before .before .args in
+    let x = c .before .before .before .before .before .before .before .before .before .before .act .ensures in
+    (has-room (now (a .numbers)) (now (a .used)) (now (a .journal)) (now (a .unfinished)) (now (a .frames)) (now (a .buffer)) (now (a .out)) (a .put) (now (a .input)) (a .at) (a .number) (omega arith) (sym (c .before .before .before .before .before .before .before .before .before .before .before .before .before .before .before .before .before .before .before .item .given .1) ∙ c .before .before .before .before .before .before .before .before .before .before .before .before .before .before .before .before .before .before .before .before .before .next .ensures) (x .0), acted-behind (now (a .numbers)) (now (a .used)) (now (a .journal)) (now (a .unfinished)) (now (a .frames)) (now (a .buffer)) (now (a .out)) (a .put) _ _ _ (length (now (a .input))) (behind-within (now (a .input)) (a .at) (sym (c .before .before .before .before .before .before .before .before .before .before .before .before .before .before .before .before .before .before .before .item .given .1) ∙ c .before .before .before .before .before .before .before .before .before .before .before .before .before .before .before .before .before .before .before .before .before .next .ensures)) (x .0 .turn), x .1)
 
 pub turn-spec : {M : Type 1} → statement M
 turn-spec =
