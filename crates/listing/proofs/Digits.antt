@@ -1,7 +1,7 @@
 -- Laws of a number's decimal digits: the last one at a time, how many there are, and that they read back as the number.
 -- Assumes nothing.
 use mathlib.Core.Path.{_≡_, refl, sym, ap, _∙_}
-use mathlib.Core.Bool.{Bool, true, false, _&&_}
+use mathlib.Core.Bool.{true}
 use mathlib.Core.List.{List, [], _∷_, _++_, append-assoc}
 use Prim.Native.Nat.{ℕ, zero, suc, _+_, _-_, _*_, _/_, _%_, _^_, _≤_, _<_}
 use native.Mathlib.Nat.{pow-suc, add-zero, add-suc}
@@ -9,7 +9,7 @@ use native.Mathlib.Decide.{decLe}
 use native.Mathlib.Omega.{arith}
 use lib.ListN.{length, getD, length-append, List·getD-append}
 use borrow.Author.Tests.{lt-ltb, le-ltb, le-leb}
-use Rattle.memory.specs.Tests.{all, between}
+use Rattle.memory.specs.Tests.{all}
 use Rattle.memory.proofs.Tests.{all-append}
 use Rattle.record.specs.Numbers.{isDigit, decimal}
 use Rattle.listing.specs.Numbers.{digitFor, digitsIn, decimalOf, twoDigits, fourDigits}

@@ -1,12 +1,12 @@
 -- What each test on a line and on its operand tells.
 -- Assumes nothing.
-use mathlib.Core.Path.{_≡_, refl, sym, ap, _∙_}
+use mathlib.Core.Path.{_≡_, refl, ap, _∙_}
 use mathlib.Core.Bool.{Bool, true, false, cond, _&&_}
 use mathlib.Core.List.{List, [], _∷_}
 use Prim.Native.Nat.{ℕ, _+_, _-_, _*_, _%_, _^_, _≤_, _<_, zero-le}
 use native.Mathlib.Decide.{decLe}
 use native.Mathlib.Omega.{arith}
-use lib.Dec.{leb, ltb, eqb}
+use lib.Dec.{leb, eqb}
 use lib.ListN.{length, getD, drop, length-drop}
 use lib.Seq.{getD-drop}
 use borrow.Author.Tests.{le-leb, lt-leb, le-ltb, lt-ltb, eq-eqb, ne-eqb, leb-true}
@@ -15,7 +15,7 @@ use Rattle.memory.proofs.Tests.{and-right, and-not-right}
 use Rattle.record.specs.Numbers.{isDigit, decimal}
 use Rattle.record.proofs.Decimal.{between-yes, between-low, between-high}
 use Rattle.gateway.specs.declared.Kind.the-variants.{Byte}
-use Rattle.listing.specs.Items.{shortest, lineLimit, isLaidOut, itemOf, operandOf, operandAt, notHex, hexValue, isHex, eventOn, byteItem, amountOf}
+use Rattle.listing.specs.Items.{shortest, lineLimit, isLaidOut, itemOf, operandOf, operandAt, notHex, hexValue, eventOn, byteItem, amountOf}
 use Rattle.listing.specs.declared.Item.the-variants.{NotAnEvent}
 use Rattle.listing.specs.declared.reading.Amount.{Amount}
 use Rattle.listing.specs.declared.reading.Amount.the-variants.{Is, NotANumber}

@@ -27,7 +27,7 @@ pub fn size(n: u64) -> usize
     k + 4
 }
 
-// Writes the digits of n, and says where they end.
+// Writes the digits of n, and says where they end. Up to eight are written from the front, with nothing measured: a trace has that many events.
 pub fn put(n: u64, out: &mut [u8], at: usize) -> usize
     requires { ⌜ at + length (decimalOf n) ≤ length (now out) ⌝ }
     ensures { λ r. ⌜ (r ≡ at + length (decimalOf n)) × (now (out .exit) ≡ splice (now (out .entry)) at (decimalOf n)) ⌝ }

@@ -1,14 +1,13 @@
 -- `listing::numbers::put_short` meets its contract.
 -- Assumes nothing.
-use Prim.Native.Nat.{ℕ, _+_, _/_, _%_, _≤_, _<_}
-use mathlib.Core.Path.{_≡_, sym, ap, _∙_}
-use mathlib.Core.List.{List, [], _∷_}
+use Prim.Native.Nat.{_+_, _/_, _%_, _≤_}
+use mathlib.Core.List.{[], _∷_}
 use native.Mathlib.Omega.{arith}
 use borrow.Author.Needs.{needs}
 use lib.ListN.{length, length-set}
 use denote.Ref.{now}
 use Rattle.memory.proofs.Parts.{set-splice}
-use Rattle.listing.specs.Numbers.{digitFor, decimalOf, twoDigits, fourDigits}
+use Rattle.listing.specs.Numbers.{digitFor, twoDigits}
 use Rattle.listing.proofs.Digits.{one-digit, one-long, two-digits, two-long, three-digits, three-long, four-digits, four-long}
 use Rattle.listing.proofs.Stores.{joined}
 use Rattle.listing.proofs.numbers.put_short.Statement.{statement}

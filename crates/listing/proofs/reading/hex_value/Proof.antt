@@ -2,7 +2,6 @@
 -- Assumes nothing.
 use native.Mathlib.Omega.{arith}
 use borrow.Author.Needs.{needs}
-use mathlib.Core.Path.{_≡_, ap, _∙_}
 use Rattle.listing.specs.Items.{hexValue}
 use Rattle.listing.proofs.Operands.{inside, outside}
 use Rattle.listing.proofs.reading.hex_value.Statement.{statement}
