@@ -1,7 +1,7 @@
 -- Laws of a number's decimal digits: the last one at a time, how many there are, and that they read back as the number.
 -- Assumes nothing.
 use mathlib.Core.Path.{_≡_, refl, sym, ap, _∙_}
-use mathlib.Core.Bool.{Bool, true, false, _&&_}
+use mathlib.Core.Bool.{true}
 use mathlib.Core.List.{List, [], _∷_, _++_, append-assoc}
 use Prim.Native.Nat.{ℕ, zero, suc, _+_, _-_, _*_, _/_, _%_, _^_, _≤_, _<_}
 use native.Mathlib.Nat.{pow-suc, add-zero, add-suc}
@@ -9,10 +9,10 @@ use native.Mathlib.Decide.{decLe}
 use native.Mathlib.Omega.{arith}
 use lib.ListN.{length, getD, length-append, List·getD-append}
 use borrow.Author.Tests.{lt-ltb, le-ltb, le-leb}
-use Rattle.memory.specs.Tests.{all, between}
+use Rattle.memory.specs.Tests.{all}
 use Rattle.memory.proofs.Tests.{all-append}
 use Rattle.record.specs.Numbers.{isDigit, decimal}
-use Rattle.listing.specs.Numbers.{digitFor, digitsIn, decimalOf}
+use Rattle.listing.specs.Numbers.{digitFor, digitsIn, decimalOf, twoDigits, fourDigits}
 
 -- one turn: a number of one digit, and one of more
 in-one : (turns n : ℕ) → n < 10 → digitsIn turns n ≡ digitFor n ∷ []
@@ -51,17 +51,31 @@ last-digit n h =
     let e : suc (n - 1) ≡ n = omega arith in
     sym (enough (suc (n - 1)) n (omega arith)) ∙ in-more (n - 1) n h ∙ rw (enough (n - 1) (n / 10) (omega arith))
 
-pub two-digits : (n : ℕ) → 10 ≤ n → n < 100 → decimalOf n ≡ digitFor (n / 10) ∷ digitFor (n % 10) ∷ []
+pub two-digits : (n : ℕ) → 10 ≤ n → n < 100 → decimalOf n ≡ twoDigits n
 two-digits n h k = last-digit n h ∙ rw (one-digit (n / 10) (omega arith))
 
 -- the last two digits, as one division by 100 gives them
-pub last-two : (n : ℕ) → 100 ≤ n → decimalOf n ≡ decimalOf (n / 100) ++ (digitFor (n % 100 / 10) ∷ digitFor (n % 100 % 10) ∷ [])
+pub last-two : (n : ℕ) → 100 ≤ n → decimalOf n ≡ decimalOf (n / 100) ++ twoDigits (n % 100)
 last-two n h =
     let rest : n / 10 / 10 ≡ n / 100 = omega arith in
     let tens : n / 10 % 10 ≡ n % 100 / 10 = omega arith in
     let ones : n % 10 ≡ n % 100 % 10 = omega arith in
     last-digit n (omega arith)
     ∙ rw (last-digit (n / 10) (omega arith), rest, tens, ones) (append-assoc (decimalOf (n / 100)) (digitFor (n % 100 / 10) ∷ []) (digitFor (n % 100 % 10) ∷ []))
+
+pub three-digits : (n : ℕ) → 100 ≤ n → n < 1000 → decimalOf n ≡ digitFor (n / 100) ∷ twoDigits (n % 100)
+three-digits n h k = last-two n h ∙ rw (one-digit (n / 100) (omega arith))
+
+pub four-digits : (n : ℕ) → 1000 ≤ n → n < 10000 → decimalOf n ≡ fourDigits n
+four-digits n h k = last-two n (omega arith) ∙ rw (two-digits (n / 100) (omega arith) (omega arith))
+
+pub last-four : (n : ℕ) → 10000 ≤ n → decimalOf n ≡ decimalOf (n / 10000) ++ fourDigits (n % 10000)
+last-four n h =
+    let rest : n / 100 / 100 ≡ n / 10000 = omega arith in
+    let high : n / 100 % 100 ≡ n % 10000 / 100 = omega arith in
+    let low : n % 100 ≡ n % 10000 % 100 = omega arith in
+    last-two n (omega arith)
+    ∙ rw (last-two (n / 100) (omega arith), rest, high, low) (append-assoc (decimalOf (n / 10000)) (twoDigits (n % 10000 / 100)) (twoDigits (n % 10000 % 100)))
 
 -- how many there are
 pub one-long : (n : ℕ) → n < 10 → length (decimalOf n) ≡ 1

@@ -10,7 +10,7 @@ use Rattle.listing.specs.Numbers.{digitsIn, decimalOf}
 use Rattle.listing.specs.Items.{hexValue, amountOf, eventOn, byteItem, secondsItem, takingItem, operandOf, isLaidOut, itemOf}
 use Rattle.listing.specs.Texts.{headerText, wordText, lastText, rowText, totalText, faultText}
 use Rattle.listing.specs.declared.Item.{Item}
-use Rattle.listing.specs.declared.Item.the-variants.{Event, Taking, NotAnEvent}
+use Rattle.listing.specs.declared.Item.the-variants.{Taking, NotAnEvent}
 
 -- a line and what it is
 pub record Case : Type 0 where

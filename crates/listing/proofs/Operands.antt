@@ -1,22 +1,58 @@
--- What each test on a line's operand tells.
+-- What each test on a line and on its operand tells.
 -- Assumes nothing.
-use mathlib.Core.Path.{_≡_, refl, sym, ap, _∙_}
+use mathlib.Core.Path.{_≡_, refl, ap, _∙_}
 use mathlib.Core.Bool.{Bool, true, false, cond, _&&_}
 use mathlib.Core.List.{List, [], _∷_}
-use Prim.Native.Nat.{ℕ, _+_, _-_, _*_, _≤_, _<_, zero-le}
+use Prim.Native.Nat.{ℕ, _+_, _-_, _*_, _%_, _^_, _≤_, _<_, zero-le}
+use native.Mathlib.Decide.{decLe}
 use native.Mathlib.Omega.{arith}
-use lib.Dec.{leb, ltb, eqb}
+use lib.Dec.{leb, eqb}
 use lib.ListN.{length, getD, drop, length-drop}
 use lib.Seq.{getD-drop}
 use borrow.Author.Tests.{le-leb, lt-leb, le-ltb, lt-ltb, eq-eqb, ne-eqb, leb-true}
-use Rattle.memory.specs.Tests.{all}
+use Rattle.memory.specs.Tests.{all, between}
 use Rattle.memory.proofs.Tests.{and-right, and-not-right}
 use Rattle.record.specs.Numbers.{isDigit, decimal}
+use Rattle.record.proofs.Decimal.{between-yes, between-low, between-high}
 use Rattle.gateway.specs.declared.Kind.the-variants.{Byte}
-use Rattle.listing.specs.Items.{operandAt, notHex, hexValue, isHex, eventOn, byteItem, amountOf}
+use Rattle.listing.specs.Items.{shortest, lineLimit, isLaidOut, itemOf, operandOf, operandAt, notHex, hexValue, eventOn, byteItem, amountOf}
 use Rattle.listing.specs.declared.Item.the-variants.{NotAnEvent}
 use Rattle.listing.specs.declared.reading.Amount.{Amount}
 use Rattle.listing.specs.declared.reading.Amount.the-variants.{Is, NotANumber}
+
+-- a byte's distance from the start of a range, modulo 256, tells whether it lies in the range
+within : (a n b r : ℕ) → a + n < 256 → (r + a) % 2 ^ 8 ≡ b → r ≤ n → b ≡ r + a
+within a n b r h e k = omega arith
+
+pub inside : (a n b r : ℕ) → a + n < 256 → (r + a) % 2 ^ 8 ≡ b → r ≤ n → (between a (a + n) b ≡ true) × (r ≡ b - a)
+inside a n b r h e k =
+    let g = within a n b r h e k in
+    (between-yes a (a + n) b (omega arith) (omega arith), omega arith)
+
+pub outside : (a n b r : ℕ) → a + n < 256 → r < 256 → (r + a) % 2 ^ 8 ≡ b → n < r → between a (a + n) b ≡ false
+outside a n b r h f e k = elim (decLe (r + a) 255) [
+  | yes g ↦ between-high a (a + n) b (omega arith)
+  | no g ↦ between-low a (a + n) b (omega arith)
+]
+
+-- in front of the operand
+module _ (text : List ℕ) (h : shortest ≤ length text) (k : length text ≤ lineLimit) where
+  pub no-digit : isDigit (getD text 0 0) ≡ false → NotAnEvent ≡ itemOf text
+  unfolding itemOf isLaidOut
+  no-digit e = rw (le-leb shortest (length text) h, le-leb (length text) lineLimit k, e)
+
+  pub no-space : isDigit (getD text 0 0) ≡ true → (getD text 1 0 ≡ 0x20 → ⊥) → NotAnEvent ≡ itemOf text
+  unfolding itemOf isLaidOut
+  no-space e n = rw (le-leb shortest (length text) h, le-leb (length text) lineLimit k, e, ne-eqb (getD text 1 0) 0x20 n)
+
+  pub no-second-space : isDigit (getD text 0 0) ≡ true → getD text 1 0 ≡ 0x20 → (getD text 3 0 ≡ 0x20 → ⊥) → NotAnEvent ≡ itemOf text
+  unfolding itemOf isLaidOut
+  no-second-space e f n = rw (le-leb shortest (length text) h, le-leb (length text) lineLimit k, e, eq-eqb (getD text 1 0) 0x20 f, ne-eqb (getD text 3 0) 0x20 n)
+
+  pub laid-out : isDigit (getD text 0 0) ≡ true → getD text 1 0 ≡ 0x20 → getD text 3 0 ≡ 0x20
+      → operandOf (getD text 0 0 - 0x30) (getD text 2 0) (drop operandAt text) ≡ itemOf text
+  unfolding itemOf isLaidOut
+  laid-out e f g = rw (le-leb shortest (length text) h, le-leb (length text) lineLimit k, e, eq-eqb (getD text 1 0) 0x20 f, eq-eqb (getD text 3 0) 0x20 g)
 
 -- two hex digits
 module _ (line : ℕ) (text : List ℕ) where

@@ -8,7 +8,6 @@ use lib.Dec.{leb, ltb, eqb}
 use Rattle.memory.specs.Sizes.{messageLimit}
 use Rattle.memory.specs.Tests.{is, between, all, unless}
 use Rattle.record.specs.Numbers.{isDigit, decimal}
-use Rattle.gateway.specs.declared.Event.{Event as GatewayEvent}
 use Rattle.gateway.specs.declared.Kind.{Kind}
 use Rattle.gateway.specs.declared.Kind.the-variants.{Byte, Seconds}
 use Rattle.listing.specs.declared.Item.{Item}
@@ -40,7 +39,7 @@ hexValue b =
 abbrev pub isHex : ℕ → Bool
 isHex b = ltb (hexValue b) notHex
 
--- a number in decimal of any number of digits, if it is at most `most`
+-- a number in decimal of any number of digits, leading zeros too, if it is at most `most`; an operand has at least one byte (`shortest`)
 unfoldable pub amountOf : ℕ → List ℕ → Amount
 amountOf most text = cond (all isDigit text && leb (decimal 0 text) most) (Is (decimal 0 text)) NotANumber
 
@@ -83,5 +82,6 @@ isLaidOut text =
     leb shortest (length text) && leb (length text) lineLimit
     && isDigit (getD text 0 0) && is 0x20 (getD text 1 0) && is 0x20 (getD text 3 0)
 
+-- what a line of a trace is
 unfoldable pub itemOf : List ℕ → Item
 itemOf text = unless (isLaidOut text) NotAnEvent (operandOf (getD text 0 0 - 0x30) (getD text 2 0) (drop operandAt text))

@@ -17,3 +17,10 @@ digitsIn (suc turns) n = cond (ltb n 10) (digitFor n ∷ []) (digitsIn turns (n 
 -- the digits of n, with no leading zero; n turns are enough for any n
 unfoldable pub decimalOf : ℕ → List ℕ
 decimalOf n = digitsIn n n
+
+-- a number below 100 in two digits, and one below 10,000 in four
+abbrev pub twoDigits : ℕ → List ℕ
+twoDigits n = digitFor (n / 10) ∷ digitFor (n % 10) ∷ []
+
+abbrev pub fourDigits : ℕ → List ℕ
+fourDigits n = twoDigits (n / 100) ++ twoDigits (n % 100)

@@ -15,7 +15,6 @@ use Rattle.line.specs.declared.Reply.the-variants.{Silence, Byte}
 use Rattle.listing.specs.Numbers.{decimalOf}
 use Rattle.listing.specs.declared.Written.{Written}
 use Rattle.listing.specs.declared.Written.the-variants.{To, NoRoom}
-use Rattle.listing.specs.declared.rows.Sizes.{Sizes}
 
 abbrev pub space : ℕ
 space = 0x20
@@ -81,17 +80,6 @@ noEventText =
 -- the last line of one that ends at a line that is not an event: `line 7: not an event`
 unfoldable pub faultText : ℕ → List ℕ
 faultText line = lineText ++ (decimalOf line ++ noEventText)
-
--- the columns of a row, measured
-unfoldable pub sizesOf : ℕ → ℕ → ℕ → ℕ → Sizes
-sizesOf event line number size =
-    record {
-      event = length (decimalOf event);
-      line = length (decimalOf line);
-      number = length (decimalOf number);
-      last = length (lastText number size);
-      row = length (rowText event line number size);
-    }
 
 -- where the text ends, or no room for it
 unfoldable pub endOf : List ℕ → List ℕ → ℕ → Written

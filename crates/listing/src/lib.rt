@@ -45,11 +45,8 @@ pub fn read(text: &[u8]) -> Item
     if LINE_LIMIT < text.len() {
         return Item::NotAnEvent;
     }
-    let digit = text[0];
-    if digit < b'0' {
-        return Item::NotAnEvent;
-    }
-    if b'9' < digit {
+    let line = std::num::wrapping_sub_u8(text[0], b'0');
+    if 9 < line {
         return Item::NotAnEvent;
     }
     if text[1] != b' ' {
@@ -58,7 +55,7 @@ pub fn read(text: &[u8]) -> Item
     if text[3] != b' ' {
         return Item::NotAnEvent;
     }
-    reading::operand(digit - b'0', text)
+    reading::operand(line, text)
 }
 
 // Writes the listing's first line.
@@ -82,32 +79,28 @@ pub fn write_row(
 ) -> Written
     ensures { λ r. ⌜ TextWritten (rowText event line number length) (now (out .entry)) at r (now (out .exit)) ⌝ }
 {
-    let sizes = rows::measure(event, line, number, length);
-    let n = sizes.row;
     if out.len() < at {
         return Written::NoRoom;
     }
-    if out.len() - at < n {
+    if !rows::has_room(event, line, number, length, out.len() - at) {
         return Written::NoRoom;
     }
-    rows::put(event, line, number, length, sizes, out, at);
-    Written::To(at + n)
+    Written::To(rows::put(event, line, number, length, out, at))
 }
 
 // Writes the last line of a listing that ran to its end.
 pub fn write_total(events: u64, out: &mut [u8], at: usize) -> Written
     ensures { λ r. ⌜ TextWritten (totalText events) (now (out .entry)) at r (now (out .exit)) ⌝ }
 {
-    let size = numbers::size(events);
-    let n = size + EVENTS.len();
+    let n = numbers::size(events) + EVENTS.len();
     if out.len() < at {
         return Written::NoRoom;
     }
     if out.len() - at < n {
         return Written::NoRoom;
     }
-    numbers::put(events, size, out, at);
-    memory::copy_at(out, at + size, &EVENTS);
+    let end = numbers::put(events, out, at);
+    memory::copy_at(out, end, &EVENTS);
     Written::To(at + n)
 }
 
@@ -115,8 +108,7 @@ pub fn write_total(events: u64, out: &mut [u8], at: usize) -> Written
 pub fn write_fault(line: u64, out: &mut [u8], at: usize) -> Written
     ensures { λ r. ⌜ TextWritten (faultText line) (now (out .entry)) at r (now (out .exit)) ⌝ }
 {
-    let size = numbers::size(line);
-    let n = LINE.len() + size + NO_EVENT.len();
+    let n = LINE.len() + numbers::size(line) + NO_EVENT.len();
     if out.len() < at {
         return Written::NoRoom;
     }
@@ -125,7 +117,7 @@ pub fn write_fault(line: u64, out: &mut [u8], at: usize) -> Written
     }
     memory::copy_at(out, at, &LINE);
     let number = at + LINE.len();
-    numbers::put(line, size, out, number);
-    memory::copy_at(out, number + size, &NO_EVENT);
+    let end = numbers::put(line, out, number);
+    memory::copy_at(out, end, &NO_EVENT);
     Written::To(at + n)
 }

@@ -116,23 +116,17 @@ fn wide(x: u8) -> usize
 fn hex_value(b: u8) -> u8
     ensures { λ r. ⌜ r ≡ hexValue b ⌝ }
 {
-    if b < b'0' {
-        return NOT_HEX;
+    let digit = std::num::wrapping_sub_u8(b, b'0'); // one test for both ends of a range
+    if digit <= 9 {
+        return digit;
     }
-    if b <= b'9' {
-        return b - b'0';
+    let upper = std::num::wrapping_sub_u8(b, b'A');
+    if upper <= 5 {
+        return upper + 10;
     }
-    if b < b'A' {
-        return NOT_HEX;
-    }
-    if b <= b'F' {
-        return b - b'A' + 10;
-    }
-    if b < b'a' {
-        return NOT_HEX;
-    }
-    if b <= b'f' {
-        return b - b'a' + 10;
+    let lower = std::num::wrapping_sub_u8(b, b'a');
+    if lower <= 5 {
+        return lower + 10;
     }
     NOT_HEX
 }

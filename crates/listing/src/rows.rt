@@ -1,38 +1,34 @@
-// The columns of an event's row: measured first, so that the room is tested once, then written.
+// The columns of an event's row.
 ghost use mathlib.Core.Path.{_≡_};
 ghost use Prim.Native.Nat.{_+_, _≤_};
+ghost use lib.Dec.{leb};
 ghost use lib.ListN.{length};
 ghost use Rattle.memory.specs.Parts.{splice};
-ghost use Rattle.listing.specs.Texts.{wordText, lastText, noDigits, replyDigits, rowText, sizesOf};
+ghost use Rattle.listing.specs.Texts.{wordText, lastText, noDigits, replyDigits, rowText};
 use crate::numbers;
 use frame::Digits;
-
-// How long each column is, and the whole row.
-pub struct Sizes {
-    pub event: usize,
-    pub line: usize,
-    pub number: usize,
-    pub last: usize,
-    pub row: usize,
-}
 
 // The answer to a taking that took an entry: its row shows the entry's length.
 const TAKEN: u8 = 8;
 
-pub fn measure(event: u64, line: u8, number: u8, taken: usize) -> Sizes
-    ensures { λ r. ⌜ r ≡ sizesOf event line number taken ⌝ }
+// The longest row: 20, 3, 3 and 20 digits, three spaces and the newline.
+const LONGEST: usize = 50;
+
+// Whether the row fits into `room` bytes. It is measured only where the longest row would not fit.
+pub fn has_room(event: u64, line: u8, number: u8, taken: usize, room: usize) -> bool
+    ensures { λ r. ⌜ r ≡ leb (length (rowText event line number taken)) room ⌝ }
 {
-    let first = numbers::size(event);
-    let second = numbers::size(line as u64);
-    let third = numbers::size(number as u64);
-    let last = last_size(number, taken);
-    Sizes {
-        event: first,
-        line: second,
-        number: third,
-        last,
-        row: first + second + third + last + 4, // three spaces and the newline
+    if LONGEST <= room {
+        return true;
     }
+    measure(event, line, number, taken) <= room
+}
+
+fn measure(event: u64, line: u8, number: u8, taken: usize) -> usize
+    ensures { λ r. ⌜ r ≡ length (rowText event line number taken) ⌝ }
+{
+    let columns = numbers::size(event) + numbers::size(line as u64) + numbers::size(number as u64);
+    columns + last_size(number, taken) + 4 // three spaces and the newline
 }
 
 fn last_size(number: u8, taken: usize) -> usize
@@ -44,41 +40,51 @@ fn last_size(number: u8, taken: usize) -> usize
     2
 }
 
-pub fn put(event: u64, line: u8, number: u8, taken: usize, sizes: Sizes, out: &mut [u8], at: usize)
-    requires { ⌜ (sizes ≡ sizesOf event line number taken) × (at + length (rowText event line number taken) ≤ length (now out)) ⌝ }
-    ensures { λ _. ⌜ now (out .exit) ≡ splice (now (out .entry)) at (rowText event line number taken) ⌝ }
+// Writes the row, and says where it ends.
+pub fn put(event: u64, line: u8, number: u8, taken: usize, out: &mut [u8], at: usize) -> usize
+    requires { ⌜ at + length (rowText event line number taken) ≤ length (now out) ⌝ }
+    ensures { λ r. ⌜ (r ≡ at + length (rowText event line number taken)) × (now (out .exit) ≡ splice (now (out .entry)) at (rowText event line number taken)) ⌝ }
 {
-    let second = put_word(event, sizes.event, out, at);
-    let third = put_word(line as u64, sizes.line, out, second);
-    let last = put_word(number as u64, sizes.number, out, third);
-    put_last(number, taken, sizes.last, out, last);
-    let end = last + sizes.last;
+    let second = put_word(event, out, at);
+    let third = put_byte(line, out, second);
+    let last = put_byte(number, out, third);
+    let end = put_last(number, taken, out, last);
     out[end] = b'\n';
+    end + 1
 }
 
-// Writes a number of `size` digits and a space, and says where they end.
-fn put_word(n: u64, size: usize, out: &mut [u8], at: usize) -> usize
-    requires { ⌜ (size + 1 ≡ length (wordText n)) × (at + length (wordText n) ≤ length (now out)) ⌝ }
+// Writes a number and a space, and says where they end.
+fn put_word(n: u64, out: &mut [u8], at: usize) -> usize
+    requires { ⌜ at + length (wordText n) ≤ length (now out) ⌝ }
     ensures { λ r. ⌜ (r ≡ at + length (wordText n)) × (now (out .exit) ≡ splice (now (out .entry)) at (wordText n)) ⌝ }
 {
-    numbers::put(n, size, out, at);
-    let end = at + size;
+    let end = numbers::put(n, out, at);
     out[end] = b' ';
     end + 1
 }
 
-// Writes the last column, of `size` bytes.
-fn put_last(number: u8, taken: usize, size: usize, out: &mut [u8], at: usize)
-    requires { ⌜ (size ≡ length (lastText number taken)) × (at + size ≤ length (now out)) ⌝ }
-    ensures { λ _. ⌜ now (out .exit) ≡ splice (now (out .entry)) at (lastText number taken) ⌝ }
+// The same of a byte's number, which is short.
+fn put_byte(n: u8, out: &mut [u8], at: usize) -> usize
+    requires { ⌜ at + length (wordText n) ≤ length (now out) ⌝ }
+    ensures { λ r. ⌜ (r ≡ at + length (wordText n)) × (now (out .exit) ≡ splice (now (out .entry)) at (wordText n)) ⌝ }
+{
+    let end = numbers::put_short(n as u64, out, at);
+    out[end] = b' ';
+    end + 1
+}
+
+// Writes the last column, and says where it ends.
+fn put_last(number: u8, taken: usize, out: &mut [u8], at: usize) -> usize
+    requires { ⌜ at + length (lastText number taken) ≤ length (now out) ⌝ }
+    ensures { λ r. ⌜ (r ≡ at + length (lastText number taken)) × (now (out .exit) ≡ splice (now (out .entry)) at (lastText number taken)) ⌝ }
 {
     if number == TAKEN {
-        numbers::put(taken as u64, size, out, at);
-        return;
+        return numbers::put(taken as u64, out, at);
     }
     let digits = reply_digits(number);
     out[at] = digits.high;
     out[at + 1] = digits.low;
+    at + 2
 }
 
 // The reply to an answer, as two hex digits, or two dashes for none.

@@ -1,6 +1,6 @@
 -- `listing::write_fault` meets its contract.
 -- Assumes nothing.
-use mathlib.Core.Path.{_≡_, sym, ap, _∙_}
+use mathlib.Core.Path.{_≡_, ap, _∙_}
 use mathlib.Core.List.{List, _++_, append-assoc}
 use Prim.Native.Nat.{ℕ, _+_, _≤_}
 use native.Mathlib.Omega.{arith}
@@ -37,9 +37,9 @@ returns-3 c =
     let room : a .at + length (faultText (a .line)) ≤ length out = omega (arith, m, k) in
     let l = length-append lineText digits in
     let first = copied-fits out (a .at) lineText (c .before .before .before .before .before .before .before .before .before .before .before .copy-at .ensures) (search needs) .1 in
-    let number = joined out (a .at) lineText digits (omega (arith, room, m)) (omega arith) first (c .before .before .before .before .before .before .before .put .ensures) in
-    let behind = copied-fits _ _ noEventText (c .before .before .copy-at2 .ensures) (search needs) .1 in
-    let whole = joined out (a .at) (lineText ++ digits) noEventText (omega (arith, room, m, l)) (omega (arith, k, l)) number behind in
+    let number = joined out (a .at) lineText digits (omega (arith, room, m)) (omega arith) first (c .before .before .before .before .before .before .before .put .ensures .1) in
+    let behind = copied-fits _ _ noEventText (c .before .before .copy-at2 .ensures) (omega (arith, m, k, c .before .before .before .before .before .before .before .put, c .before .before .before .before .before .before .before .put .ensures .0)) .1 in
+    let whole = joined out (a .at) (lineText ++ digits) noEventText (omega (arith, room, m, l)) (omega (arith, k, l, c .before .before .before .before .before .before .before .put .ensures .0)) number behind in
     text-yes (faultText (a .line)) out (a .at) room (omega (arith, m, k)) (whole ∙ ap (splice out (a .at)) (append-assoc lineText digits noEventText))
 
 pub write-fault-spec : {M : Type 1} → statement M
@@ -56,7 +56,6 @@ write-fault-spec =
     (λ c κs. search needs)
     (λ c. search needs)
     (λ c κs. search needs)
-    (λ c. search needs)
     (λ c. search needs)
     (λ c κs. search needs)
     (λ c. search needs)

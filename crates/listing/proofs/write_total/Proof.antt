@@ -1,7 +1,6 @@
 -- `listing::write_total` meets its contract.
 -- Assumes nothing.
-use mathlib.Core.Path.{_≡_, sym, ap, _∙_}
-use Prim.Native.Nat.{ℕ, _+_, _≤_}
+use Prim.Native.Nat.{_+_, _≤_}
 use native.Mathlib.Omega.{arith}
 use borrow.Author.Needs.{needs}
 use lib.ListN.{length}
@@ -28,12 +27,13 @@ returns-3 : tie.Need-returns-3
 unfolding totalText
 returns-3 c =
     let a = c .before .before .before .before .before .before .before .before .before .before .before .before .before .args in
-    let k : c .before .before .before .before .before .before .before .before .before .before .before .size .result ≡ length (decimalOf (a .events)) = c .before .before .before .before .before .before .before .before .before .before .before .size .ensures .0 in
-    let room : a .at + length (totalText (a .events)) ≤ length (now (a .out)) = omega (arith, length-total (a .events), k) in
+    let k = c .before .before .before .before .before .before .before .before .before .before .before .size .ensures .0 in
+    let m = length-total (a .events) in
+    let room : a .at + length (totalText (a .events)) ≤ length (now (a .out)) = omega (arith, m, k) in
     let put = c .before .before .before .before .before .before .before .put .ensures in
-    let done = copied-fits _ _ eventsText (c .before .before .copy-at .ensures) (search needs) .1 in
-    text-yes (totalText (a .events)) (now (a .out)) (a .at) room (omega (arith, length-total (a .events), k))
-    (joined (now (a .out)) (a .at) (decimalOf (a .events)) eventsText (omega (arith, room, length-total (a .events))) (ap (λ (n : ℕ). a .at + n) k) put done)
+    let done = copied-fits _ _ eventsText (c .before .before .copy-at .ensures) (omega (arith, m, k, put .0, c .before .before .before .before .before .before .before .put)) .1 in
+    text-yes (totalText (a .events)) (now (a .out)) (a .at) room (omega (arith, m, k))
+    (joined (now (a .out)) (a .at) (decimalOf (a .events)) eventsText (omega (arith, room, m)) (put .0) (put .1) done)
 
 pub write-total-spec : {M : Type 1} → statement M
 write-total-spec =
@@ -45,7 +45,6 @@ write-total-spec =
     (λ c. search needs)
     returns-2
     (λ c κs. search needs)
-    (λ c. search needs)
     (λ c. search needs)
     (λ c κs. search needs)
     (λ c. search needs)

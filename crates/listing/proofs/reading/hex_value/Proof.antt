@@ -1,65 +1,57 @@
 -- `listing::reading::hex_value` meets its contract.
 -- Assumes nothing.
-use mathlib.Core.Path.{_≡_}
 use native.Mathlib.Omega.{arith}
 use borrow.Author.Needs.{needs}
-use Rattle.record.proofs.Decimal.{between-yes, between-low, between-high}
 use Rattle.listing.specs.Items.{hexValue}
+use Rattle.listing.proofs.Operands.{inside, outside}
 use Rattle.listing.proofs.reading.hex_value.Statement.{statement}
 use Rattle.listing.proofs.reading.hex_value.Tie as tie
 
 returns : tie.Need-returns
 unfolding hexValue
 returns c =
-    let b = c .before .args .b in
-    rw (between-low 0x30 0x39 b (omega arith), between-low 0x41 0x46 b (omega arith), between-low 0x61 0x66 b (omega arith))
+    let b = c .before .before .args .b in
+    let z = inside 0x30 9 b (c .before .wrapping-sub-u8 .result) (omega arith) (c .before .wrapping-sub-u8 .ensures) (omega arith) in
+    rw (z .0) (z .1)
 
 returns-2 : tie.Need-returns-2
 unfolding hexValue
 returns-2 c =
-    let b = c .before .before .args .b in
-    rw (between-yes 0x30 0x39 b (omega arith) (omega arith))
+    let b = c .before .before .before .before .args .b in
+    let z = inside 0x41 5 b (c .before .wrapping-sub-u82 .result) (omega arith) (c .before .wrapping-sub-u82 .ensures) (omega arith) in
+    rw (outside 0x30 9 b (c .before .before .before .wrapping-sub-u8 .result) (omega arith) (search needs) (c .before .before .before .wrapping-sub-u8 .ensures) (omega arith), z .0) (omega (arith, z .1))
 
 returns-3 : tie.Need-returns-3
 unfolding hexValue
 returns-3 c =
-    let b = c .before .before .before .args .b in
-    rw (between-high 0x30 0x39 b (omega arith), between-low 0x41 0x46 b (omega arith), between-low 0x61 0x66 b (omega arith))
+    let b = c .before .before .before .before .before .before .args .b in
+    let z = inside 0x61 5 b (c .before .wrapping-sub-u83 .result) (omega arith) (c .before .wrapping-sub-u83 .ensures) (omega arith) in
+    rw (
+      outside 0x30 9 b (c .before .before .before .before .before .wrapping-sub-u8 .result) (omega arith) (search needs) (c .before .before .before .before .before .wrapping-sub-u8 .ensures) (omega arith),
+      outside 0x41 5 b (c .before .before .before .wrapping-sub-u82 .result) (omega arith) (search needs) (c .before .before .before .wrapping-sub-u82 .ensures) (omega arith),
+      z .0,
+    ) (omega (arith, z .1))
 
 returns-4 : tie.Need-returns-4
 unfolding hexValue
 returns-4 c =
-    let b = c .before .before .before .before .args .b in
-    rw (between-high 0x30 0x39 b (omega arith), between-yes 0x41 0x46 b (omega arith) (omega arith))
-
-returns-5 : tie.Need-returns-5
-unfolding hexValue
-returns-5 c =
-    let b = c .before .before .before .before .before .args .b in
-    rw (between-high 0x30 0x39 b (omega arith), between-high 0x41 0x46 b (omega arith), between-low 0x61 0x66 b (omega arith))
-
-returns-6 : tie.Need-returns-6
-unfolding hexValue
-returns-6 c =
     let b = c .before .before .before .before .before .before .args .b in
-    rw (between-high 0x30 0x39 b (omega arith), between-high 0x41 0x46 b (omega arith), between-yes 0x61 0x66 b (omega arith) (omega arith))
-
-returns-7 : tie.Need-returns-7
-unfolding hexValue
-returns-7 c =
-    let b = c .before .before .before .before .before .before .args .b in
-    rw (between-high 0x30 0x39 b (omega arith), between-high 0x41 0x46 b (omega arith), between-high 0x61 0x66 b (omega arith))
+    rw (
+      outside 0x30 9 b (c .before .before .before .before .before .wrapping-sub-u8 .result) (omega arith) (search needs) (c .before .before .before .before .before .wrapping-sub-u8 .ensures) (omega arith),
+      outside 0x41 5 b (c .before .before .before .wrapping-sub-u82 .result) (omega arith) (search needs) (c .before .before .before .wrapping-sub-u82 .ensures) (omega arith),
+      outside 0x61 5 b (c .before .wrapping-sub-u83 .result) (omega arith) (search needs) (c .before .wrapping-sub-u83 .ensures) (omega arith),
+    )
 
 pub hex-value-spec : {M : Type 1} → statement M
 hex-value-spec =
     tie.close
     (tie.spec
+    (λ c κs. search needs)
     returns
+    (λ c κs. search needs)
+    (λ c. search needs)
     returns-2
+    (λ c κs. search needs)
+    (λ c. search needs)
     returns-3
-    (λ c. search needs)
-    returns-4
-    returns-5
-    (λ c. search needs)
-    returns-6
-    returns-7)
+    returns-4)

@@ -1,9 +1,6 @@
 -- `listing::rows::last_size` meets its contract.
 -- Assumes nothing.
-use mathlib.Core.Path.{_≡_, sym, ap, _∙_}
-use native.Mathlib.Omega.{arith}
 use borrow.Author.Needs.{needs}
-use lib.ListN.{length}
 use Rattle.listing.proofs.Columns.{last-taken, last-reply}
 use Rattle.listing.proofs.rows.last_size.Statement.{statement}
 use Rattle.listing.proofs.rows.last_size.Tie as tie

@@ -1,6 +1,6 @@
 -- `listing::rows::put_last` meets its contract.
 -- Assumes nothing.
-use mathlib.Core.Path.{_≡_, sym, ap, _∙_}
+use mathlib.Core.Path.{ap}
 use Prim.Native.Nat.{_+_, _≤_}
 use native.Mathlib.Omega.{arith}
 use borrow.Author.Needs.{needs}
@@ -14,8 +14,7 @@ use Rattle.listing.proofs.rows.put_last.Tie as tie
 put-requires : tie.Need-put-requires
 put-requires c κs =
     let s = c .before .before .before in
-    let a = s .args in
-    (s .pre .0 ∙ ap length (last-taken (a .number) (a .taken) (c .before .if1 .taken)), s .pre .1)
+    omega (arith, s .pre, ap length (last-taken (s .args .number) (s .args .taken) (c .before .if1 .taken)))
 
 returns : tie.Need-returns
 returns c =
@@ -25,13 +24,12 @@ returns c =
 two : (c : tie.After-reply-digits) → c .before .before .before .args .at + 2 ≤ length (now (c .before .before .before .args .out))
 two c =
     let s = c .before .before .before in
-    let e = ap length (last-reply (s .args .number) (s .args .taken) (c .before .if1 .left)) in
-    omega (arith, s .pre, e)
+    omega (arith, s .pre, ap length (last-reply (s .args .number) (s .args .taken) (c .before .if1 .left)))
 
 returns-2 : tie.Need-returns-2
 returns-2 c =
     let a = c .before .before .before .args in
-    rw (last-reply (a .number) (a .taken) (c .before .if1 .left), c .reply-digits .ensures) (put-two (now (a .out)) (a .at) _ _ (two c))
+    rw (last-reply (a .number) (a .taken) (c .before .if1 .left), c .reply-digits .ensures) (search needs, put-two (now (a .out)) (a .at) _ _ (two c))
 
 pub put-last-spec : {M : Type 1} → statement M
 put-last-spec =
@@ -44,5 +42,6 @@ put-last-spec =
     (λ c. omega (arith, two c))
     (λ c. search needs)
     (λ c. simp length-set (omega (arith, two c)))
+    (λ c. search needs)
     (λ c. search needs)
     returns-2)
