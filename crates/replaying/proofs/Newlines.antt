@@ -93,7 +93,7 @@ unfolding firstLine
 first-within text at most h = by-end (ltb (find (is newline) text) (length text)) refl
   where
     by-end : (t : Bool) → ltb (find (is newline) text) (length text) ≡ t → BehindIn (unless t Unended (Whole (itemOf (take (find (is newline) text) text)) (at + find (is newline) text + 1))) most
-    by-end true e = omega (arith, h, ltb-true _ _ e)
+    by-end true e = omega (arith, h, ltb-true (find (is newline) text) (length text) e)
     by-end false e = tt
 
 pub behind-within : (input : List ℕ) (at : ℕ) {item : Item} {behind : ℕ} → Whole item behind ≡ nextOf input at → behind ≤ length input

@@ -70,7 +70,7 @@ returns-4 : tie.Need-returns-4
 returns-4 c =
     let a = c .before .before .before .before .before .before .before .before .before .before .before .before .before .before .before .before .before .before .before .before .before .before .before .before .before .before .before .before .before .before .args in
     let x = c .before .before .before .before .before .before .before .before .before .before .act .ensures in
-    (has-room (now (a .numbers)) (now (a .used)) (now (a .journal)) (now (a .unfinished)) (now (a .frames)) (now (a .buffer)) (now (a .out)) (a .put) (now (a .input)) (a .at) (a .number) (omega arith) (sym (c .before .before .before .before .before .before .before .before .before .before .before .before .before .before .before .before .before .before .before .item .given .1) ∙ c .before .before .before .before .before .before .before .before .before .before .before .before .before .before .before .before .before .before .before .before .before .next .ensures) (x .0), acted-behind (now (a .numbers)) (now (a .used)) (now (a .journal)) (now (a .unfinished)) (now (a .frames)) (now (a .buffer)) (now (a .out)) (a .put) _ _ _ (length (now (a .input))) (behind-within (now (a .input)) (a .at) (sym (c .before .before .before .before .before .before .before .before .before .before .before .before .before .before .before .before .before .before .before .item .given .1) ∙ c .before .before .before .before .before .before .before .before .before .before .before .before .before .before .before .before .before .before .before .before .before .next .ensures)) (x .0 .turn), x .1)
+    (has-room (now (a .numbers)) (now (a .used)) (now (a .journal)) (now (a .unfinished)) (now (a .frames)) (now (a .buffer)) (now (a .out)) (a .put) (now (a .input)) (a .at) (a .number) (omega arith) (sym (c .before .before .before .before .before .before .before .before .before .before .before .before .before .before .before .before .before .before .before .item .given .1) ∙ c .before .before .before .before .before .before .before .before .before .before .before .before .before .before .before .before .before .before .before .before .before .next .ensures) (x .0), acted-behind (now (a .numbers)) (now (a .used)) (now (a .journal)) (now (a .unfinished)) (now (a .frames)) (now (a .buffer)) (now (a .out)) (a .put) (c .before .before .before .before .before .before .before .before .before .before .before .before .before .before .before .before .before .before .before .item .given .0 .0) (a .number) (c .before .before .before .before .before .before .before .before .before .before .before .before .before .before .before .before .before .before .before .item .given .0 .1 .0) (length (now (a .input))) (behind-within (now (a .input)) (a .at) (sym (c .before .before .before .before .before .before .before .before .before .before .before .before .before .before .before .before .before .before .before .item .given .1) ∙ c .before .before .before .before .before .before .before .before .before .before .before .before .before .before .before .before .before .before .before .before .before .next .ensures)) (x .0 .turn), x .1)
 
 pub turn-spec : {M : Type 1} → statement M
 turn-spec =
