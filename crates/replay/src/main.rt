@@ -1,17 +1,7 @@
 // The replay: a trace in, its listing out. The trace is the standard input, or each file that an argument names, run from a fresh gateway.
 // It streams: the memory is fixed, whatever the length of the trace.
-ghost use Prim.Native.Nat.{_≤_};
-ghost use lib.ListN.{length};
-use replaying::Stop;
-
+mod pieces; // pieces.rt: a trace, piece by piece
 mod writing; // writing.rt: what is written
-
-// What is kept of a trace between two reads: how many of its bytes wait in the buffer, how many events were run, and whether it goes on.
-struct Kept {
-    waiting: usize,
-    events: u64,
-    goes_on: bool,
-}
 
 fn main() {
     let names = os::arg_count();
@@ -26,8 +16,8 @@ fn main() {
     }
 }
 
-// The file that an argument names; one that cannot be read is told on the standard error.
-fn replay_file(i: usize, named: bool) {
+// The file that an argument names; one that cannot be opened is told on the standard error.
+fn replay_file(i: usize, titled: bool) {
     let mut name = io::buffer();
     let n = os::arg(i, &mut name);
     if os::errno() != 0 {
@@ -39,6 +29,22 @@ fn replay_file(i: usize, named: bool) {
         os::fail(&name[..n]);
         return;
     }
-    replay(fd, &name[..n], named);
+    replay(fd, &name[..n], titled);
     libc::close(fd);
+}
+
+// One trace from a fresh gateway. Nothing is written before its first bytes are read, so of one that cannot be read only the fault is told.
+fn replay(fd: i32, name: &[u8], titled: bool) {
+    let mut input = io::large_buffer();
+    let got = libc::read(fd, &mut input);
+    if got < 0 {
+        os::fail(name);
+        return;
+    }
+    let n = io::count(got, &input);
+    if titled {
+        writing::title(name);
+    }
+    writing::header();
+    pieces::run(fd, name, n, &mut input);
 }

@@ -1,9 +1,9 @@
 -- The next line: where it ends, and what it says.
 -- Assumes nothing.
 use mathlib.Core.Path.{_≡_, refl, sym, subst}
-use mathlib.Core.Bool.{Bool, true, false, not, cond, _&&_}
+use mathlib.Core.Bool.{Bool, true, false, not, _&&_}
 use mathlib.Core.List.{List, [], _∷_}
-use Prim.Native.Nat.{ℕ, suc, _+_, _-_, _≤_, _<_}
+use Prim.Native.Nat.{ℕ, _+_, _-_, _≤_, _<_}
 use native.Mathlib.Omega.{arith}
 use native.Mathlib.Decide.{ℕ-discrete, decLe}
 use borrow.Author.Tests.{ltb-true, lt-ltb, le-ltb, not-true}
@@ -98,6 +98,6 @@ first-within text at most h = by-end (ltb (find (is newline) text) (length text)
 
 pub behind-within : (input : List ℕ) (at : ℕ) {item : Item} {behind : ℕ} → Whole item behind ≡ nextOf input at → behind ≤ length input
 behind-within input at {item} {behind} e = subst (λ (x : Next). BehindIn x (length input)) (sym e) (elim (decLe at (length input)) [
-    | yes h ↦ first-within (drop at input) at (length input) (rw length-drop (omega arith))
-    | no h ↦ subst (λ (x : Next). BehindIn x (length input)) (nothing-left input at (omega (arith, h))) tt
-  ])
+  | yes h ↦ first-within (drop at input) at (length input) (rw length-drop (omega arith))
+  | no h ↦ subst (λ (x : Next). BehindIn x (length input)) (nothing-left input at (omega (arith, h))) tt
+])

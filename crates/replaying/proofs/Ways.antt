@@ -2,12 +2,11 @@
 -- Assumes nothing.
 use mathlib.Core.Path.{_≡_, refl, sym, ap, subst, _∙_}
 use mathlib.Core.List.{List, [], _∷_, _++_}
-use Prim.Native.Nat.{ℕ, zero, suc, _+_, _-_, _^_, _≤_, _<_, min}
+use Prim.Native.Nat.{ℕ, zero, suc, _+_, _^_, _≤_, _<_, min}
 use native.Mathlib.Omega.{arith}
 use native.Mathlib.Numerals.{unary-clauses}
 use borrow.Author.Tests.{le-leb, lt-leb}
 use lib.ListN.{length, take, drop}
-use lib.Seq.{take-all}
 use Rattle.memory.specs.Parts.{splice}
 use Rattle.memory.specs.Moves.{copied}
 use Rattle.memory.proofs.Parts.{length-splice}
@@ -27,7 +26,7 @@ use Rattle.ngachodui.specs.Calls.{Calling, Taken}
 use Rattle.ngachodui.specs.declared.Answered.{Answered}
 use Rattle.replaying.specs.Lines.{nextOf}
 use Rattle.replaying.specs.Desk.{rowRoom, Desk, eventAsked, takingAsked}
-use Rattle.replaying.specs.Turns.{AfterTurn, stopped, wrote, acted, onLine, turnOf, Leaves, deskOf, Telling, ReadIn}
+use Rattle.replaying.specs.Turns.{AfterTurn, stopped, acted, onLine, turnOf, Leaves, deskOf, Telling, ReadIn}
 use Rattle.replaying.specs.declared.Next.{Next}
 use Rattle.replaying.specs.declared.Stop.{Stop}
 use Rattle.replaying.specs.declared.Stop.the-variants.{Output, NotAnEvent}

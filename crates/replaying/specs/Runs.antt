@@ -5,7 +5,7 @@ use mathlib.Core.Path.{_≡_}
 use mathlib.Core.List.{List}
 use lib.ListN.{length}
 use Rattle.replaying.specs.Desk.{Desk}
-use Rattle.replaying.specs.Turns.{AfterTurn, turnOf, deskOf}
+use Rattle.replaying.specs.Turns.{turnOf, deskOf}
 use Rattle.replaying.specs.declared.Progress.{Progress}
 use Rattle.replaying.specs.declared.Stop.{Stop}
 use Rattle.replaying.specs.declared.Stop.the-variants.{Input}

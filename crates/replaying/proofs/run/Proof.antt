@@ -11,10 +11,6 @@ use Rattle.replaying.specs.Runs.{runOf, pieceOf}
 use Rattle.replaying.proofs.Pieces.{went-on, stopped-at, ran-out, as-piece, read-in, ends-in}
 use Rattle.replaying.proofs.run.Statement.{statement}
 use Rattle.replaying.proofs.run.Tie as tie
-use Rattle.replaying.proofs.run.Reads as reads
-use Rattle.replaying.proofs.run.Lts as lts
-use Rattle.replaying.proofs.turns.turn.Reads as turn-reads
-use Rattle.std.proofs.num.wrapping_add_u64.Reads as wrapping-add-u64-reads
 
 -- what is still to run comes to what the whole piece comes to; lent memory keeps its length
 abbrev Inv-loop : tie.InvT-loop
@@ -26,88 +22,53 @@ Inv-loop events input out₀ numbers₀ used₀ journal₀ unfinished₀ frames�
 abbrev μ-loop : tie.MeasureT-loop
 μ-loop events input out₀ numbers₀ used₀ journal₀ unfinished₀ frames₀ buffer₀ count₀ at₀ put₀ left₀ out numbers used journal unfinished frames buffer count at put left = left
 
--- src/lib.rt:56:5
 loop-holds : tie.Need-loop-holds Inv-loop μ-loop
 loop-holds c = (refl, refl, refl, refl, refl, refl, omega arith, omega arith)
 
--- src/lib.rt:57:13
-wrapping-add-u64-requires : tie.Need-wrapping-add-u64-requires Inv-loop μ-loop
-wrapping-add-u64-requires c κs = search needs
-
--- src/lib.rt:58:13
-turn-requires : tie.Need-turn-requires Inv-loop μ-loop
-turn-requires c κs = search needs
-
--- src/lib.rt:72:27
-enum-known-turn : tie.Need-enum-known-turn Inv-loop μ-loop
-enum-known-turn c = search needs
-
--- src/lib.rt:73:17
 same-length : tie.Need-same-length Inv-loop μ-loop
 same-length c = search (needs, c .before .before .before .before .before .before .before .before .before .before .before .before .before .before .before .before .before .before .before .before .before .before .before .loop .inv)
 
--- src/lib.rt:73:17
 same-length-2 : tie.Need-same-length-2 Inv-loop μ-loop
 same-length-2 c = search (needs, c .before .before .before .before .before .before .before .before .before .before .before .before .before .before .before .before .before .before .before .before .before .before .before .loop .inv)
 
--- src/lib.rt:73:17
 same-length-3 : tie.Need-same-length-3 Inv-loop μ-loop
 same-length-3 c = search (needs, c .before .before .before .before .before .before .before .before .before .before .before .before .before .before .before .before .before .before .before .before .before .before .before .loop .inv)
 
--- src/lib.rt:73:17
 same-length-4 : tie.Need-same-length-4 Inv-loop μ-loop
 same-length-4 c = search (needs, c .before .before .before .before .before .before .before .before .before .before .before .before .before .before .before .before .before .before .before .before .before .before .before .loop .inv)
 
--- src/lib.rt:73:17
 same-length-5 : tie.Need-same-length-5 Inv-loop μ-loop
 same-length-5 c = search (needs, c .before .before .before .before .before .before .before .before .before .before .before .before .before .before .before .before .before .before .before .before .before .before .before .loop .inv)
 
--- src/lib.rt:73:17
 returns : tie.Need-returns Inv-loop μ-loop
 returns c = let i = c .before .before .before .before .before .before .before .before .before .before .before .before .before .before .before .before .before .before .before .before .before .before .before .loop .inv in (as-piece (c .before .before .before .before .before .before .before .before .before .before .before .before .before .before .before .before .before .before .before .before .before .before .before .loop .inv .0) (stopped-at (now (c .before .before .before .before .before .before .before .before .before .before .before .before .before .before .before .before .before .before .before .before .before .before .before .before .before .before .before .before .before .before .args .input)) (c .before .before .before .before .before .before .before .before .before .before .before .before .before .before .before .before .before .before .before .before .before .before .before .loop .count) (c .before .before .before .before .before .before .before .before .before .before .before .before .before .before .before .before .before .before .before .before .before .before .before .loop .at) (c .before .before .before .before .before .before .before .before .before .before .before .before .before .before .before .before .before .before .before .before .before .before .before .loop .put) (c .before .before .before .before .before .before .before .before .before .before .before .before .before .before .before .before .before .before .before .before .before .before .before .loop .out) (deskOf (c .before .before .before .before .before .before .before .before .before .before .before .before .before .before .before .before .before .before .before .before .before .before .before .loop .numbers) (c .before .before .before .before .before .before .before .before .before .before .before .before .before .before .before .before .before .before .before .before .before .before .before .loop .used) (c .before .before .before .before .before .before .before .before .before .before .before .before .before .before .before .before .before .before .before .before .before .before .before .loop .journal) (c .before .before .before .before .before .before .before .before .before .before .before .before .before .before .before .before .before .before .before .before .before .before .before .loop .unfinished) (c .before .before .before .before .before .before .before .before .before .before .before .before .before .before .before .before .before .before .before .before .before .before .before .loop .frames) (c .before .before .before .before .before .before .before .before .before .before .before .before .before .before .before .before .before .before .before .before .before .before .before .loop .buffer)) (c .before .before .before .before .before .before .before .before .before .before .before .before .before .before .before .before .before .before .before .before .before .wrapping-add-u64 .ensures) (c .before .before .before .before .before .before .before .before .before .before .before .before .before .turn .ensures .0) (c .before .before .before .before .before .before .before .before .before .before .before .before .before .before .before .before .before .before .before .before .before .before .before .loop .left) (search needs) (c .before .turn2 .given .1)), i .6, omega (arith, i, same-length c))
 
--- src/lib.rt:80:24
-enum-known-turn-2 : tie.Need-enum-known-turn-2 Inv-loop μ-loop
-enum-known-turn-2 c = search needs
-
--- src/lib.rt:86:9
-sub-left : tie.Need-sub-left Inv-loop μ-loop
-sub-left c = search needs
-
--- src/lib.rt:56:5
-loop-less : tie.Need-loop-less Inv-loop μ-loop
-loop-less c = search needs
-
--- src/lib.rt:56:5
 loop-again : tie.Need-loop-again Inv-loop μ-loop
 loop-again c = let i = c .before .before .before .before .before .before .before .before .before .before .before .before .before .before .before .before .before .before .before .before .before .before .before .loop .inv in (i .0 ∙ went-on (now (c .before .before .before .before .before .before .before .before .before .before .before .before .before .before .before .before .before .before .before .before .before .before .before .before .before .before .before .before .before .before .args .input)) (c .before .before .before .before .before .before .before .before .before .before .before .before .before .before .before .before .before .before .before .before .before .before .before .loop .count) (c .before .before .before .before .before .before .before .before .before .before .before .before .before .before .before .before .before .before .before .before .before .before .before .loop .at) (c .before .before .before .before .before .before .before .before .before .before .before .before .before .before .before .before .before .before .before .before .before .before .before .loop .put) (c .before .before .before .before .before .before .before .before .before .before .before .before .before .before .before .before .before .before .before .before .before .before .before .loop .out) (deskOf (c .before .before .before .before .before .before .before .before .before .before .before .before .before .before .before .before .before .before .before .before .before .before .before .loop .numbers) (c .before .before .before .before .before .before .before .before .before .before .before .before .before .before .before .before .before .before .before .before .before .before .before .loop .used) (c .before .before .before .before .before .before .before .before .before .before .before .before .before .before .before .before .before .before .before .before .before .before .before .loop .journal) (c .before .before .before .before .before .before .before .before .before .before .before .before .before .before .before .before .before .before .before .before .before .before .before .loop .unfinished) (c .before .before .before .before .before .before .before .before .before .before .before .before .before .before .before .before .before .before .before .before .before .before .before .loop .frames) (c .before .before .before .before .before .before .before .before .before .before .before .before .before .before .before .before .before .before .before .before .before .before .before .loop .buffer)) (c .before .before .before .before .before .before .before .before .before .before .before .before .before .before .before .before .before .before .before .before .before .wrapping-add-u64 .ensures) (c .before .before .before .before .before .before .before .before .before .before .before .before .before .turn .ensures .0) (c .before .before .before .before .before .before .before .before .before .before .before .before .before .before .before .before .before .before .before .before .before .before .before .loop .left) (search needs) (c .before .turn3 .given .1), search (needs, i), search (needs, i), search (needs, i), search (needs, i), search (needs, i), read-in (c .before .turn3 .given .1) (c .before .before .before .before .before .before .before .before .before .before .before .before .before .turn .ensures .1), ends-in (c .before .turn3 .given .1) (c .before .before .before .before .before .before .before .before .before .before .before .before .before .turn .ensures .2))
 
--- src/lib.rt:38:1
 same-length-6 : tie.Need-same-length-6 Inv-loop μ-loop
 same-length-6 c = search (needs, c .before .loop .inv)
 
--- src/lib.rt:38:1
 same-length-7 : tie.Need-same-length-7 Inv-loop μ-loop
 same-length-7 c = search (needs, c .before .loop .inv)
 
--- src/lib.rt:38:1
 same-length-8 : tie.Need-same-length-8 Inv-loop μ-loop
 same-length-8 c = search (needs, c .before .loop .inv)
 
--- src/lib.rt:38:1
 same-length-9 : tie.Need-same-length-9 Inv-loop μ-loop
 same-length-9 c = search (needs, c .before .loop .inv)
 
--- src/lib.rt:38:1
 same-length-10 : tie.Need-same-length-10 Inv-loop μ-loop
 same-length-10 c = search (needs, c .before .loop .inv)
 
--- src/lib.rt:38:1
 returns-2 : tie.Need-returns-2 Inv-loop μ-loop
 returns-2 c =
-    let z : c .before .loop .left ≡ 0 = omega arith in
-    (as-piece (c .before .loop .inv .0 ∙ ap (λ (x : ℕ). runOf x (now (c .before .before .before .before .before .before .before .before .args .input)) (c .before .loop .count) (c .before .loop .at) (c .before .loop .put) (c .before .loop .out) (deskOf (c .before .loop .numbers) (c .before .loop .used) (c .before .loop .journal) (c .before .loop .unfinished) (c .before .loop .frames) (c .before .loop .buffer))) z)
-    (ran-out _ _ _ _ _ _ _ _ _ _ _), c .before .loop .inv .6, c .before .loop .inv .7)
+    let z : c .before .loop .left ≡ 0 = omega arith in (
+      as-piece (c .before .loop .inv .0 ∙ ap (λ (x : ℕ). runOf x (now (c .before .before .before .before .before .before .before .before .args .input)) (c .before .loop .count) (c .before .loop .at) (c .before .loop .put) (c .before .loop .out) (deskOf (c .before .loop .numbers) (c .before .loop .used) (c .before .loop .journal) (c .before .loop .unfinished) (c .before .loop .frames) (c .before .loop .buffer))) z)
+          (ran-out _ _ _ _ _ _ _ _ _ _ _),
+      c .before .loop .inv .6,
+      c .before .loop .inv .7,
+    )
 
 pub run-spec : {M : Type 1} → statement M
 run-spec =
@@ -116,18 +77,18 @@ run-spec =
     Inv-loop
     μ-loop
     loop-holds
-    wrapping-add-u64-requires
-    turn-requires
-    enum-known-turn
+    (λ c κs. search needs)
+    (λ c κs. search needs)
+    (λ c. search needs)
     same-length
     same-length-2
     same-length-3
     same-length-4
     same-length-5
     returns
-    enum-known-turn-2
-    sub-left
-    loop-less
+    (λ c. search needs)
+    (λ c. search needs)
+    (λ c. search needs)
     loop-again
     same-length-6
     same-length-7
