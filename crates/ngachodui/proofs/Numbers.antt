@@ -1,29 +1,23 @@
 -- Laws of records in plain numbers.
 -- Assumes nothing.
 use mathlib.Core.Path.{_≡_, refl, sym, ap, _∙_}
-use mathlib.Core.Bool.{Bool, true, false, not}
+use mathlib.Core.Bool.{true}
 use mathlib.Core.List.{List}
-use Prim.Native.Nat.{ℕ, zero, suc, _+_, _*_, _-_, _≤_, _<_}
+use Prim.Native.Nat.{ℕ, zero, suc, _+_, _-_, _≤_, _<_}
 use native.Mathlib.Omega.{arith}
 use native.Mathlib.Numerals.{unary-clauses}
-use borrow.Author.Tests.{leb-true, eqb-true, le-leb}
+use borrow.Author.Tests.{leb-true, le-leb}
 use lib.Dec.{leb, eqb}
-use lib.ListN.{length, getD, set}
+use lib.ListN.{getD, set}
 use lib.Seq.{set-getD, getD-set-other}
 use Rattle.memory.specs.Sizes.{lines, messageLimit}
-use Rattle.memory.specs.Tests.{is}
 use Rattle.memory.proofs.Tests.{and-left, and-right}
-use Rattle.frame.specs.Control.{lf}
 use Rattle.frame.specs.Number.{mostNumber}
-use Rattle.line.specs.Line.{mostCollected, mostSeconds, lastWithin, withinLimits}
+use Rattle.line.specs.Line.{mostCollected, mostSeconds, lastWithin, withinLimits, collectedLine}
 use Rattle.line.specs.declared.Last.the-variants.{Number}
 use Rattle.line.proofs.Limits.{within-of}
-use Rattle.line.specs.Line.{collectedLine}
 use Rattle.line.specs.declared.Line.{Line}
-use Rattle.line.specs.declared.State.the-variants.{Inside}
-use Rattle.line.specs.declared.Last.{Last}
-use Rattle.journal.specs.declared.Ledger.{Ledger}
-use Rattle.ngachodui.specs.Plain.{start, firstAt, numberAt, stateOf, stateNumber, lastOf, lastNumber, flag, withinNumbers, onlyCollects, oneMore, lineOf, withLine, ledgerOf, withSerial, withUsed}
+use Rattle.ngachodui.specs.Plain.{start, firstAt, numberAt, stateOf, stateNumber, lastOf, lastNumber, flag, withinNumbers, oneMore, lineOf, withLine, ledgerOf, withSerial, withUsed}
 
 pub record WithinNumbers (ns : List ℕ) (i : ℕ) : Type 0 where
   pub state : firstAt ns i ≤ 2

@@ -1,10 +1,9 @@
 -- Each way out of a call.
 -- Assumes nothing.
 use mathlib.Core.Path.{_≡_, refl, sym, ap, subst, _∙_}
-use mathlib.Core.Bool.{Bool, true, false, not, _&&_}
+use mathlib.Core.Bool.{true, false, not, _&&_}
 use mathlib.Core.List.{List}
 use Prim.Native.Nat.{ℕ, _+_, _≤_, _<_}
-use native.Mathlib.Omega.{arith}
 use borrow.Author.Tests.{lt-ltb, le-ltb, ltb-true, eqb-true, not-true}
 use lib.Dec.{ltb, eqb}
 use lib.ListN.{length, set}
@@ -13,13 +12,13 @@ use Rattle.memory.specs.Tests.{is}
 use Rattle.memory.proofs.Tests.{and-left, and-right}
 use Rattle.frame.specs.Control.{lf}
 use Rattle.journal.specs.Room.{todaysShares}
-use Rattle.line.specs.Line.{mostCollected, withinLimits}
+use Rattle.line.specs.Line.{mostCollected}
 use Rattle.line.specs.declared.Answer.{Answer}
 use Rattle.line.specs.declared.Answer.the-variants.{Nothing, NoLine, WrongSize, BeyondLimits}
 use Rattle.line.specs.declared.Line.{Line}
 use Rattle.gateway.specs.Views.{frameStart}
 use Rattle.gateway.specs.Looks.{byteLook, insideLook}
-use Rattle.gateway.specs.Verdicts.{ownWork, rightSizes, verdictOf}
+use Rattle.gateway.specs.Verdicts.{ownWork, verdictOf}
 use Rattle.gateway.specs.Events.{Memory, AfterStep, Leaves, memoryOf, settle, stepOf}
 use Rattle.gateway.specs.declared.Stepped.{Stepped}
 use Rattle.journal.specs.declared.Ledger.{Ledger}
@@ -33,7 +32,7 @@ use Rattle.gateway.specs.declared.Verdict.the-variants.{Collects}
 use Rattle.ngachodui.specs.Plain.{firstAt, numberAt, stateOf, withLine, withSerial, withUsed, withinNumbers, onlyCollects, oneMore, rightLengths, quick, lineOf, ledgerOf, told, toldTaking}
 use Rattle.ngachodui.specs.Calls.{AfterCall, refused, putBack, callOf, Called, Calling, Stepping, Taken}
 use Rattle.ngachodui.specs.declared.Answered.{Answered}
-use Rattle.ngachodui.proofs.Numbers.{WithinNumbers, numbers-facts, told-within, used-back, collected-back}
+use Rattle.ngachodui.proofs.Numbers.{told-within, used-back, collected-back}
 use Rattle.ngachodui.proofs.Narrow.{Narrow, step-narrow, taking-narrow}
 
 as-called : {s t : AfterCall} {r : Answered} {ns us j u f : List ℕ} → s ≡ t → Called t r ns us j u f → Called s r ns us j u f

@@ -14,6 +14,7 @@ use gateway::Kind;
 use line::Answer;
 
 mod plain; // plain.rt: records, ledger and answers in plain numbers
+pub mod texts; // texts.rt: texts cut, read, escaped and unescaped
 
 // An answer: its number in document 01's table, the byte to send back (0 for none), and for 8 the serial and the text's length.
 #[repr(C)]
