@@ -12,6 +12,7 @@
 mod boundary;
 mod compare;
 mod counts;
+mod edges;
 mod faults;
 mod fenced;
 mod library;
@@ -31,7 +32,8 @@ use std::time::{Duration, Instant};
 /// Operations from one fresh start to the next.
 const RUN: u64 = 50_000;
 
-/// Texts after each run.
+/// Full journals after each run, then texts.
+const FULL_JOURNALS: u64 = 10;
 const TEXTS: u64 = 1_000;
 
 /// How often an event comes on a record that the model cannot hold.
@@ -114,6 +116,22 @@ impl Pair {
         }
     }
 
+    /// A difference, with where it was met and what came before it.
+    fn tell(&self, counts: &Counts, difference: &str) -> String {
+        let start = self.past.len().saturating_sub(TOLD);
+        let mut told = format!(
+            "run {}, operation {}, event {} of all\n  {}\nlast operations",
+            counts.runs,
+            self.past.len(),
+            counts.events,
+            difference
+        );
+        for op in &self.past[start..] {
+            told += &format!("\n  {:?}", op);
+        }
+        told
+    }
+
     /// An event on a record with a number that no record has: 42, and nothing changed. A memory of
     /// another size is answered first.
     fn odd_record(&mut self, counts: &mut Counts) -> Result<(), String> {
@@ -159,7 +177,7 @@ impl Pair {
     }
 }
 
-/// One run from fresh, then texts. The mixes are all, or in every fourth run up to three of them.
+/// One run from fresh, then full journals and texts. The mixes are all, or in every fourth run up to three of them.
 fn run(seed: u64, fault: Option<Fault>, limit: Limit, counts: &mut Counts) -> Result<(), String> {
     let mut random = Random::new(seed);
     let traffic_seed = random.number();
@@ -178,23 +196,15 @@ fn run(seed: u64, fault: Option<Fault>, limit: Limit, counts: &mut Counts) -> Re
         if outcome.is_ok() && pair.random.once_in(ODD_RECORD_ONCE_IN) {
             outcome = pair.odd_record(counts);
         }
-        if let Err(difference) = outcome {
-            let start = pair.past.len().saturating_sub(TOLD);
-            return Err(format!(
-                "run {}, operation {}, event {} of all\n  {}\nlast operations\n  {}",
-                counts.runs,
-                operation,
-                counts.events,
-                difference,
-                pair.past[start..]
-                    .iter()
-                    .map(|op| format!("{:?}", op))
-                    .collect::<Vec<String>>()
-                    .join("\n  ")
-            ));
-        }
+        outcome.map_err(|difference| pair.tell(counts, &difference))?;
         if operation % 1_000 == 0 && limit.is_reached(counts) {
             break;
+        }
+    }
+    for _ in 0..FULL_JOURNALS {
+        for op in edges::full_journal(&mut pair.random) {
+            pair.step(op, counts)
+                .map_err(|difference| pair.tell(counts, &difference))?;
         }
     }
     for text in 1..=TEXTS {

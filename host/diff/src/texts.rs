@@ -145,7 +145,7 @@ fn compare_output(
     }
     counts.text(function, found.number);
 
-    let about = || format!("{} into {} bytes of {:?}", function, length, show(text));
+    let about = || format!("{} into {} bytes of \"{}\"", function, length, show(text));
     if outcome != found {
         return Err(format!("{}: {}", about(), differs("outcome", outcome, found)));
     }
@@ -172,10 +172,10 @@ fn compare_is_message(
     counts.text("is_message", u8::from(found));
     if is_message(text) != found {
         let difference = differs("is_message", is_message(text), found);
-        return Err(format!("{} of {:?}", difference, show(text)));
+        return Err(format!("{} of \"{}\"", difference, show(text)));
     }
     if lent.inside() != text || !lent.stands() {
-        return Err(format!("is_message has written: {:?}", show(text)));
+        return Err(format!("is_message has written: \"{}\"", show(text)));
     }
     Ok(())
 }
@@ -222,7 +222,7 @@ fn compare_read(
     }
     counts.text("read", found.number);
 
-    let about = || format!("read into {:?} slots of {:?}", lengths, show(text));
+    let about = || format!("read into {:?} slots of \"{}\"", lengths, show(text));
     if outcome != found {
         return Err(format!("{}: {}", about(), differs("outcome", outcome, found)));
     }
