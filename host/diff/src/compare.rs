@@ -86,7 +86,11 @@ pub fn state_difference(world: &World, library: &Library, op: Op) -> Option<Stri
     }
     let memories = [
         ("journal", &world.journal, library.journal.inside()),
-        ("unfinished text", &world.unfinished, library.unfinished.inside()),
+        (
+            "unfinished text",
+            &world.unfinished,
+            library.unfinished.inside(),
+        ),
         ("frames", &world.frames, library.frames.inside()),
     ];
     for (name, model, library) in memories {

@@ -64,7 +64,8 @@ impl Library {
     /// A fresh gateway with every byte of its memories set to `contents`, at addresses that `front`
     /// moves.
     pub fn fresh(contents: u8, front: usize) -> Library {
-        let memory = |which: Memory, front| Fenced::new(which.size() + SPARE, contents, front, FENCE);
+        let memory =
+            |which: Memory, front| Fenced::new(which.size() + SPARE, contents, front, FENCE);
         let mut library = Library {
             // Whatever stood there, it is fresh afterwards.
             book: Book {

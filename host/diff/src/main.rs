@@ -163,7 +163,10 @@ impl Pair {
 
         let right = Memory::ALL.map(Memory::size) == self.world.lent;
         let number = if right { 42 } else { 41 };
-        let odd = format!("line {}, number {} set to {}, {:?}", line, field, value, kind);
+        let odd = format!(
+            "line {}, number {} set to {}, {:?}",
+            line, field, value, kind
+        );
         if found.map(|answer| (answer.number, answer.reply)) != Some((number, 0)) {
             return Err(format!("{}: {:?} in place of {}", odd, found, number));
         }
@@ -182,7 +185,9 @@ fn run(seed: u64, fault: Option<Fault>, limit: Limit, counts: &mut Counts) -> Re
     let mut random = Random::new(seed);
     let traffic_seed = random.number();
     let mut traffic = if counts.runs % 4 == 3 {
-        let mixes: Vec<Mix> = (0..random.between(1, 3)).map(|_| random.pick(&MIXES)).collect();
+        let mixes: Vec<Mix> = (0..random.between(1, 3))
+            .map(|_| random.pick(&MIXES))
+            .collect();
         Traffic::of(traffic_seed, &mixes)
     } else {
         Traffic::new(traffic_seed)
@@ -208,8 +213,9 @@ fn run(seed: u64, fault: Option<Fault>, limit: Limit, counts: &mut Counts) -> Re
         }
     }
     for text in 1..=TEXTS {
-        texts::compare(&mut traffic, &mut pair.random, fault, counts)
-            .map_err(|difference| format!("run {}, text {}\n  {}", counts.runs, text, difference))?;
+        texts::compare(&mut traffic, &mut pair.random, fault, counts).map_err(|difference| {
+            format!("run {}, text {}\n  {}", counts.runs, text, difference)
+        })?;
     }
     Ok(())
 }

@@ -22,6 +22,9 @@ const ROOM: usize = 16_384;
 type Model = fn(&[u8], &mut [u8]) -> Result<usize, u8>;
 type Library = fn(&[u8], &mut [u8]) -> Made;
 
+/// A part of each record, by name: what the library wrote, and the model's.
+type Column<'a> = (&'a str, &'a Fenced<u16>, fn(Record) -> usize);
+
 /// One text through every function. A difference comes in words.
 pub fn compare(
     traffic: &mut Traffic,
@@ -35,8 +38,24 @@ pub fn compare(
     compare_read(&text, random, fault, counts)?;
 
     let text = a_component(traffic, random);
-    compare_output("escape", &text, escape, boundary::escape, random, fault, counts)?;
-    compare_output("unescape", &text, unescape, boundary::unescape, random, fault, counts)
+    compare_output(
+        "escape",
+        &text,
+        escape,
+        boundary::escape,
+        random,
+        fault,
+        counts,
+    )?;
+    compare_output(
+        "unescape",
+        &text,
+        unescape,
+        boundary::unescape,
+        random,
+        fault,
+        counts,
+    )
 }
 
 /// Messages, nearly messages, and anything.
@@ -147,7 +166,11 @@ fn compare_output(
 
     let about = || format!("{} into {} bytes of \"{}\"", function, length, show(text));
     if outcome != found {
-        return Err(format!("{}: {}", about(), differs("outcome", outcome, found)));
+        return Err(format!(
+            "{}: {}",
+            about(),
+            differs("outcome", outcome, found)
+        ));
     }
     if let Some(difference) = byte_difference("output", &expected, out.inside()) {
         return Err(format!("{}: {}", about(), difference));
@@ -224,17 +247,25 @@ fn compare_read(
 
     let about = || format!("read into {:?} slots of \"{}\"", lengths, show(text));
     if outcome != found {
-        return Err(format!("{}: {}", about(), differs("outcome", outcome, found)));
+        return Err(format!(
+            "{}: {}",
+            about(),
+            differs("outcome", outcome, found)
+        ));
     }
     // Slots behind the records, or all of them after a refusal, keep what they held.
     let expected = |place: usize| records.get(place).copied().unwrap_or(blank);
     for (place, found) in types.inside().iter().enumerate() {
         if *found != expected(place).kind {
             let what = format!("type {}", place + 1);
-            return Err(format!("{}: {}", about(), differs(&what, expected(place).kind, *found)));
+            return Err(format!(
+                "{}: {}",
+                about(),
+                differs(&what, expected(place).kind, *found)
+            ));
         }
     }
-    let columns: [(&str, &Fenced<u16>, fn(Record) -> usize); 3] = [
+    let columns: [Column; 3] = [
         ("offset", &offsets, |record| record.offset),
         ("length", &sizes, |record| record.length),
         ("owner", &owners, |record| record.owner),

@@ -65,12 +65,7 @@ extern "C" {
         buffer_length: usize,
     ) -> Answered;
     fn ngachodui_is_message(text: *const u8, text_length: usize) -> bool;
-    fn ngachodui_cut(
-        text: *const u8,
-        text_length: usize,
-        out: *mut u8,
-        out_length: usize,
-    ) -> Made;
+    fn ngachodui_cut(text: *const u8, text_length: usize, out: *mut u8, out_length: usize) -> Made;
     fn ngachodui_escape(
         text: *const u8,
         text_length: usize,

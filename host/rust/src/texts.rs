@@ -134,7 +134,14 @@ mod tests {
     fn records_with_their_owners() {
         let records = read(TEXT).expect("a message");
         let told: Vec<(u8, usize)> = records.iter().map(|r| (r.kind, r.owner)).collect();
-        let expected = [(b'H', 0), (b'P', 1), (b'O', 2), (b'R', 3), (b'C', 4), (b'L', 0)];
+        let expected = [
+            (b'H', 0),
+            (b'P', 1),
+            (b'O', 2),
+            (b'R', 3),
+            (b'C', 4),
+            (b'L', 0),
+        ];
         assert_eq!(told, expected);
         let result = records[3];
         let end = result.offset + result.length;
@@ -143,7 +150,13 @@ mod tests {
 
     #[test]
     fn what_is_no_message_is_not_read() {
-        for text in [&b""[..], b"\r", b"\r\r\r", b"L|1\r", &TEXT[..TEXT.len() - 1]] {
+        for text in [
+            &b""[..],
+            b"\r",
+            b"\r\r\r",
+            b"L|1\r",
+            &TEXT[..TEXT.len() - 1],
+        ] {
             assert_eq!(read(text), Err(Refusal::Malformed));
             assert_eq!(cut(text, &mut []), Err(Refusal::Malformed));
             assert!(!is_message(text));
