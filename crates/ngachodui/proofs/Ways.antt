@@ -32,7 +32,7 @@ use Rattle.gateway.specs.declared.Verdict.the-variants.{Collects}
 use Rattle.ngachodui.specs.Plain.{firstAt, numberAt, stateOf, withLine, withSerial, withUsed, withinNumbers, onlyCollects, oneMore, rightLengths, quick, lineOf, ledgerOf, told, toldTaking}
 use Rattle.ngachodui.specs.Calls.{AfterCall, refused, putBack, callOf, Called, Calling, Stepping, Taken}
 use Rattle.ngachodui.specs.declared.Answered.{Answered}
-use Rattle.ngachodui.proofs.Numbers.{told-within, used-back, collected-back}
+use Rattle.ngachodui.proofs.Numbers.{told-within, used-back, count-back}
 use Rattle.ngachodui.proofs.Narrow.{Narrow, step-narrow, taking-narrow}
 
 as-called : {s t : AfterCall} {r : Answered} {ns us j u f : List ℕ} → s ≡ t → Called t r ns us j u f → Called s r ns us j u f
@@ -130,7 +130,7 @@ module _ (ns us : List ℕ) (i b : ℕ) (j u f : List ℕ) (q : QuickFacts i b n
   pub by-quick : {r : Answered} {ns′ f′ : List ℕ} → r ≡ told Nothing → ns′ ≡ oneMore ns i → f′ ≡ set f (frameStart i + numberAt ns i 1) b → Calling ns us here j u f r ns′ us j u f′
   by-quick {r} {ns′} {f′} p n g = by-step ns us here j u f (q .line) (q .right) (q .within) (as-called (ap (λ (x : AfterStep). putBack ns us i x) collects) (record {
     result = p;
-    numbers = n ∙ sym (collected-back ns us i (q .line) (q .within));
+    numbers = n ∙ sym (count-back ns us i (q .line) (q .within) (numberAt ns i 1 + 1));
     used = sym (used-back ns us i (q .line));
     journal = refl;
     unfinished = refl;

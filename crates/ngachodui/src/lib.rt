@@ -30,8 +30,8 @@ pub struct Answered {
 pub extern "C" fn ngachodui_byte(
     line: u8,
     byte: u8,
-    numbers: &mut [u16; 64],
-    used: &mut [u32; 9],
+    numbers: &mut [u16; plain::NUMBERS],
+    used: &mut [u32; plain::COUNTS],
     journal: &mut [u8],
     unfinished: &mut [u8],
     frames: &mut [u8],
@@ -62,8 +62,8 @@ pub extern "C" fn ngachodui_byte(
 pub extern "C" fn ngachodui_seconds(
     line: u8,
     seconds: u8,
-    numbers: &mut [u16; 64],
-    used: &mut [u32; 9],
+    numbers: &mut [u16; plain::NUMBERS],
+    used: &mut [u32; plain::COUNTS],
     journal: &mut [u8],
     unfinished: &mut [u8],
     frames: &mut [u8],
@@ -81,8 +81,8 @@ pub extern "C" fn ngachodui_seconds(
 // Any event: 40, 41, 42, then the gateway's step.
 fn event(
     e: Event,
-    numbers: &mut [u16; 64],
-    used: &mut [u32; 9],
+    numbers: &mut [u16; plain::NUMBERS],
+    used: &mut [u32; plain::COUNTS],
     journal: &mut [u8],
     unfinished: &mut [u8],
     frames: &mut [u8],
@@ -106,8 +106,8 @@ fn event(
 // The step by value, and its outcome put back into the numbers.
 fn step(
     e: Event,
-    numbers: &mut [u16; 64],
-    used: &mut [u32; 9],
+    numbers: &mut [u16; plain::NUMBERS],
+    used: &mut [u32; plain::COUNTS],
     journal: &mut [u8],
     unfinished: &mut [u8],
     frames: &mut [u8],
@@ -133,8 +133,8 @@ fn step(
 #[no_mangle]
 pub extern "C" fn ngachodui_take(
     line: u8,
-    numbers: &[u16; 64],
-    used: &mut [u32; 9],
+    numbers: &[u16; plain::NUMBERS],
+    used: &mut [u32; plain::COUNTS],
     journal: &mut [u8],
     buffer: &mut [u8],
 ) -> Answered
@@ -154,9 +154,20 @@ pub extern "C" fn ngachodui_take(
 
 // Every line fresh, the journal empty.
 #[no_mangle]
-pub extern "C" fn ngachodui_fresh(numbers: &mut [u16; 64], used: &mut [u32; 9])
+pub extern "C" fn ngachodui_fresh(
+    numbers: &mut [u16; plain::NUMBERS],
+    used: &mut [u32; plain::COUNTS],
+)
     ensures { λ _. ⌜ Fresh (now (numbers .exit)) (now (used .exit)) ⌝ }
 {
-    *numbers = plain::FRESH;
-    *used = [0u32; 9];
+    *numbers = [0u16; plain::NUMBERS];
+    numbers[4] = 1;
+    numbers[12] = 1;
+    numbers[20] = 1;
+    numbers[28] = 1;
+    numbers[36] = 1;
+    numbers[44] = 1;
+    numbers[52] = 1;
+    numbers[60] = 1;
+    *used = [0u32; plain::COUNTS];
 }
