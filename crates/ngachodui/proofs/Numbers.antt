@@ -17,10 +17,10 @@ use Rattle.line.specs.Line.{mostCollected, mostSeconds, lastWithin, withinLimit
 use Rattle.line.specs.declared.Last.the-variants.{Number}
 use Rattle.line.proofs.Limits.{within-of}
 use Rattle.line.specs.declared.Line.{Line}
-use Rattle.ngachodui.specs.Plain.{start, firstAt, numberAt, stateOf, stateNumber, lastOf, lastNumber, flag, withinNumbers, lineOf, withLine, ledgerOf, withSerial, withUsed}
+use Rattle.ngachodui.specs.Plain.{inside, start, firstAt, numberAt, stateOf, stateNumber, lastOf, lastNumber, flag, withinNumbers, lineOf, withLine, ledgerOf, withSerial, withUsed}
 
 pub record WithinNumbers (ns : List ℕ) (i : ℕ) : Type 0 where
-  pub state : firstAt ns i ≤ 2
+  pub state : firstAt ns i ≤ inside
   pub collected : numberAt ns i 1 ≤ mostCollected
   pub joined : numberAt ns i 2 ≤ messageLimit
   pub seconds : numberAt ns i 3 ≤ mostSeconds
@@ -32,13 +32,13 @@ module _ (ns : List ℕ) (i : ℕ) where
   pub numbers-facts : withinNumbers ns i ≡ true → WithinNumbers ns i
   unfolding withinNumbers
   numbers-facts e =
-      let rest₁ = and-right (leb (firstAt ns i) 2) _ e in
+      let rest₁ = and-right (leb (firstAt ns i) inside) _ e in
       let rest₂ = and-right (leb (numberAt ns i 1) mostCollected) _ rest₁ in
       let rest₃ = and-right (leb (numberAt ns i 2) messageLimit) _ rest₂ in
       let rest₄ = and-right (leb (numberAt ns i 3) mostSeconds) _ rest₃ in
       let rest₅ = and-right (leb (numberAt ns i 4) mostNumber) _ rest₄ in
       record {
-        state = leb-true _ _ (and-left (leb (firstAt ns i) 2) _ e);
+        state = leb-true _ _ (and-left (leb (firstAt ns i) inside) _ e);
         collected = leb-true _ _ (and-left (leb (numberAt ns i 1) mostCollected) _ rest₁);
         joined = leb-true _ _ (and-left (leb (numberAt ns i 2) messageLimit) _ rest₂);
         seconds = leb-true _ _ (and-left (leb (numberAt ns i 3) mostSeconds) _ rest₃);
@@ -53,7 +53,7 @@ last-some zero h = absurd (h refl)
 last-some (suc n) h = simp unary-clauses
 
 -- a record's numbers tell it
-pub state-back : (n : ℕ) → n ≤ 2 → stateNumber (stateOf n) ≡ n
+pub state-back : (n : ℕ) → n ≤ inside → stateNumber (stateOf n) ≡ n
 state-back zero h = refl
 state-back (suc zero) h = refl
 state-back (suc (suc zero)) h = refl

@@ -25,7 +25,7 @@ pub struct Answered {
     pub length: usize,
 }
 
-// A byte has come on a line. Most are only collected: that changes one number and one byte, and copies nothing.
+// A byte has come on a line. Most bytes are only collected: that changes one number and one byte, and copies nothing.
 #[no_mangle]
 pub extern "C" fn ngachodui_byte(
     line: u8,
@@ -152,7 +152,7 @@ pub extern "C" fn ngachodui_take(
     plain::told_taking(took)
 }
 
-// Every line fresh, the journal empty.
+// Every line fresh, the journal empty: each next number is 1, and all other numbers are 0.
 #[no_mangle]
 pub extern "C" fn ngachodui_fresh(
     numbers: &mut [u16; plain::NUMBERS],

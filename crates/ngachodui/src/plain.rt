@@ -17,7 +17,7 @@ use line::Line;
 use line::Reply;
 use line::State;
 
-// A line's numbers: the first is its state, the others stand so far behind it.
+// A line's numbers are so many; the first is its state, and the others stand so far behind it.
 const FIELDS: usize = 8;
 
 const COLLECTED: usize = 1;
@@ -34,7 +34,7 @@ const REFUSING: usize = 6;
 
 const SERIAL: usize = 7;
 
-// All lines' numbers; their used counts, and behind these the bytes in use.
+// How many numbers all lines have; and how many counts: each line's used count, then the bytes in use.
 pub const NUMBERS: usize = memory::LINES * FIELDS;
 
 pub const COUNTS: usize = memory::LINES + 1;
@@ -152,6 +152,7 @@ pub fn record_of(numbers: &[u16; NUMBERS], i: usize) -> Line
     }
 }
 
+// 0 neutral, 1 waiting, 2 inside.
 fn state_of(n: u16) -> State
     ensures { λ r. ⌜ r ≡ stateOf n ⌝ }
 {
@@ -164,6 +165,7 @@ fn state_of(n: u16) -> State
     State::Inside
 }
 
+// 0 for none, else one more than the number.
 fn last_of(n: u16) -> Last
     requires { ⌜ n ≤ 256 ⌝ }
     ensures { λ r. ⌜ r ≡ lastOf n ⌝ }
@@ -219,7 +221,7 @@ fn flag_number(b: bool) -> u16
     0
 }
 
-// A cast by itself asks nothing of the number.
+// A cast of its own tells the caller that the number is below 2 to the 32.
 fn wide(n: u32) -> usize
     ensures { λ r. ⌜ (r ≡ n) × (r < 2 ^ 32) ⌝ }
 {
@@ -255,7 +257,7 @@ pub fn ledger_of(numbers: &[u16; NUMBERS], used: &[u32; COUNTS]) -> Ledger
     }
 }
 
-// Puts back what a ledger has of a line.
+// Puts back what a ledger has of a line: its serial, and its used count with the bytes in use.
 pub fn put_serial(numbers: &mut [u16; NUMBERS], i: usize, ledger: Ledger)
     requires { ⌜ i < lines ⌝ }
     ensures { λ _. ⌜ now (numbers .exit) ≡ withSerial (now (numbers .entry)) i ledger ⌝ }
@@ -281,6 +283,7 @@ fn reply_byte(reply: Reply) -> u8
     }
 }
 
+// The answer to an event.
 pub fn told(answer: Answer) -> Answered
     ensures { λ r. ⌜ r ≡ Plain·told answer ⌝ }
 {
@@ -292,6 +295,7 @@ pub fn told(answer: Answer) -> Answered
     }
 }
 
+// The answer to a taking; only 8 has values.
 pub fn told_taking(took: Took) -> Answered
     ensures { λ r. ⌜ r ≡ toldTaking took ⌝ }
 {
