@@ -5,10 +5,10 @@
  * did, by a number of document 01's table, and which byte to send back. Whole messages wait in one
  * journal until the host takes them.
  *
- * The library keeps nothing between calls, allocates nothing, and calls nothing but memcpy, memmove
- * and memset. All that a gateway is lies in memory of the host's: a ngachodui_state and three
- * memories of fixed sizes, lent to every call. To begin, call ngachodui_fresh on the state; the
- * memories may hold anything. From then on only the library changes them.
+ * The library keeps nothing between calls, allocates nothing, and calls nothing but memcpy and memset.
+ * All that a gateway is lies in memory of the host's: a ngachodui_state and three memories of fixed
+ * sizes, lent to every call. To begin, call ngachodui_fresh on the state; the memories may hold
+ * anything. From then on only the library changes them.
  *
  * What the host owes at every call, since C cannot say it:
  *   - each pointer is valid for the length beside it, or for the array in its type, and aligned for
@@ -35,17 +35,18 @@ extern "C" {
 /* ---- Sizes ---- */
 
 enum {
-    NGACHODUI_LINES = 8,              /* the lines are numbered 0 to 7 */
+    NGACHODUI_LINES = 8,               /* the lines are numbered 0 to 7 */
 
     /* The three memories, in bytes. Lent at any other size, an event is answered 41. */
-    NGACHODUI_JOURNAL = 32768,        /* the messages that wait */
-    NGACHODUI_UNFINISHED = 8 * 4000,  /* unfinished text, 4,000 bytes for each line */
-    NGACHODUI_FRAMES = 8 * 246,       /* the frame that a line is receiving, 246 bytes for each */
+    NGACHODUI_JOURNAL_SIZE = 32768,    /* the messages that wait */
+    NGACHODUI_UNFINISHED_SIZE = 32000, /* unfinished text, 4,000 bytes for each line */
+    NGACHODUI_FRAMES_SIZE = 1968,      /* the frame that a line is receiving, 246 bytes for each */
 
-    /* What a buffer needs that is never too short. */
-    NGACHODUI_TEXT = 4000,            /* for a taking, and for the text of any message */
-    NGACHODUI_RECORDS = 999,          /* slots, for reading any message */
-    NGACHODUI_CUT = 10993             /* for the frames of any message: 4,000 bytes in 999 frames */
+    /* What is never exceeded: memory for so many is never too short. */
+    NGACHODUI_TEXT_LIMIT = 4000,       /* bytes of a message, for a taking */
+    NGACHODUI_FRAME_LIMIT = 247,       /* bytes of a frame, from STX to LF */
+    NGACHODUI_RECORDS_LIMIT = 999,     /* records of a message, for reading */
+    NGACHODUI_CUT_LIMIT = 10993        /* bytes of a message's frames: 4,000 of text in 999 frames */
 };
 
 /* ---- Answers ---- */
@@ -111,8 +112,9 @@ enum ngachodui_line_state {
     NGACHODUI_INSIDE = 2     /* inside a frame */
 };
 
-/* One line. A host may read it at any time. A record that the host sets itself is used as it is if it
- * is within the limits here; if not, events on that line are answered 42. */
+/* One line. A host may read it at any time, and may save state and memories and load them again. A
+ * record that the host sets itself is used as it is if it is within the limits here; if not, events on
+ * that line are answered 42. */
 typedef struct ngachodui_line {
     uint16_t state;       /* enum ngachodui_line_state */
     uint16_t collected;   /* bytes of the frame so far, up to 245 */
@@ -124,17 +126,16 @@ typedef struct ngachodui_line {
     uint16_t serial;      /* of the line's next message; after 65,535 comes 0 */
 } ngachodui_line;
 
-enum {
-    NGACHODUI_IN_USE = NGACHODUI_LINES,     /* where in `used` the bytes in use stand */
-    NGACHODUI_COUNTS = NGACHODUI_LINES + 1
-};
+/* How much of the journal is used, in bytes. Counts that do not agree with the journal are answered 43. */
+typedef struct ngachodui_counts {
+    uint32_t used[NGACHODUI_LINES];  /* by each line's messages, 4 counted for each besides its text */
+    uint32_t in_use;                 /* by all of them together */
+} ngachodui_counts;
 
 /* A gateway, beside its three memories. */
 typedef struct ngachodui_state {
     ngachodui_line lines[NGACHODUI_LINES];
-    /* Bytes of the journal: those of each line's messages, 4 more for each message; behind them, at
-     * NGACHODUI_IN_USE, those of all lines together. */
-    uint32_t used[NGACHODUI_COUNTS];
+    ngachodui_counts counts;
 } ngachodui_state;
 
 /* The library was compiled for these layouts. */
@@ -146,7 +147,7 @@ typedef struct ngachodui_state {
 #define NGACHODUI_LAYOUT(fact) struct ngachodui_layout
 #endif
 NGACHODUI_LAYOUT(sizeof(ngachodui_line) == 16);
-NGACHODUI_LAYOUT(offsetof(ngachodui_state, used) == 128);
+NGACHODUI_LAYOUT(sizeof(ngachodui_counts) == 36);
 NGACHODUI_LAYOUT(sizeof(ngachodui_answered) == 16);
 NGACHODUI_LAYOUT(sizeof(ngachodui_made) == 16);
 #undef NGACHODUI_LAYOUT
@@ -155,7 +156,7 @@ NGACHODUI_LAYOUT(sizeof(ngachodui_made) == 16);
 
 /* Makes every line neutral with next number 1 and serial 0, and the journal empty. Call it once,
  * before all else; later it forgets every message that waits. */
-void ngachodui_fresh(ngachodui_line lines[NGACHODUI_LINES], uint32_t used[NGACHODUI_COUNTS]);
+void ngachodui_fresh(ngachodui_line lines[NGACHODUI_LINES], ngachodui_counts *counts);
 
 /* A byte has come in on a line.
  *
@@ -165,7 +166,7 @@ void ngachodui_fresh(ngachodui_line lines[NGACHODUI_LINES], uint32_t used[NGACHO
  *
  * Changes, by the answer:
  *   0        at most this line's record, and its frame's next byte
- *   1, 5, 6  this line's record: no bytes, no text, no seconds, next number 1
+ *   1, 5, 6  this line's record: its counts 0, next number 1, no last number, not refusing
  *   2        the record; the frame's last byte; the text behind the line's unfinished text
  *   4        as 2, and the entry at the journal's end, the line's used count, the bytes in use, the
  *            line's serial; the line has no unfinished text any more
@@ -175,7 +176,7 @@ void ngachodui_fresh(ngachodui_line lines[NGACHODUI_LINES], uint32_t used[NGACHO
  *   20, 40 to 43  nothing
  * 43 leaves the line inside its frame; 30 seconds free it. */
 ngachodui_answered ngachodui_byte(uint8_t line, uint8_t byte,
-                                  ngachodui_line lines[NGACHODUI_LINES], uint32_t used[NGACHODUI_COUNTS],
+                                  ngachodui_line lines[NGACHODUI_LINES], ngachodui_counts *counts,
                                   uint8_t *journal, size_t journal_length,
                                   uint8_t *unfinished, size_t unfinished_length,
                                   uint8_t *frames, size_t frames_length);
@@ -187,7 +188,7 @@ ngachodui_answered ngachodui_byte(uint8_t line, uint8_t byte,
  * clock in common: tell each one, as often as is convenient, at least every few seconds while its
  * transfer is open. */
 ngachodui_answered ngachodui_seconds(uint8_t line, uint8_t seconds,
-                                     ngachodui_line lines[NGACHODUI_LINES], uint32_t used[NGACHODUI_COUNTS],
+                                     ngachodui_line lines[NGACHODUI_LINES], ngachodui_counts *counts,
                                      uint8_t *journal, size_t journal_length,
                                      uint8_t *unfinished, size_t unfinished_length,
                                      uint8_t *frames, size_t frames_length);
@@ -197,10 +198,10 @@ ngachodui_answered ngachodui_seconds(uint8_t line, uint8_t seconds,
  * Answers 8, and 40, 41 (of the journal), 43, 44, 45 in this order. With 8, `length` bytes of the
  * buffer are written and the rest keeps its bytes; later messages move up in the journal, and the
  * line's used count and the bytes in use fall. The others change nothing. Serials count a line's
- * messages, so the host can see that none is missing. A buffer of NGACHODUI_TEXT bytes is never too
- * short. */
+ * messages, so the host can see that none is missing. A buffer of NGACHODUI_TEXT_LIMIT bytes is
+ * never too short. */
 ngachodui_answered ngachodui_take(uint8_t line,
-                                  const ngachodui_line lines[NGACHODUI_LINES], uint32_t used[NGACHODUI_COUNTS],
+                                  const ngachodui_line lines[NGACHODUI_LINES], ngachodui_counts *counts,
                                   uint8_t *journal, size_t journal_length,
                                   uint8_t *buffer, size_t buffer_length);
 
@@ -216,13 +217,13 @@ bool ngachodui_is_message(const uint8_t *text, size_t text_length);
 /* Cuts a message into the frames that send it: for each record pieces of 240 bytes, the last with
  * ETX, those before it with ETB, numbered from 1. To send it: ENQ, then these bytes, then EOT, with
  * an ACK from the other side after ENQ and after each frame. 46: the text is no message. The length is
- * the text's and 7 for each frame: at most NGACHODUI_CUT. */
+ * the text's and 7 for each frame: at most NGACHODUI_CUT_LIMIT. */
 ngachodui_made ngachodui_cut(const uint8_t *text, size_t text_length, uint8_t *out, size_t out_length);
 
 /* Reads a message: each record's type letter, where it starts in the text, its length without CR, and
  * its owner, by number from 1, or 0 where it has none (H and L). `length` is the number of records.
  * 46: the text is no message. 47: one of the four has fewer slots than the message has records;
- * NGACHODUI_RECORDS are always enough. */
+ * NGACHODUI_RECORDS_LIMIT are always enough. The lengths count slots, not bytes. */
 ngachodui_made ngachodui_read(const uint8_t *text, size_t text_length,
                               uint8_t *types, size_t types_length,
                               uint16_t *offsets, size_t offsets_length,
@@ -234,7 +235,8 @@ ngachodui_made ngachodui_read(const uint8_t *text, size_t text_length,
 ngachodui_made ngachodui_escape(const uint8_t *text, size_t text_length, uint8_t *out, size_t out_length);
 
 /* The way back. 46: a | \ or ^ stands there, or an & that begins none of the four escapes. */
-ngachodui_made ngachodui_unescape(const uint8_t *text, size_t text_length, uint8_t *out, size_t out_length);
+ngachodui_made ngachodui_unescape(const uint8_t *component, size_t component_length,
+                                  uint8_t *out, size_t out_length);
 
 #ifdef __cplusplus
 }

@@ -13,10 +13,10 @@
 
 /* A gateway is a state and three memories; the buffer is for what is taken. */
 static ngachodui_state state;
-static uint8_t journal[NGACHODUI_JOURNAL];
-static uint8_t unfinished[NGACHODUI_UNFINISHED];
-static uint8_t frames[NGACHODUI_FRAMES];
-static uint8_t buffer[NGACHODUI_TEXT];
+static uint8_t journal[NGACHODUI_JOURNAL_SIZE];
+static uint8_t unfinished[NGACHODUI_UNFINISHED_SIZE];
+static uint8_t frames[NGACHODUI_FRAMES_SIZE];
+static uint8_t buffer[NGACHODUI_TEXT_LIMIT];
 
 struct event {
     uint8_t line;
@@ -81,13 +81,13 @@ static ngachodui_answered answer_to(struct event event)
 {
     switch (event.kind) {
     case 'B':
-        return ngachodui_byte(event.line, (uint8_t)event.value, state.lines, state.used, journal,
+        return ngachodui_byte(event.line, (uint8_t)event.value, state.lines, &state.counts, journal,
                               sizeof journal, unfinished, sizeof unfinished, frames, sizeof frames);
     case 'S':
-        return ngachodui_seconds(event.line, (uint8_t)event.value, state.lines, state.used, journal,
+        return ngachodui_seconds(event.line, (uint8_t)event.value, state.lines, &state.counts, journal,
                                  sizeof journal, unfinished, sizeof unfinished, frames, sizeof frames);
     default:
-        return ngachodui_take(event.line, state.lines, state.used, journal, sizeof journal, buffer,
+        return ngachodui_take(event.line, state.lines, &state.counts, journal, sizeof journal, buffer,
                               event.value);
     }
 }
@@ -111,7 +111,7 @@ int main(void)
     unsigned long long events = 0;
     bool bad = false;
 
-    ngachodui_fresh(state.lines, state.used);
+    ngachodui_fresh(state.lines, &state.counts);
     printf("event line answer reply\n");
     while (!bad && (n = getline(&text, &room, stdin)) >= 0) {
         if (text[n - 1] == '\n')
