@@ -1,3 +1,10 @@
 pub mod Numbers
 pub mod Narrow
 pub mod Ways
+pub mod TextWays
+pub mod Stores
+pub mod Touched
+pub mod ToldBack
+pub mod Hosts
+pub mod Refusals
+pub mod OneOutcome

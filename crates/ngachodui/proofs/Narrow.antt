@@ -1,19 +1,19 @@
 -- How many bytes are in use stays a number of 32 bits.
 -- Assumes nothing.
 use mathlib.Core.Path.{_≡_, refl, sym, ap, subst}
-use mathlib.Core.Bool.{Bool, true, false, cond}
+use mathlib.Core.Bool.{Bool, true, false}
 use mathlib.Core.List.{List, [], _∷_}
 use mathlib.Core.Option.{Option, none, some}
-use Prim.Native.Nat.{ℕ, _+_, _-_, _^_, _≤_, _<_}
+use Prim.Native.Nat.{ℕ, _^_, _<_}
 use native.Mathlib.Omega.{arith}
 use lib.Dec.{ltb, leb, eqb}
 use lib.ListN.{length}
-use Rattle.memory.specs.Sizes.{lines, journalSize, messageLimit}
+use Rattle.memory.specs.Sizes.{lines, journalSize}
 use Rattle.memory.specs.Tests.{unless}
 use Rattle.record.specs.Delimiters.{standard}
 use Rattle.record.specs.Faults.{isMessage}
-use Rattle.journal.specs.Header.{headSize, entrySize}
-use Rattle.journal.specs.Entries.{Entry, size, sizes, before, from}
+use Rattle.journal.specs.Header.{headSize}
+use Rattle.journal.specs.Entries.{Entry, sizes, before, from}
 use Rattle.journal.specs.Chain.{chain}
 use Rattle.journal.specs.Room.{todaysShares}
 use Rattle.journal.specs.Storage.{grown}

@@ -1,32 +1,26 @@
 -- Laws of records in plain numbers.
 -- Assumes nothing.
 use mathlib.Core.Path.{_≡_, refl, sym, ap, _∙_}
-use mathlib.Core.Bool.{Bool, true, false, not}
+use mathlib.Core.Bool.{true}
 use mathlib.Core.List.{List}
-use Prim.Native.Nat.{ℕ, zero, suc, _+_, _*_, _-_, _≤_, _<_}
+use Prim.Native.Nat.{ℕ, zero, suc, _+_, _-_, _≤_, _<_}
 use native.Mathlib.Omega.{arith}
 use native.Mathlib.Numerals.{unary-clauses}
-use borrow.Author.Tests.{leb-true, eqb-true, le-leb}
+use borrow.Author.Tests.{leb-true, le-leb}
 use lib.Dec.{leb, eqb}
-use lib.ListN.{length, getD, set}
+use lib.ListN.{getD, set}
 use lib.Seq.{set-getD, getD-set-other}
 use Rattle.memory.specs.Sizes.{lines, messageLimit}
-use Rattle.memory.specs.Tests.{is}
 use Rattle.memory.proofs.Tests.{and-left, and-right}
-use Rattle.frame.specs.Control.{lf}
 use Rattle.frame.specs.Number.{mostNumber}
-use Rattle.line.specs.Line.{mostCollected, mostSeconds, lastWithin, withinLimits}
+use Rattle.line.specs.Line.{mostCollected, mostSeconds, lastWithin, withinLimits, collectedLine}
 use Rattle.line.specs.declared.Last.the-variants.{Number}
 use Rattle.line.proofs.Limits.{within-of}
-use Rattle.line.specs.Line.{collectedLine}
 use Rattle.line.specs.declared.Line.{Line}
-use Rattle.line.specs.declared.State.the-variants.{Inside}
-use Rattle.line.specs.declared.Last.{Last}
-use Rattle.journal.specs.declared.Ledger.{Ledger}
-use Rattle.ngachodui.specs.Plain.{start, firstAt, numberAt, stateOf, stateNumber, lastOf, lastNumber, flag, withinNumbers, onlyCollects, oneMore, lineOf, withLine, ledgerOf, withSerial, withUsed}
+use Rattle.ngachodui.specs.Plain.{inside, start, firstAt, numberAt, stateOf, stateNumber, lastOf, lastNumber, flag, withinNumbers, lineOf, withLine, ledgerOf, withSerial, withUsed}
 
 pub record WithinNumbers (ns : List ℕ) (i : ℕ) : Type 0 where
-  pub state : firstAt ns i ≤ 2
+  pub state : firstAt ns i ≤ inside
   pub collected : numberAt ns i 1 ≤ mostCollected
   pub joined : numberAt ns i 2 ≤ messageLimit
   pub seconds : numberAt ns i 3 ≤ mostSeconds
@@ -38,13 +32,13 @@ module _ (ns : List ℕ) (i : ℕ) where
   pub numbers-facts : withinNumbers ns i ≡ true → WithinNumbers ns i
   unfolding withinNumbers
   numbers-facts e =
-      let rest₁ = and-right (leb (firstAt ns i) 2) _ e in
+      let rest₁ = and-right (leb (firstAt ns i) inside) _ e in
       let rest₂ = and-right (leb (numberAt ns i 1) mostCollected) _ rest₁ in
       let rest₃ = and-right (leb (numberAt ns i 2) messageLimit) _ rest₂ in
       let rest₄ = and-right (leb (numberAt ns i 3) mostSeconds) _ rest₃ in
       let rest₅ = and-right (leb (numberAt ns i 4) mostNumber) _ rest₄ in
       record {
-        state = leb-true _ _ (and-left (leb (firstAt ns i) 2) _ e);
+        state = leb-true _ _ (and-left (leb (firstAt ns i) inside) _ e);
         collected = leb-true _ _ (and-left (leb (numberAt ns i 1) mostCollected) _ rest₁);
         joined = leb-true _ _ (and-left (leb (numberAt ns i 2) messageLimit) _ rest₂);
         seconds = leb-true _ _ (and-left (leb (numberAt ns i 3) mostSeconds) _ rest₃);
@@ -59,7 +53,7 @@ last-some zero h = absurd (h refl)
 last-some (suc n) h = simp unary-clauses
 
 -- a record's numbers tell it
-pub state-back : (n : ℕ) → n ≤ 2 → stateNumber (stateOf n) ≡ n
+pub state-back : (n : ℕ) → n ≤ inside → stateNumber (stateOf n) ≡ n
 state-back zero h = refl
 state-back (suc zero) h = refl
 state-back (suc (suc zero)) h = refl
@@ -95,7 +89,7 @@ again : (ns : List ℕ) (k v : ℕ) → v ≡ getD ns k 0 → set ns k v ≡ ns
 again ns k v e = ap (λ (x : ℕ). set ns k x) e ∙ set-getD ns k 0
 
 -- what the ledger has of a line
-used-at : (ns us : List ℕ) (i : ℕ) → i < lines → getD (ledgerOf ns us .used) i 0 ≡ getD us i 0
+pub used-at : (ns us : List ℕ) (i : ℕ) → i < lines → getD (ledgerOf ns us .used) i 0 ≡ getD us i 0
 unfolding ledgerOf
 used-at ns us zero h = refl
 used-at ns us (suc zero) h = refl
@@ -107,7 +101,7 @@ used-at ns us (suc (suc (suc (suc (suc (suc zero)))))) h = refl
 used-at ns us (suc (suc (suc (suc (suc (suc (suc zero))))))) h = refl
 used-at ns us (suc (suc (suc (suc (suc (suc (suc (suc i)))))))) h = absurd (omega arith)
 
-serial-at : (ns us : List ℕ) (i : ℕ) → i < lines → getD (ledgerOf ns us .serials) i 0 ≡ numberAt ns i 7
+pub serial-at : (ns us : List ℕ) (i : ℕ) → i < lines → getD (ledgerOf ns us .serials) i 0 ≡ numberAt ns i 7
 unfolding ledgerOf
 serial-at ns us zero h = refl
 serial-at ns us (suc zero) h = refl
@@ -127,22 +121,28 @@ in-use-at ns us = refl
 pub used-back : (ns us : List ℕ) (i : ℕ) → i < lines → withUsed us i (ledgerOf ns us) ≡ us
 used-back ns us i h = rw (again us i (getD (ledgerOf ns us .used) i 0) (used-at ns us i h)) (again us lines (ledgerOf ns us .in_use) (in-use-at ns us))
 
--- one more collected, put back as a whole record: the other numbers of the line stay
-module _ (ns us : List ℕ) (i : ℕ) (h : i < lines) (e : withinNumbers ns i ≡ true) where
-  kept-number : (k : ℕ) → (k ≡ 1 → ⊥) → getD (oneMore ns i) (start i + k) 0 ≡ numberAt ns i k
+-- the record and the ledger that the numbers tell, put back with another count of collected bytes: the other numbers of the line stay
+module _ (ns us : List ℕ) (i : ℕ) (h : i < lines) (e : withinNumbers ns i ≡ true) (count : ℕ) where
+  abbrev counted : List ℕ
+  counted = set ns (start i + 1) count
+
+  kept-number : (k : ℕ) → (k ≡ 1 → ⊥) → getD counted (start i + k) 0 ≡ numberAt ns i k
   kept-number k n = getD-set-other ns (start i + 1) (start i + k) _ 0 (λ q. n (omega arith))
 
-  pub collected-back : withSerial (withLine ns i (collectedLine (lineOf ns i) (numberAt ns i 1 + 1))) i (ledgerOf ns us) ≡ oneMore ns i
+  pub count-back : withSerial (withLine ns i (collectedLine (lineOf ns i) count)) i (ledgerOf ns us) ≡ set ns (start i + 1) count
   unfolding withLine
-  collected-back =
+  count-back =
       let w = numbers-facts ns i e in
-      let o = oneMore ns i in
       rw (
         again ns (start i) (stateNumber (stateOf (firstAt ns i))) (state-back (firstAt ns i) (w .state)),
-        again o (start i + 2) (numberAt ns i 2) (sym (kept-number 2 (λ q. absurd (omega arith)))),
-        again o (start i + 3) (numberAt ns i 3) (sym (kept-number 3 (λ q. absurd (omega arith)))),
-        again o (start i + 4) (numberAt ns i 4) (sym (kept-number 4 (λ q. absurd (omega arith)))),
-        again o (start i + 5) (lastNumber (lastOf (numberAt ns i 5))) (last-back (numberAt ns i 5) ∙ sym (kept-number 5 (λ q. absurd (omega arith)))),
-        again o (start i + 6) (flag (eqb (numberAt ns i 6) 1)) (flag-back (numberAt ns i 6) (w .refusing) ∙ sym (kept-number 6 (λ q. absurd (omega arith)))),
+        again counted (start i + 2) (numberAt ns i 2) (sym (kept-number 2 (λ q. absurd (omega arith)))),
+        again counted (start i + 3) (numberAt ns i 3) (sym (kept-number 3 (λ q. absurd (omega arith)))),
+        again counted (start i + 4) (numberAt ns i 4) (sym (kept-number 4 (λ q. absurd (omega arith)))),
+        again counted (start i + 5) (lastNumber (lastOf (numberAt ns i 5))) (last-back (numberAt ns i 5) ∙ sym (kept-number 5 (λ q. absurd (omega arith)))),
+        again counted (start i + 6) (flag (eqb (numberAt ns i 6) 1)) (flag-back (numberAt ns i 6) (w .refusing) ∙ sym (kept-number 6 (λ q. absurd (omega arith)))),
       )
-      (again o (start i + 7) (getD (ledgerOf ns us .serials) i 0) (serial-at ns us i h ∙ sym (kept-number 7 (λ q. absurd (omega arith)))))
+      (again counted (start i + 7) (getD (ledgerOf ns us .serials) i 0) (serial-at ns us i h ∙ sym (kept-number 7 (λ q. absurd (omega arith)))))
+
+-- as they are
+pub numbers-back : (ns us : List ℕ) (i : ℕ) → i < lines → withinNumbers ns i ≡ true → withSerial (withLine ns i (lineOf ns i)) i (ledgerOf ns us) ≡ ns
+numbers-back ns us i h e = count-back ns us i h e (numberAt ns i 1) ∙ set-getD ns (start i + 1) 0

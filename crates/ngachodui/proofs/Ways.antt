@@ -1,10 +1,9 @@
 -- Each way out of a call.
 -- Assumes nothing.
 use mathlib.Core.Path.{_≡_, refl, sym, ap, subst, _∙_}
-use mathlib.Core.Bool.{Bool, true, false, not, _&&_}
+use mathlib.Core.Bool.{true, false, not, _&&_}
 use mathlib.Core.List.{List}
 use Prim.Native.Nat.{ℕ, _+_, _≤_, _<_}
-use native.Mathlib.Omega.{arith}
 use borrow.Author.Tests.{lt-ltb, le-ltb, ltb-true, eqb-true, not-true}
 use lib.Dec.{ltb, eqb}
 use lib.ListN.{length, set}
@@ -13,13 +12,13 @@ use Rattle.memory.specs.Tests.{is}
 use Rattle.memory.proofs.Tests.{and-left, and-right}
 use Rattle.frame.specs.Control.{lf}
 use Rattle.journal.specs.Room.{todaysShares}
-use Rattle.line.specs.Line.{mostCollected, withinLimits}
+use Rattle.line.specs.Line.{mostCollected}
 use Rattle.line.specs.declared.Answer.{Answer}
 use Rattle.line.specs.declared.Answer.the-variants.{Nothing, NoLine, WrongSize, BeyondLimits}
 use Rattle.line.specs.declared.Line.{Line}
 use Rattle.gateway.specs.Views.{frameStart}
 use Rattle.gateway.specs.Looks.{byteLook, insideLook}
-use Rattle.gateway.specs.Verdicts.{ownWork, rightSizes, verdictOf}
+use Rattle.gateway.specs.Verdicts.{ownWork, verdictOf}
 use Rattle.gateway.specs.Events.{Memory, AfterStep, Leaves, memoryOf, settle, stepOf}
 use Rattle.gateway.specs.declared.Stepped.{Stepped}
 use Rattle.journal.specs.declared.Ledger.{Ledger}
@@ -30,10 +29,10 @@ use Rattle.gateway.specs.declared.Event.{Event}
 use Rattle.gateway.specs.declared.Kind.the-variants.{Byte}
 use Rattle.gateway.specs.declared.Verdict.{Verdict}
 use Rattle.gateway.specs.declared.Verdict.the-variants.{Collects}
-use Rattle.ngachodui.specs.Plain.{firstAt, numberAt, stateOf, withLine, withSerial, withUsed, withinNumbers, onlyCollects, oneMore, rightLengths, quick, lineOf, ledgerOf, told, toldTaking}
+use Rattle.ngachodui.specs.Plain.{inside, firstAt, numberAt, stateOf, withLine, withSerial, withUsed, withinNumbers, onlyCollects, oneMore, rightLengths, quick, lineOf, ledgerOf, told, toldTaking}
 use Rattle.ngachodui.specs.Calls.{AfterCall, refused, putBack, callOf, Called, Calling, Stepping, Taken}
 use Rattle.ngachodui.specs.declared.Answered.{Answered}
-use Rattle.ngachodui.proofs.Numbers.{WithinNumbers, numbers-facts, told-within, used-back, collected-back}
+use Rattle.ngachodui.proofs.Numbers.{told-within, used-back, count-back}
 use Rattle.ngachodui.proofs.Narrow.{Narrow, step-narrow, taking-narrow}
 
 as-called : {s t : AfterCall} {r : Answered} {ns us j u f : List ℕ} → s ≡ t → Called t r ns us j u f → Called s r ns us j u f
@@ -110,19 +109,19 @@ module _ (ns us : List ℕ) (i b : ℕ) (j u f : List ℕ) (q : QuickFacts i b n
   abbrev here : Event
   here = record { line = i; kind = Byte b }
 
-  inside : stateOf (firstAt ns i) ≡ Inside
+  is-inside : stateOf (firstAt ns i) ≡ Inside
   unfolding onlyCollects
-  inside = rw (eqb-true (firstAt ns i) 2 (and-left (eqb (firstAt ns i) 2) (not (is lf b) && not (eqb (numberAt ns i 1) mostCollected)) (q .only)))
+  is-inside = rw (eqb-true (firstAt ns i) inside (and-left (eqb (firstAt ns i) inside) (not (is lf b) && not (eqb (numberAt ns i 1) mostCollected)) (q .only)))
 
   no-end : (is lf b ≡ false) × (eqb (numberAt ns i 1) mostCollected ≡ false)
   unfolding onlyCollects
   no-end =
-      let rest = and-right (eqb (firstAt ns i) 2) (not (is lf b) && not (eqb (numberAt ns i 1) mostCollected)) (q .only) in
+      let rest = and-right (eqb (firstAt ns i) inside) (not (is lf b) && not (eqb (numberAt ns i 1) mostCollected)) (q .only) in
       (not-true _ (and-left (not (is lf b)) (not (eqb (numberAt ns i 1) mostCollected)) rest), not-true _ (and-right (not (is lf b)) (not (eqb (numberAt ns i 1) mostCollected)) rest))
 
   verdict : verdictOf todaysShares (lineOf ns i) (ledgerOf ns us) here j u f ≡ Collects
   unfolding verdictOf ownWork byteLook insideLook rightLengths
-  verdict = rw (lt-ltb i lines (q .line), q .right, told-within ns i (q .within), inside, no-end .0, no-end .1)
+  verdict = rw (lt-ltb i lines (q .line), q .right, told-within ns i (q .within), is-inside, no-end .0, no-end .1)
 
   collects : stepOf todaysShares (lineOf ns i) (ledgerOf ns us) here (memoryOf j u f) ≡ settle Collects (lineOf ns i) (ledgerOf ns us) here (memoryOf j u f)
   unfolding stepOf
@@ -131,7 +130,7 @@ module _ (ns us : List ℕ) (i b : ℕ) (j u f : List ℕ) (q : QuickFacts i b n
   pub by-quick : {r : Answered} {ns′ f′ : List ℕ} → r ≡ told Nothing → ns′ ≡ oneMore ns i → f′ ≡ set f (frameStart i + numberAt ns i 1) b → Calling ns us here j u f r ns′ us j u f′
   by-quick {r} {ns′} {f′} p n g = by-step ns us here j u f (q .line) (q .right) (q .within) (as-called (ap (λ (x : AfterStep). putBack ns us i x) collects) (record {
     result = p;
-    numbers = n ∙ sym (collected-back ns us i (q .line) (q .within));
+    numbers = n ∙ sym (count-back ns us i (q .line) (q .within) (numberAt ns i 1 + 1));
     used = sym (used-back ns us i (q .line));
     journal = refl;
     unfinished = refl;

@@ -1,2 +1,4 @@
 pub mod Plain
 pub mod Calls
+pub mod Texts
+pub mod Hosting

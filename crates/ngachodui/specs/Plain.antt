@@ -32,7 +32,7 @@ fields = 8
 abbrev pub start : ℕ → ℕ
 start i = i * fields
 
--- the first number of line i, its state, and the number k places on
+-- the first number of line i, its state, and the number k places on: 1 collected, 2 joined, 3 seconds, 4 next, 5 last, 6 refusing, 7 serial
 abbrev pub firstAt : List ℕ → ℕ → ℕ
 firstAt ns i = getD ns (start i) 0
 
@@ -40,13 +40,16 @@ abbrev pub numberAt : List ℕ → ℕ → ℕ → ℕ
 numberAt ns i k = getD ns (start i + k) 0
 
 -- a state: 0 neutral, 1 waiting, 2 inside
+abbrev pub inside : ℕ
+inside = 2
+
 abbrev pub stateOf : ℕ → State
 stateOf n = cond (eqb n 0) Neutral (cond (eqb n 1) Waiting Inside)
 
 abbrev pub stateNumber : State → ℕ
 stateNumber Neutral = 0
 stateNumber Waiting = 1
-stateNumber Inside = 2
+stateNumber Inside = inside
 
 -- the last accepted number: 0 for none, else one more than it
 abbrev pub lastOf : ℕ → Last
@@ -63,12 +66,12 @@ flag b = cond b 1 0
 -- a line's first seven numbers are those of a record within its limits; the eighth, a serial, may be any
 unfoldable pub withinNumbers : List ℕ → ℕ → Bool
 withinNumbers ns i =
-    leb (firstAt ns i) 2 && (leb (numberAt ns i 1) mostCollected && (leb (numberAt ns i 2) messageLimit && (leb (numberAt ns i 3) mostSeconds
+    leb (firstAt ns i) inside && (leb (numberAt ns i 1) mostCollected && (leb (numberAt ns i 2) messageLimit && (leb (numberAt ns i 3) mostSeconds
     && (leb (numberAt ns i 4) mostNumber && (leb (numberAt ns i 5) (mostNumber + 1) && leb (numberAt ns i 6) 1)))))
 
 -- inside a frame that this byte does not end: it is only collected
 unfoldable pub onlyCollects : List ℕ → ℕ → ℕ → Bool
-onlyCollects ns i b = eqb (firstAt ns i) 2 && (not (is lf b) && not (eqb (numberAt ns i 1) mostCollected))
+onlyCollects ns i b = eqb (firstAt ns i) inside && (not (is lf b) && not (eqb (numberAt ns i 1) mostCollected))
 
 -- and then it has one more collected
 abbrev pub oneMore : List ℕ → ℕ → List ℕ

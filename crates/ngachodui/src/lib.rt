@@ -14,6 +14,7 @@ use gateway::Kind;
 use line::Answer;
 
 mod plain; // plain.rt: records, ledger and answers in plain numbers
+pub mod texts; // texts.rt: texts cut, read, escaped and unescaped
 
 // An answer: its number in document 01's table, the byte to send back (0 for none), and for 8 the serial and the text's length.
 #[repr(C)]
@@ -24,13 +25,13 @@ pub struct Answered {
     pub length: usize,
 }
 
-// A byte has come on a line. Most are only collected: that changes one number and one byte, and copies nothing.
+// A byte has come on a line. Most bytes are only collected: that changes one number and one byte, and copies nothing.
 #[no_mangle]
 pub extern "C" fn ngachodui_byte(
     line: u8,
     byte: u8,
-    numbers: &mut [u16; 64],
-    used: &mut [u32; 9],
+    numbers: &mut [u16; plain::NUMBERS],
+    used: &mut [u32; plain::COUNTS],
     journal: &mut [u8],
     unfinished: &mut [u8],
     frames: &mut [u8],
@@ -61,8 +62,8 @@ pub extern "C" fn ngachodui_byte(
 pub extern "C" fn ngachodui_seconds(
     line: u8,
     seconds: u8,
-    numbers: &mut [u16; 64],
-    used: &mut [u32; 9],
+    numbers: &mut [u16; plain::NUMBERS],
+    used: &mut [u32; plain::COUNTS],
     journal: &mut [u8],
     unfinished: &mut [u8],
     frames: &mut [u8],
@@ -80,8 +81,8 @@ pub extern "C" fn ngachodui_seconds(
 // Any event: 40, 41, 42, then the gateway's step.
 fn event(
     e: Event,
-    numbers: &mut [u16; 64],
-    used: &mut [u32; 9],
+    numbers: &mut [u16; plain::NUMBERS],
+    used: &mut [u32; plain::COUNTS],
     journal: &mut [u8],
     unfinished: &mut [u8],
     frames: &mut [u8],
@@ -105,8 +106,8 @@ fn event(
 // The step by value, and its outcome put back into the numbers.
 fn step(
     e: Event,
-    numbers: &mut [u16; 64],
-    used: &mut [u32; 9],
+    numbers: &mut [u16; plain::NUMBERS],
+    used: &mut [u32; plain::COUNTS],
     journal: &mut [u8],
     unfinished: &mut [u8],
     frames: &mut [u8],
@@ -132,8 +133,8 @@ fn step(
 #[no_mangle]
 pub extern "C" fn ngachodui_take(
     line: u8,
-    numbers: &[u16; 64],
-    used: &mut [u32; 9],
+    numbers: &[u16; plain::NUMBERS],
+    used: &mut [u32; plain::COUNTS],
     journal: &mut [u8],
     buffer: &mut [u8],
 ) -> Answered
@@ -151,11 +152,22 @@ pub extern "C" fn ngachodui_take(
     plain::told_taking(took)
 }
 
-// Every line fresh, the journal empty.
+// Every line fresh, the journal empty: each next number is 1, and all other numbers are 0.
 #[no_mangle]
-pub extern "C" fn ngachodui_fresh(numbers: &mut [u16; 64], used: &mut [u32; 9])
+pub extern "C" fn ngachodui_fresh(
+    numbers: &mut [u16; plain::NUMBERS],
+    used: &mut [u32; plain::COUNTS],
+)
     ensures { λ _. ⌜ Fresh (now (numbers .exit)) (now (used .exit)) ⌝ }
 {
-    *numbers = plain::FRESH;
-    *used = [0u32; 9];
+    *numbers = [0u16; plain::NUMBERS];
+    numbers[4] = 1;
+    numbers[12] = 1;
+    numbers[20] = 1;
+    numbers[28] = 1;
+    numbers[36] = 1;
+    numbers[44] = 1;
+    numbers[52] = 1;
+    numbers[60] = 1;
+    *used = [0u32; plain::COUNTS];
 }

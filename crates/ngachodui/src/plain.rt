@@ -17,81 +17,33 @@ use line::Line;
 use line::Reply;
 use line::State;
 
-// Each line's numbers: state, collected, joined, seconds, next, last, refusing, serial.
+// A line's numbers are so many; the first is its state, and the others stand so far behind it.
 const FIELDS: usize = 8;
 
+const COLLECTED: usize = 1;
+
+const JOINED: usize = 2;
+
+const SECONDS: usize = 3;
+
+const NEXT: usize = 4;
+
+const LAST: usize = 5;
+
+const REFUSING: usize = 6;
+
+const SERIAL: usize = 7;
+
+// How many numbers all lines have; and how many counts: each line's used count, then the bytes in use.
+pub const NUMBERS: usize = memory::LINES * FIELDS;
+
+pub const COUNTS: usize = memory::LINES + 1;
+
+// The state of a line inside a frame: no state has a higher number.
 const INSIDE: u16 = 2;
 
-// Eight fresh lines.
-pub const FRESH: [u16; 64] = [
-    0,
-    0,
-    0,
-    0,
-    1,
-    0,
-    0,
-    0,
-    0,
-    0,
-    0,
-    0,
-    1,
-    0,
-    0,
-    0,
-    0,
-    0,
-    0,
-    0,
-    1,
-    0,
-    0,
-    0,
-    0,
-    0,
-    0,
-    0,
-    1,
-    0,
-    0,
-    0,
-    0,
-    0,
-    0,
-    0,
-    1,
-    0,
-    0,
-    0,
-    0,
-    0,
-    0,
-    0,
-    1,
-    0,
-    0,
-    0,
-    0,
-    0,
-    0,
-    0,
-    1,
-    0,
-    0,
-    0,
-    0,
-    0,
-    0,
-    0,
-    1,
-    0,
-    0,
-    0,
-];
-
 // Whether a line's numbers are those of a record within its limits.
-pub fn is_within(numbers: &[u16; 64], i: usize) -> bool
+pub fn is_within(numbers: &[u16; NUMBERS], i: usize) -> bool
     requires { ⌜ i < lines ⌝ }
     ensures { λ r. ⌜ r ≡ withinNumbers (now (numbers .entry)) i ⌝ }
 {
@@ -99,22 +51,22 @@ pub fn is_within(numbers: &[u16; 64], i: usize) -> bool
     if INSIDE < numbers[at] {
         return false;
     }
-    if Line::MOST_COLLECTED < numbers[at + 1] {
+    if Line::MOST_COLLECTED < numbers[at + COLLECTED] {
         return false;
     }
-    if Line::MOST_JOINED < numbers[at + 2] {
+    if Line::MOST_JOINED < numbers[at + JOINED] {
         return false;
     }
-    if (Line::MOST_SECONDS as u16) < numbers[at + 3] {
+    if (Line::MOST_SECONDS as u16) < numbers[at + SECONDS] {
         return false;
     }
-    if (Line::MOST_NUMBER as u16) < numbers[at + 4] {
+    if (Line::MOST_NUMBER as u16) < numbers[at + NEXT] {
         return false;
     }
-    if (Line::MOST_NUMBER as u16) + 1 < numbers[at + 5] {
+    if (Line::MOST_NUMBER as u16) + 1 < numbers[at + LAST] {
         return false;
     }
-    numbers[at + 6] <= 1
+    numbers[at + REFUSING] <= 1
 }
 
 // Whether the three memories have the sizes of document 01.
@@ -134,7 +86,7 @@ pub fn is_right(journal: usize, unfinished: usize, frames: usize) -> bool
 pub fn is_quick(
     line: u8,
     byte: u8,
-    numbers: &[u16; 64],
+    numbers: &[u16; NUMBERS],
     journal: usize,
     unfinished: usize,
     frames: usize,
@@ -155,11 +107,11 @@ pub fn is_quick(
 }
 
 // The byte behind those collected, and one more collected.
-pub fn collect(i: usize, byte: u8, numbers: &mut [u16; 64], frames: &mut [u8])
+pub fn collect(i: usize, byte: u8, numbers: &mut [u16; NUMBERS], frames: &mut [u8])
     requires { ⌜ (i < lines) × (numberAt (now numbers) i 1 ≤ mostCollected) × (length (now frames) ≡ framesSize) ⌝ }
     ensures { λ _. ⌜ (now (numbers .exit) ≡ oneMore (now (numbers .entry)) i) × (now (frames .exit) ≡ set (now (frames .entry)) (frameStart i + numberAt (now (numbers .entry)) i 1) byte) ⌝ }
 {
-    let at = i * FIELDS + 1;
+    let at = i * FIELDS + COLLECTED;
     let collected = numbers[at];
     let place = i * memory::FRAME_PART + collected as usize;
     frames[place] = byte;
@@ -167,7 +119,7 @@ pub fn collect(i: usize, byte: u8, numbers: &mut [u16; 64], frames: &mut [u8])
 }
 
 // Whether a byte is only collected: inside a frame that it does not end.
-pub fn collects(numbers: &[u16; 64], i: usize, byte: u8) -> bool
+pub fn collects(numbers: &[u16; NUMBERS], i: usize, byte: u8) -> bool
     requires { ⌜ i < lines ⌝ }
     ensures { λ r. ⌜ r ≡ onlyCollects (now (numbers .entry)) i byte ⌝ }
 {
@@ -178,28 +130,29 @@ pub fn collects(numbers: &[u16; 64], i: usize, byte: u8) -> bool
     if byte == LF {
         return false;
     }
-    numbers[at + 1] != Line::MOST_COLLECTED
+    numbers[at + COLLECTED] != Line::MOST_COLLECTED
 }
 
 // The record that a line's numbers tell.
-pub fn record_of(numbers: &[u16; 64], i: usize) -> Line
+pub fn record_of(numbers: &[u16; NUMBERS], i: usize) -> Line
     requires { ⌜ (i < lines) × (withinNumbers (now numbers) i ≡ true) ⌝ }
     ensures { λ r. ⌜ r ≡ lineOf (now (numbers .entry)) i ⌝ }
 {
     let at = i * FIELDS;
     let state = state_of(numbers[at]);
-    let last = last_of(numbers[at + 5]);
+    let last = last_of(numbers[at + LAST]);
     Line {
         state,
-        collected: numbers[at + 1],
-        joined: numbers[at + 2],
-        seconds: numbers[at + 3] as u8,
-        next: numbers[at + 4] as u8,
+        collected: numbers[at + COLLECTED],
+        joined: numbers[at + JOINED],
+        seconds: numbers[at + SECONDS] as u8,
+        next: numbers[at + NEXT] as u8,
         last,
-        refusing: numbers[at + 6] == 1,
+        refusing: numbers[at + REFUSING] == 1,
     }
 }
 
+// 0 neutral, 1 waiting, 2 inside.
 fn state_of(n: u16) -> State
     ensures { λ r. ⌜ r ≡ stateOf n ⌝ }
 {
@@ -212,6 +165,7 @@ fn state_of(n: u16) -> State
     State::Inside
 }
 
+// 0 for none, else one more than the number.
 fn last_of(n: u16) -> Last
     requires { ⌜ n ≤ 256 ⌝ }
     ensures { λ r. ⌜ r ≡ lastOf n ⌝ }
@@ -223,7 +177,7 @@ fn last_of(n: u16) -> Last
 }
 
 // Puts a record in the place of a line's first seven numbers.
-pub fn put_record(numbers: &mut [u16; 64], i: usize, line: Line)
+pub fn put_record(numbers: &mut [u16; NUMBERS], i: usize, line: Line)
     requires { ⌜ i < lines ⌝ }
     ensures { λ _. ⌜ now (numbers .exit) ≡ withLine (now (numbers .entry)) i line ⌝ }
 {
@@ -231,12 +185,12 @@ pub fn put_record(numbers: &mut [u16; 64], i: usize, line: Line)
     let state = line.state;
     let last = line.last;
     numbers[at] = state_number(state);
-    numbers[at + 1] = line.collected;
-    numbers[at + 2] = line.joined;
-    numbers[at + 3] = line.seconds as u16;
-    numbers[at + 4] = line.next as u16;
-    numbers[at + 5] = last_number(last);
-    numbers[at + 6] = flag_number(line.refusing);
+    numbers[at + COLLECTED] = line.collected;
+    numbers[at + JOINED] = line.joined;
+    numbers[at + SECONDS] = line.seconds as u16;
+    numbers[at + NEXT] = line.next as u16;
+    numbers[at + LAST] = last_number(last);
+    numbers[at + REFUSING] = flag_number(line.refusing);
 }
 
 fn state_number(state: State) -> u16
@@ -267,7 +221,7 @@ fn flag_number(b: bool) -> u16
     0
 }
 
-// A cast by itself asks nothing of the number.
+// A cast of its own tells the caller that the number is below 2 to the 32.
 fn wide(n: u32) -> usize
     ensures { λ r. ⌜ (r ≡ n) × (r < 2 ^ 32) ⌝ }
 {
@@ -275,11 +229,11 @@ fn wide(n: u32) -> usize
 }
 
 // The ledger that the numbers tell.
-pub fn ledger_of(numbers: &[u16; 64], used: &[u32; 9]) -> Ledger
+pub fn ledger_of(numbers: &[u16; NUMBERS], used: &[u32; COUNTS]) -> Ledger
     ensures { λ r. ⌜ (r ≡ ledgerOf (now (numbers .entry)) (now (used .entry))) × (r .in_use < 2 ^ 32) ⌝ }
 {
     Ledger {
-        in_use: wide(used[8]),
+        in_use: wide(used[memory::LINES]),
         used: [
             used[0],
             used[1],
@@ -303,21 +257,21 @@ pub fn ledger_of(numbers: &[u16; 64], used: &[u32; 9]) -> Ledger
     }
 }
 
-// Puts back what a ledger has of a line.
-pub fn put_serial(numbers: &mut [u16; 64], i: usize, ledger: Ledger)
+// Puts back what a ledger has of a line: its serial, and its used count with the bytes in use.
+pub fn put_serial(numbers: &mut [u16; NUMBERS], i: usize, ledger: Ledger)
     requires { ⌜ i < lines ⌝ }
     ensures { λ _. ⌜ now (numbers .exit) ≡ withSerial (now (numbers .entry)) i ledger ⌝ }
 {
-    let at = i * FIELDS + 7;
+    let at = i * FIELDS + SERIAL;
     numbers[at] = ledger.serials[i];
 }
 
-pub fn put_used(used: &mut [u32; 9], i: usize, ledger: Ledger)
+pub fn put_used(used: &mut [u32; COUNTS], i: usize, ledger: Ledger)
     requires { ⌜ (i < lines) × (ledger .in_use < 2 ^ 32) ⌝ }
     ensures { λ _. ⌜ now (used .exit) ≡ withUsed (now (used .entry)) i ledger ⌝ }
 {
     used[i] = ledger.used[i];
-    used[8] = ledger.in_use as u32;
+    used[memory::LINES] = ledger.in_use as u32;
 }
 
 fn reply_byte(reply: Reply) -> u8
@@ -329,6 +283,7 @@ fn reply_byte(reply: Reply) -> u8
     }
 }
 
+// The answer to an event.
 pub fn told(answer: Answer) -> Answered
     ensures { λ r. ⌜ r ≡ Plain·told answer ⌝ }
 {
@@ -340,6 +295,7 @@ pub fn told(answer: Answer) -> Answered
     }
 }
 
+// The answer to a taking; only 8 has values.
 pub fn told_taking(took: Took) -> Answered
     ensures { λ r. ⌜ r ≡ toldTaking took ⌝ }
 {

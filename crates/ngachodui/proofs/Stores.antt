@@ -1,0 +1,168 @@
+-- What is read after a record and a serial are put into the numbers: they are read back, and every other number is as it was.
+-- Assumes nothing.
+use mathlib.Core.Path.{_≡_, refl, sym, ap, _∙_}
+use mathlib.Core.Logic.{_≢_}
+use mathlib.Core.Bool.{Bool, true, false}
+use mathlib.Core.List.{List, [], _∷_}
+use Prim.Native.Nat.{ℕ, zero, suc, _+_, _≤_, _<_}
+use native.Mathlib.Nat.{add-zero, add-suc, suc-add}
+use native.Mathlib.Decide.{decLt}
+use native.Mathlib.Omega.{arith}
+use native.Mathlib.Numerals.{add-one}
+use borrow.Author.Tests.{le-leb, leb-true}
+use lib.Dec.{eqb}
+use lib.ListN.{length, getD, set, length-set}
+use lib.Seq.{sets, length-sets, getD-set-same, getD-set-other}
+use Rattle.frame.specs.Number.{mostNumber}
+use Rattle.journal.specs.declared.Ledger.{Ledger}
+use Rattle.line.specs.Line.{lastWithin, withinLimits}
+use Rattle.line.specs.declared.Line.{Line}
+use Rattle.line.specs.declared.State.{State}
+use Rattle.line.specs.declared.State.the-variants.{Neutral, Waiting, Inside}
+use Rattle.line.specs.declared.Last.{Last}
+use Rattle.line.specs.declared.Last.the-variants.{NoneYet, Number}
+use Rattle.line.proofs.Limits.{within-facts}
+use Rattle.ngachodui.specs.Plain.{inside, fields, start, firstAt, numberAt, stateOf, stateNumber, lastOf, lastNumber, flag, withinNumbers, lineOf, withLine, withSerial}
+
+-- a run of stores: before it, behind it and in it
+sets-before : (vs l : List ℕ) (i p : ℕ) → p < i → getD (sets l i vs) p 0 ≡ getD l p 0
+sets-before [] l i p h = refl
+sets-before (a ∷ vs) l i p h = sets-before vs (set l i a) (suc i) p (omega arith) ∙ getD-set-other l i p a 0 (λ q. absurd (omega arith))
+
+sets-behind : (vs l : List ℕ) (i p : ℕ) → i + length vs ≤ p → getD (sets l i vs) p 0 ≡ getD l p 0
+sets-behind [] l i p h = refl
+sets-behind (a ∷ vs) l i p h = sets-behind vs (set l i a) (suc i) p (omega arith) ∙ getD-set-other l i p a 0 (λ q. absurd (omega arith))
+
+sets-in : (vs l : List ℕ) (i k : ℕ) → k < length vs → i + length vs ≤ length l → getD (sets l i vs) (i + k) 0 ≡ getD vs k 0
+sets-in [] l i k h r = absurd (omega arith)
+sets-in (a ∷ vs) l i zero h r = rw add-zero (sets-before vs (set l i a) (suc i) i (omega arith) ∙ getD-set-same l i a 0 (omega arith))
+sets-in (a ∷ vs) l i (suc k) h r =
+    ap (λ (p : ℕ). getD (sets l i (a ∷ vs)) p 0) (add-suc i k ∙ sym (suc-add i k))
+    ∙ sets-in vs (set l i a) (suc i) k (omega arith) (omega (arith, length-set l i a))
+
+-- a line's eight numbers
+abbrev numbersOf : Line → ℕ → List ℕ
+numbersOf l serial = stateNumber (l .state) ∷ l .collected ∷ l .joined ∷ l .seconds ∷ l .next ∷ lastNumber (l .last) ∷ flag (l .refusing) ∷ serial ∷ []
+
+in-a-row : (ns : List ℕ) (at a b c d e f g : ℕ) (s t u v w x y z : ℕ) → a ≡ suc at → b ≡ suc (suc at) → c ≡ suc (suc (suc at)) → d ≡ suc (suc (suc (suc at)))
+    → e ≡ suc (suc (suc (suc (suc at)))) → f ≡ suc (suc (suc (suc (suc (suc at))))) → g ≡ suc (suc (suc (suc (suc (suc (suc at))))))
+    → set (set (set (set (set (set (set (set ns at s) a t) b u) c v) d w) e x) f y) g z ≡ sets ns at (s ∷ t ∷ u ∷ v ∷ w ∷ x ∷ y ∷ z ∷ [])
+in-a-row ns at a b c d e f g s t u v w x y z p₁ p₂ p₃ p₄ p₅ p₆ p₇ = rw (p₁, p₂, p₃, p₄, p₅, p₆, p₇)
+
+module _ (ns : List ℕ) (i : ℕ) (l : Line) (d : Ledger) where
+  abbrev pub stored : List ℕ
+  stored = withSerial (withLine ns i l) i d
+
+  as-row : stored ≡ sets ns (start i) (numbersOf l (getD (d .serials) i 0))
+  unfolding withLine
+  as-row = in-a-row ns (start i) (start i + 1) (start i + 2) (start i + 3) (start i + 4) (start i + 5) (start i + 6) (start i + 7) _ _ _ _ _ _ _ _
+      (omega arith) (omega arith) (omega arith) (omega arith) (omega arith) (omega arith) (omega arith)
+
+  pub stored-length : length stored ≡ length ns
+  stored-length = ap length as-row ∙ length-sets ns (start i) (numbersOf l (getD (d .serials) i 0))
+
+  -- another line's numbers
+  pub number-other : (k m : ℕ) → k ≢ i → m < fields → getD stored (start k + m) 0 ≡ getD ns (start k + m) 0
+  number-other k m n h = ap (λ (x : List ℕ). getD x (start k + m) 0) as-row ∙ elim (decLt k i) [
+    | yes q ↦ sets-before (numbersOf l (getD (d .serials) i 0)) ns (start i) (start k + m) (omega arith)
+    | no q ↦ sets-behind (numbersOf l (getD (d .serials) i 0)) ns (start i) (start k + m) (omega arith)
+  ]
+
+  pub first-other : (k : ℕ) → k ≢ i → firstAt stored k ≡ firstAt ns k
+  first-other k n = ap (λ (p : ℕ). getD stored p 0) (sym (add-zero (start k))) ∙ number-other k 0 n (omega arith) ∙ ap (λ (p : ℕ). getD ns p 0) (add-zero (start k))
+
+  -- its own
+  module _ (room : start i + fields ≤ length ns) where
+    number-own : (k : ℕ) → k < fields → getD stored (start i + k) 0 ≡ getD (numbersOf l (getD (d .serials) i 0)) k 0
+    number-own k h = ap (λ (x : List ℕ). getD x (start i + k) 0) as-row ∙ sets-in (numbersOf l (getD (d .serials) i 0)) ns (start i) k h room
+
+    first-own : firstAt stored i ≡ stateNumber (l .state)
+    first-own = ap (λ (p : ℕ). getD stored p 0) (sym (add-zero (start i))) ∙ number-own 0 (omega arith)
+
+    pub serial-own : numberAt stored i 7 ≡ getD (d .serials) i 0
+    serial-own = number-own 7 (omega arith)
+
+-- what a record's numbers tell is the record
+state-told : (s : State) → stateOf (stateNumber s) ≡ s
+state-told Neutral = refl
+state-told Waiting = refl
+state-told Inside = refl
+
+last-told : (x : Last) → lastOf (lastNumber x) ≡ x
+last-told NoneYet = refl
+last-told (Number n) = rw add-one
+
+flag-told : (b : Bool) → eqb (flag b) 1 ≡ b
+flag-told true = refl
+flag-told false = refl
+
+-- and within the limits if it is
+state-low : (s : State) → stateNumber s ≤ inside
+state-low Neutral = omega arith
+state-low Waiting = omega arith
+state-low Inside = omega arith
+
+last-low : (x : Last) → lastWithin x ≡ true → lastNumber x ≤ mostNumber + 1
+last-low NoneYet h = omega arith
+last-low (Number n) h = omega (arith, leb-true n mostNumber h)
+
+flag-low : (b : Bool) → flag b ≤ 1
+flag-low true = omega arith
+flag-low false = omega arith
+
+module _ (ns : List ℕ) (i : ℕ) (l : Line) (d : Ledger) where
+  pub line-other : (k : ℕ) → k ≢ i → lineOf (stored ns i l d) k ≡ lineOf ns k
+  line-other k n = rw (
+    first-other ns i l d k n,
+    number-other ns i l d k 1 n (omega arith),
+    number-other ns i l d k 2 n (omega arith),
+    number-other ns i l d k 3 n (omega arith),
+    number-other ns i l d k 4 n (omega arith),
+    number-other ns i l d k 5 n (omega arith),
+    number-other ns i l d k 6 n (omega arith),
+  )
+
+  pub within-other : (k : ℕ) → k ≢ i → withinNumbers (stored ns i l d) k ≡ withinNumbers ns k
+  unfolding withinNumbers
+  within-other k n = rw (
+    first-other ns i l d k n,
+    number-other ns i l d k 1 n (omega arith),
+    number-other ns i l d k 2 n (omega arith),
+    number-other ns i l d k 3 n (omega arith),
+    number-other ns i l d k 4 n (omega arith),
+    number-other ns i l d k 5 n (omega arith),
+    number-other ns i l d k 6 n (omega arith),
+  )
+
+  module _ (room : start i + fields ≤ length ns) where
+    pub line-own : lineOf (stored ns i l d) i ≡ l
+    line-own =
+        let state : stateOf (firstAt (stored ns i l d) i) ≡ l .state = ap stateOf (first-own ns i l d room) ∙ state-told (l .state) in
+        let collected : numberAt (stored ns i l d) i 1 ≡ l .collected = number-own ns i l d room 1 (omega arith) in
+        let joined : numberAt (stored ns i l d) i 2 ≡ l .joined = number-own ns i l d room 2 (omega arith) in
+        let seconds : numberAt (stored ns i l d) i 3 ≡ l .seconds = number-own ns i l d room 3 (omega arith) in
+        let next : numberAt (stored ns i l d) i 4 ≡ l .next = number-own ns i l d room 4 (omega arith) in
+        let last : lastOf (numberAt (stored ns i l d) i 5) ≡ l .last = ap lastOf (number-own ns i l d room 5 (omega arith)) ∙ last-told (l .last) in
+        let refusing : eqb (numberAt (stored ns i l d) i 6) 1 ≡ l .refusing = ap (λ (n : ℕ). eqb n 1) (number-own ns i l d room 6 (omega arith)) ∙ flag-told (l .refusing) in
+        λ z. record { state = state z; collected = collected z; joined = joined z; seconds = seconds z; next = next z; last = last z; refusing = refusing z }
+
+    pub within-own : withinLimits l ≡ true → withinNumbers (stored ns i l d) i ≡ true
+    unfolding withinNumbers
+    within-own h =
+        let w = within-facts l h in
+        rw (
+          first-own ns i l d room,
+          number-own ns i l d room 1 (omega arith),
+          number-own ns i l d room 2 (omega arith),
+          number-own ns i l d room 3 (omega arith),
+          number-own ns i l d room 4 (omega arith),
+          number-own ns i l d room 5 (omega arith),
+          number-own ns i l d room 6 (omega arith),
+          le-leb _ _ (state-low (l .state)),
+          le-leb _ _ (w .collected),
+          le-leb _ _ (w .joined),
+          le-leb _ _ (w .seconds),
+          le-leb _ _ (w .next),
+          le-leb _ _ (last-low (l .last) (w .last)),
+          le-leb _ _ (flag-low (l .refusing)),
+        )

@@ -1,0 +1,123 @@
+// Texts for hosts: cut, read, escaped and unescaped, with the standard delimiters and today's frame limit.
+ghost use mathlib.Core.Path.{_≡_};
+ghost use Rattle.record.specs.Delimiters.{standard};
+ghost use Rattle.record.specs.Faults.{isMessage};
+ghost use Rattle.ngachodui.specs.Texts.{done, refusedWith, madeByCutting, madeByPutting, madeByReading, CutFrames, Escaped, Unescaped, RecordsRead};
+use component::Put;
+use cutting::Framed;
+use line::Answer;
+use owner::Reading;
+use record::Delimiters;
+
+// What became of a text: 0 and how much was written (bytes, or records that were read), or 46 or 47 and 0.
+#[repr(C)]
+pub struct Made {
+    pub number: u8,
+    pub length: usize,
+}
+
+// Cuts a message into frames.
+#[no_mangle]
+pub extern "C" fn ngachodui_cut(text: &[u8], out: &mut [u8]) -> Made
+    ensures { λ r. ⌜ CutFrames (now (text .entry)) (now (out .entry)) r (now (out .exit)) ⌝ }
+{
+    let framed = cutting::cut(memory::FRAME_LIMIT, text, out);
+    made_by_cutting(framed)
+}
+
+// Escapes the delimiters of a text.
+#[no_mangle]
+pub extern "C" fn ngachodui_escape(text: &[u8], out: &mut [u8]) -> Made
+    ensures { λ r. ⌜ Escaped (now (text .entry)) (now (out .entry)) r (now (out .exit)) ⌝ }
+{
+    let put = component::escape(Delimiters::standard(), text, out);
+    made_by_putting(put)
+}
+
+// Takes the escapes out of a component.
+#[no_mangle]
+pub extern "C" fn ngachodui_unescape(component: &[u8], out: &mut [u8]) -> Made
+    ensures { λ r. ⌜ Unescaped (now (component .entry)) (now (out .entry)) r (now (out .exit)) ⌝ }
+{
+    let put = component::unescape(Delimiters::standard(), component, out);
+    made_by_putting(put)
+}
+
+// Reads a message: each record's type (its letter), offset, length without CR, and owner (its number from 1, or 0).
+#[no_mangle]
+pub extern "C" fn ngachodui_read(
+    text: &[u8],
+    types: &mut [u8],
+    offsets: &mut [u16],
+    lengths: &mut [u16],
+    owners: &mut [u16],
+) -> Made
+    ensures { λ r. ⌜ RecordsRead (now (text .entry)) (now (types .entry)) (now (offsets .entry)) (now (lengths .entry)) (now (owners .entry))
+        r (now (types .exit)) (now (offsets .exit)) (now (lengths .exit)) (now (owners .exit)) ⌝ }
+{
+    let reading = owner::read(
+        Delimiters::standard(),
+        text,
+        types,
+        offsets,
+        lengths,
+        owners,
+    );
+    made_by_reading(reading)
+}
+
+// Whether a text is a message.
+#[no_mangle]
+pub extern "C" fn ngachodui_is_message(text: &[u8]) -> bool
+    ensures { λ r. ⌜ r ≡ isMessage standard (now (text .entry)) ⌝ }
+{
+    record::is_message(text)
+}
+
+fn made_by_cutting(framed: Framed) -> Made
+    ensures { λ r. ⌜ r ≡ madeByCutting framed ⌝ }
+{
+    match framed {
+        Framed::Length(n) => done(n),
+        Framed::NoMessage => refused_with(Answer::Malformed),
+        Framed::NoRoom => refused_with(Answer::NotFitting),
+    }
+}
+
+fn made_by_putting(put: Put) -> Made
+    ensures { λ r. ⌜ r ≡ madeByPutting put ⌝ }
+{
+    match put {
+        Put::Done(n) => done(n),
+        Put::Malformed => refused_with(Answer::Malformed),
+        Put::Short => refused_with(Answer::NotFitting),
+    }
+}
+
+fn made_by_reading(reading: Reading) -> Made
+    ensures { λ r. ⌜ r ≡ madeByReading reading ⌝ }
+{
+    match reading {
+        Reading::Read(n) => done(n),
+        Reading::NoMessage => refused_with(Answer::Malformed),
+        Reading::Short => refused_with(Answer::NotFitting),
+    }
+}
+
+fn done(n: usize) -> Made
+    ensures { λ r. ⌜ r ≡ done n ⌝ }
+{
+    Made {
+        number: 0,
+        length: n,
+    }
+}
+
+fn refused_with(answer: Answer) -> Made
+    ensures { λ r. ⌜ r ≡ refusedWith answer ⌝ }
+{
+    Made {
+        number: answer.number(),
+        length: 0,
+    }
+}

@@ -1,0 +1,238 @@
+/* Calls every function of include/ngachodui.h once or more and compares what it answers and leaves with
+ * document 01's rules. It says what differs, and fails if anything does. */
+#include <stdio.h>
+#include <string.h>
+
+#include "ngachodui.h"
+
+static struct ngachodui_line lines[NGACHODUI_LINES];
+static struct ngachodui_counts counts;
+static uint8_t journal[NGACHODUI_JOURNAL_SIZE];
+static uint8_t unfinished[NGACHODUI_UNFINISHED_SIZE];
+static uint8_t frames[NGACHODUI_FRAMES_SIZE];
+static uint8_t buffer[NGACHODUI_TEXT_LIMIT];
+
+static unsigned checks, wrong;
+
+static void check(bool ok, const char *what)
+{
+    checks++;
+    if (!ok) {
+        wrong++;
+        printf("wrong: %s\n", what);
+    }
+}
+
+static void check_number(unsigned is, unsigned must_be, const char *what)
+{
+    checks++;
+    if (is != must_be) {
+        wrong++;
+        printf("wrong: %s: %u and not %u\n", what, is, must_be);
+    }
+}
+
+static struct ngachodui_answered byte_on(uint8_t line, uint8_t byte)
+{
+    return ngachodui_byte(line, byte, lines, &counts, journal, sizeof journal, unfinished, sizeof unfinished, frames, sizeof frames);
+}
+
+static struct ngachodui_answered seconds_on(uint8_t line, uint8_t seconds)
+{
+    return ngachodui_seconds(line, seconds, lines, &counts, journal, sizeof journal, unfinished, sizeof unfinished, frames, sizeof frames);
+}
+
+static struct ngachodui_answered take_from(uint8_t line, size_t buffer_length)
+{
+    return ngachodui_take(line, lines, &counts, journal, sizeof journal, buffer, buffer_length);
+}
+
+/* Sends bytes; all but the last must be answered 0. */
+static struct ngachodui_answered send(uint8_t line, const uint8_t *bytes, size_t length, const char *what)
+{
+    struct ngachodui_answered a = {0, 0, 0, 0};
+    for (size_t i = 0; i < length; i++) {
+        a = byte_on(line, bytes[i]);
+        if (i + 1 < length)
+            check_number(a.number, NGACHODUI_NOTHING, what);
+    }
+    return a;
+}
+
+#define BYTES(s) (const uint8_t *)(s), sizeof(s) - 1
+
+static const uint8_t message[] = "H|\\^&\rL|1|N\r"; /* with the 0 of a C string behind it */
+#define MESSAGE message, sizeof message - 1
+
+static void test_dialogue(void)
+{
+    ngachodui_fresh(lines, &counts);
+    check_number(lines[0].next, 1, "a fresh line's next number");
+    check_number(lines[7].next, 1, "the last fresh line's next number");
+    check_number(counts.in_use, 0, "bytes in use at first");
+
+    struct ngachodui_answered a = byte_on(0, 0x05);
+    check_number(a.number, NGACHODUI_OPENED, "ENQ");
+    check_number(a.reply, 0x06, "the reply to ENQ");
+    check_number(lines[0].state, NGACHODUI_WAITING, "the state after ENQ");
+    a = byte_on(0, 0x05);
+    check_number(a.number, NGACHODUI_BUSY, "a second ENQ");
+    check_number(a.reply, 0x15, "the reply to a second ENQ");
+
+    a = send(0, BYTES("\x02" "1H|\\^&\r" "\x03" "E4\r\n"), "a frame with a wrong check");
+    check_number(a.number, NGACHODUI_WRONG_CHECK, "a wrong check");
+    a = send(0, BYTES("\x02" "1H|\\^&\r" "\x03" "E5\r\n"), "the first frame");
+    check_number(a.number, NGACHODUI_ACCEPTED, "the first frame");
+    check_number(lines[0].last, 2, "the last number, kept one higher");
+    a = send(0, BYTES("\x02" "1H|\\^&\r" "\x03" "E5\r\n"), "the first frame again");
+    check_number(a.number, NGACHODUI_REPEATED, "the first frame again");
+    a = send(0, BYTES("\x02" "2L|1|N\r" "\x03" "05\r\n"), "the second frame");
+    check_number(a.number, NGACHODUI_STORED, "the message");
+    check_number(a.reply, 0x06, "the reply to the message");
+    check_number(counts.in_use, 16, "a stored message of 12 bytes");
+    check_number(counts.used[0], 16, "the line's used count");
+    check_number(lines[0].serial, 1, "the next serial");
+    a = byte_on(0, 0x04);
+    check_number(a.number, NGACHODUI_ENDED, "EOT");
+    check_number(a.reply, 0, "no reply to EOT");
+
+    memset(buffer, 0xaa, sizeof buffer);
+    a = take_from(0, 11);
+    check_number(a.number, NGACHODUI_BUFFER_SHORT, "a buffer of 11 bytes");
+    check_number(buffer[0], 0xaa, "the buffer after 45");
+    a = take_from(0, sizeof buffer);
+    check_number(a.number, NGACHODUI_TAKEN, "a taking");
+    check_number((unsigned)a.length, 12, "the length taken");
+    check_number(a.serial, 0, "the serial taken");
+    check(memcmp(buffer, MESSAGE) == 0, "the text taken");
+    check_number(buffer[12], 0xaa, "the buffer's rest");
+    check_number(counts.in_use, 0, "bytes in use after the taking");
+    a = take_from(0, sizeof buffer);
+    check_number(a.number, NGACHODUI_NOTHING_WAITING, "a second taking");
+}
+
+/* Each frame that is cut, sent to a fresh line, is accepted, and the message comes back; the second of two has serial 1. */
+static void test_cut_and_sent(void)
+{
+    uint8_t out[26 + 3];
+    memset(out, 0xaa, sizeof out);
+    struct ngachodui_made m = ngachodui_cut(MESSAGE, out, 25);
+    check_number(m.number, NGACHODUI_NOT_FITTING, "25 bytes for 26");
+    check_number((unsigned)m.length, 0, "the length with 47");
+    check_number(out[0], 0xaa, "the output after 47");
+    m = ngachodui_cut(BYTES("L|1|N\r"), out, sizeof out);
+    check_number(m.number, NGACHODUI_MALFORMED, "no message to cut");
+    m = ngachodui_cut(MESSAGE, out, sizeof out);
+    check_number(m.number, 0, "a message cut");
+    check_number((unsigned)m.length, 26, "its length");
+    check(memcmp(out, "\x02" "1H|\\^&\r" "\x03" "E5\r\n" "\x02" "2L|1|N\r" "\x03" "05\r\n", 26) == 0, "its frames");
+    check_number(out[26], 0xaa, "the output's rest");
+
+    ngachodui_fresh(lines, &counts);
+    for (unsigned serial = 0; serial < 2; serial++) {
+        check_number(byte_on(5, 0x05).number, NGACHODUI_OPENED, "ENQ on line 5");
+        check_number(send(5, out, 13, "the first frame cut").number, NGACHODUI_ACCEPTED, "the first frame cut");
+        check_number(send(5, out + 13, 13, "the second frame cut").number, NGACHODUI_STORED, "the second frame cut");
+        check_number(byte_on(5, 0x04).number, NGACHODUI_ENDED, "EOT on line 5");
+    }
+    for (unsigned serial = 0; serial < 2; serial++) {
+        struct ngachodui_answered a = take_from(5, sizeof buffer);
+        check_number(a.number, NGACHODUI_TAKEN, "a taking from line 5");
+        check_number(a.serial, serial, "its serial");
+        check_number((unsigned)a.length, 12, "its length");
+    }
+}
+
+static void test_seconds(void)
+{
+    ngachodui_fresh(lines, &counts);
+    check_number(seconds_on(3, 255).number, NGACHODUI_NOTHING, "seconds on a neutral line");
+    check_number(byte_on(3, 0x05).number, NGACHODUI_OPENED, "ENQ on line 3");
+    check_number(seconds_on(3, 29).number, NGACHODUI_NOTHING, "29 seconds");
+    check_number(lines[3].seconds, 29, "the second count");
+    check_number(seconds_on(3, 1).number, NGACHODUI_TIMED_OUT, "30 seconds");
+    check_number(lines[3].state, NGACHODUI_NEUTRAL, "the state after 30 seconds");
+}
+
+static void test_refusals(void)
+{
+    ngachodui_fresh(lines, &counts);
+    struct ngachodui_line lines_before[NGACHODUI_LINES];
+    check_number(byte_on(8, 0x05).number, NGACHODUI_NO_LINE, "line 8");
+    check_number(seconds_on(8, 1).number, NGACHODUI_NO_LINE, "seconds on line 8");
+    check_number(take_from(255, 0).number, NGACHODUI_NO_LINE, "a taking from line 255");
+    struct ngachodui_answered a = ngachodui_byte(0, 0x05, lines, &counts, journal, sizeof journal, unfinished, sizeof unfinished - 1, frames, sizeof frames);
+    check_number(a.number, NGACHODUI_WRONG_SIZE, "31,999 bytes for unfinished text");
+    a = ngachodui_take(0, lines, &counts, journal, 1, buffer, sizeof buffer);
+    check_number(a.number, NGACHODUI_WRONG_SIZE, "a journal of 1 byte");
+
+    lines[1].state = 3;
+    memcpy(lines_before, lines, sizeof lines);
+    check_number(byte_on(1, 0x05).number, NGACHODUI_BEYOND_LIMITS, "a state of 3");
+    check(memcmp(lines_before, lines, sizeof lines) == 0, "the numbers after 42");
+    check_number(byte_on(0, 0x05).number, NGACHODUI_OPENED, "another line beside it");
+
+    counts.in_use = 5;
+    check_number(take_from(0, sizeof buffer).number, NGACHODUI_BROKEN, "bytes in use that are no chain");
+    check_number(counts.in_use, 5, "the counts after 43");
+
+    /* the 246th byte behind STX is not LF */
+    ngachodui_fresh(lines, &counts);
+    check_number(byte_on(7, 0x05).number, NGACHODUI_OPENED, "ENQ on line 7");
+    check_number(byte_on(7, 0x02).number, NGACHODUI_NOTHING, "STX");
+    for (int i = 0; i < 245; i++)
+        check_number(byte_on(7, 'x').number, NGACHODUI_NOTHING, "a collected byte");
+    check_number(lines[7].collected, 245, "245 collected");
+    check_number(frames[7 * 246 + 244], 'x', "the last byte collected");
+    check_number(byte_on(7, 'x').number, NGACHODUI_UNENDED, "the 246th byte");
+    check_number(lines[7].collected, 0, "none collected");
+}
+
+static void test_texts(void)
+{
+    check(ngachodui_is_message(MESSAGE), "a message");
+    check(!ngachodui_is_message(BYTES("L|1|N\r")), "no message");
+
+    uint8_t out[8];
+    memset(out, 0xaa, sizeof out);
+    struct ngachodui_made m = ngachodui_escape(BYTES("a^b"), out, 4);
+    check_number(m.number, NGACHODUI_NOT_FITTING, "4 bytes for 5");
+    m = ngachodui_escape(BYTES("a^b"), out, sizeof out);
+    check_number(m.number, 0, "an escaping");
+    check_number((unsigned)m.length, 5, "its length");
+    check(memcmp(out, "a&S&b\xaa", 6) == 0, "its text and the output's rest");
+    uint8_t plain[8];
+    m = ngachodui_unescape(out, 5, plain, sizeof plain);
+    check_number(m.number, 0, "an unescaping");
+    check_number((unsigned)m.length, 3, "its length");
+    check(memcmp(plain, "a^b", 3) == 0, "its text");
+    check_number(ngachodui_unescape(BYTES("a&X&b"), plain, sizeof plain).number, NGACHODUI_MALFORMED, "a wrong escape");
+    check_number(ngachodui_unescape(out, 5, plain, 2).number, NGACHODUI_NOT_FITTING, "2 bytes for 3");
+
+    static const uint8_t results[] = "H|\\^&\rP|1\rO|1\rR|1|^^^GLU|5.1\rC|1|x\rL|1|N\r";
+    uint8_t types[7];
+    uint16_t offsets[7], lengths[7], owners[7];
+    memset(owners, 0xaa, sizeof owners);
+    m = ngachodui_read(results, sizeof results - 1, types, 7, offsets, 7, lengths, 5, owners, 7);
+    check_number(m.number, NGACHODUI_NOT_FITTING, "5 lengths for 6");
+    m = ngachodui_read(results, sizeof results - 1, types, 7, offsets, 7, lengths, 6, owners, 7);
+    check_number(m.number, 0, "a reading");
+    check_number((unsigned)m.length, 6, "its records");
+    check(memcmp(types, "HPORCL", 6) == 0, "their types");
+    static const uint16_t starts[] = {0, 6, 10, 14, 29, 35}, sizes[] = {5, 3, 3, 14, 5, 5}, above[] = {0, 1, 2, 3, 4, 0};
+    check(memcmp(offsets, starts, sizeof starts) == 0, "their offsets");
+    check(memcmp(lengths, sizes, sizeof sizes) == 0, "their lengths");
+    check(memcmp(owners, above, sizeof above) == 0, "their owners");
+    check_number(owners[6], 0xaaaa, "the rest of the owners");
+}
+
+int main(void)
+{
+    test_dialogue();
+    test_cut_and_sent();
+    test_seconds();
+    test_refusals();
+    test_texts();
+    printf("%u checks, %u wrong\n", checks, wrong);
+    return wrong != 0;
+}

@@ -1,0 +1,94 @@
+//! What was run, counted: a comparison says something only of what it has met.
+
+use crate::boundary::Answered;
+use ngachodui_model::lines::Kind;
+use ngachodui_model::world::Op;
+use std::collections::BTreeMap;
+
+#[derive(Default)]
+pub struct Counts {
+    pub runs: u64,
+    /// Bytes, seconds and takings.
+    pub events: u64,
+    kinds: BTreeMap<&'static str, u64>,
+    answers: BTreeMap<u8, u64>,
+    /// By the function's name and its outcome.
+    texts: BTreeMap<(&'static str, u8), u64>,
+}
+
+impl Counts {
+    pub fn operation(&mut self, op: Op, answer: Option<Answered>) {
+        let kind = match op {
+            Op::Event { kind, .. } => match kind {
+                Kind::Byte(_) => "bytes",
+                Kind::Seconds(_) => "seconds",
+            },
+            Op::Take { .. } => "takings",
+            Op::Fresh => "fresh starts",
+            Op::Poke { .. } => "memory bytes set",
+            Op::Lend { .. } => "sizes lent",
+            Op::InUse { .. } | Op::Used { .. } | Op::Serial { .. } => "ledger counts set",
+            Op::State { .. }
+            | Op::Collected { .. }
+            | Op::Joined { .. }
+            | Op::Seconds { .. }
+            | Op::Next { .. }
+            | Op::Last { .. }
+            | Op::Refusing { .. } => "record counts set",
+        };
+        *self.kinds.entry(kind).or_default() += 1;
+        if let Some(answer) = answer {
+            self.events += 1;
+            *self.answers.entry(answer.number).or_default() += 1;
+        }
+    }
+
+    /// An event on a record that the model cannot hold.
+    pub fn odd_record(&mut self) {
+        *self.kinds.entry("events on odd records").or_default() += 1;
+    }
+
+    pub fn text(&mut self, function: &'static str, outcome: u8) {
+        *self.texts.entry((function, outcome)).or_default() += 1;
+    }
+
+    pub fn print(&self) {
+        println!("{} runs, {} events", self.runs, self.events);
+        for (kind, count) in &self.kinds {
+            println!("  {:<22} {:>12}", kind, count);
+        }
+        println!("answers");
+        for (number, count) in &self.answers {
+            println!("  {:<22} {:>12}", number, count);
+        }
+        println!("texts");
+        for ((function, outcome), count) in &self.texts {
+            println!("  {:<18} {:>3} {:>12}", function, outcome, count);
+        }
+    }
+
+    /// The answers and outcomes of document 01 that have not come up.
+    pub fn missing(&self) -> Vec<String> {
+        let mut missing = Vec::new();
+        for number in (0..=8).chain(20..=31).chain(40..=45) {
+            if !self.answers.contains_key(&number) {
+                missing.push(format!("answer {}", number));
+            }
+        }
+        let outcomes = [
+            ("cut", &[0, 46, 47][..]),
+            ("read", &[0, 46, 47]),
+            ("escape", &[0, 47]),
+            ("unescape", &[0, 46, 47]),
+            ("is_message", &[0, 1]),
+        ];
+        for (function, numbers) in outcomes {
+            for number in numbers {
+                if !self.texts.contains_key(&(function, *number)) {
+                    missing.push(format!("{} {}", function, number));
+                }
+            }
+        }
+        missing
+    }
+}

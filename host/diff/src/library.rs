@@ -1,0 +1,173 @@
+//! The library with memories of its own, driven by the model's operations.
+
+use crate::boundary::{self, Answered, Numbers, Used};
+use crate::fenced::Fenced;
+use ngachodui_model::lines::{Kind, State};
+use ngachodui_model::world::{Memory, Op, BLANK, SPARE};
+use ngachodui_model::LINES;
+
+/// How many numbers a line has, and where each stands.
+pub const FIELDS: usize = 8;
+pub const STATE: usize = 0;
+pub const COLLECTED: usize = 1;
+pub const JOINED: usize = 2;
+pub const SECONDS: usize = 3;
+pub const NEXT: usize = 4;
+pub const LAST: usize = 5;
+pub const REFUSING: usize = 6;
+pub const SERIAL: usize = 7;
+
+/// Where the bytes in use stand among the used counts.
+pub const IN_USE: usize = LINES;
+
+const FENCE: u8 = 0x5A;
+
+/// The numbers and counts, with a fence around each.
+#[repr(C)]
+#[derive(Clone)]
+pub struct Book {
+    before: [u16; 4],
+    pub numbers: Numbers,
+    between: [u32; 2],
+    pub used: Used,
+    behind: [u32; 2],
+}
+
+/// The library's side of a run.
+#[derive(Clone)]
+pub struct Library {
+    pub book: Book,
+    /// Each memory with `SPARE` bytes more than its right size, as the model's world has it.
+    pub journal: Fenced<u8>,
+    pub unfinished: Fenced<u8>,
+    pub frames: Fenced<u8>,
+    lent: [usize; 3],
+    /// The buffer of the last taking.
+    pub buffer: Fenced<u8>,
+}
+
+/// A state as the library numbers it.
+pub fn state_number(state: State) -> u16 {
+    match state {
+        State::Neutral => 0,
+        State::Waiting => 1,
+        State::Inside => 2,
+    }
+}
+
+/// The last accepted number as the library keeps it: 0 for none, else one more.
+pub fn last_number(last: Option<u8>) -> u16 {
+    last.map_or(0, |number| u16::from(number) + 1)
+}
+
+impl Library {
+    /// A fresh gateway with every byte of its memories set to `contents`, at addresses that `front`
+    /// moves.
+    pub fn fresh(contents: u8, front: usize) -> Library {
+        let memory =
+            |which: Memory, front| Fenced::new(which.size() + SPARE, contents, front, FENCE);
+        let mut library = Library {
+            // Whatever stood there, it is fresh afterwards.
+            book: Book {
+                before: [0xF00D; 4],
+                numbers: [0xABCD; 64],
+                between: [0xF00D_F00D; 2],
+                used: [0xABCD_ABCD; 9],
+                behind: [0xF00D_F00D; 2],
+            },
+            journal: memory(Memory::Journal, front + 1),
+            unfinished: memory(Memory::Unfinished, front + 2),
+            frames: memory(Memory::Frames, front + 3),
+            lent: [0; 3],
+            buffer: Fenced::new(0, BLANK, 1, FENCE),
+        };
+        library.apply(Op::Fresh);
+        library
+    }
+
+    /// Does one operation; events and takings give their answer.
+    pub fn apply(&mut self, op: Op) -> Option<Answered> {
+        match op {
+            Op::Event { line, kind } => return Some(self.event(line, kind)),
+            Op::Take { line, buffer } => return Some(self.take(line, buffer)),
+            Op::Fresh => {
+                boundary::fresh(&mut self.book.numbers, &mut self.book.used);
+                self.lent = [
+                    Memory::Journal.size(),
+                    Memory::Unfinished.size(),
+                    Memory::Frames.size(),
+                ];
+            }
+            Op::State { line, state } => *self.number(line, STATE) = state_number(state),
+            Op::Collected { line, count } => *self.number(line, COLLECTED) = count,
+            Op::Joined { line, count } => *self.number(line, JOINED) = count,
+            Op::Seconds { line, count } => *self.number(line, SECONDS) = u16::from(count),
+            Op::Next { line, number } => *self.number(line, NEXT) = u16::from(number),
+            Op::Last { line, number } => *self.number(line, LAST) = last_number(number),
+            Op::Refusing { line, refusing } => *self.number(line, REFUSING) = u16::from(refusing),
+            Op::InUse { count } => self.book.used[IN_USE] = count,
+            Op::Used { line, count } => self.book.used[usize::from(line)] = count,
+            Op::Serial { line, serial } => *self.number(line, SERIAL) = serial,
+            Op::Poke {
+                memory,
+                index,
+                value,
+            } => self.memory(memory).inside_mut()[index] = value,
+            Op::Lend { memory, length } => self.lent[memory as usize] = length,
+        }
+        None
+    }
+
+    fn event(&mut self, line: u8, kind: Kind) -> Answered {
+        let (call, value): (fn(_, _, _, _, _, _, _) -> _, u8) = match kind {
+            Kind::Byte(byte) => (boundary::byte, byte),
+            Kind::Seconds(seconds) => (boundary::seconds, seconds),
+        };
+        let [journal, unfinished, frames] = self.lent;
+        call(
+            line,
+            value,
+            &mut self.book.numbers,
+            &mut self.book.used,
+            &mut self.journal.inside_mut()[..journal],
+            &mut self.unfinished.inside_mut()[..unfinished],
+            &mut self.frames.inside_mut()[..frames],
+        )
+    }
+
+    fn take(&mut self, line: u8, buffer: usize) -> Answered {
+        self.buffer = Fenced::new(buffer, BLANK, 1 + buffer % 7, FENCE);
+        let lent = self.lent[Memory::Journal as usize];
+        boundary::take(
+            line,
+            &self.book.numbers,
+            &mut self.book.used,
+            &mut self.journal.inside_mut()[..lent],
+            self.buffer.inside_mut(),
+        )
+    }
+
+    /// One number of a line, 0 to 7.
+    pub fn number(&mut self, line: u8, field: usize) -> &mut u16 {
+        &mut self.book.numbers[FIELDS * usize::from(line) + field]
+    }
+
+    pub fn memory(&mut self, memory: Memory) -> &mut Fenced<u8> {
+        match memory {
+            Memory::Journal => &mut self.journal,
+            Memory::Unfinished => &mut self.unfinished,
+            Memory::Frames => &mut self.frames,
+        }
+    }
+
+    /// Whether all that stands beside the memories, the numbers and the counts is untouched.
+    pub fn fences_stand(&self) -> bool {
+        self.book.before == [0xF00D; 4]
+            && self.book.between == [0xF00D_F00D; 2]
+            && self.book.behind == [0xF00D_F00D; 2]
+            && self.journal.stands()
+            && self.unfinished.stands()
+            && self.frames.stands()
+            && self.buffer.stands()
+    }
+}

@@ -1,0 +1,297 @@
+//! Compares the library with the model of document 01, operation by operation.
+//!
+//!     diff 10000000 SEED     so many events: bytes, seconds and takings
+//!     diff 5s SEED           so many seconds
+//!     diff --faults SEED     sees that faults put into the library's side are found
+//!
+//! After each operation everything is compared: the answer, its reply byte, the eight records, the
+//! ledger, and every byte of every memory, those that are not lent and a fence around each included.
+//! The same seed gives the same operations. Status 1: a difference, told on standard output.
+
+#[path = "../../rust/src/boundary.rs"]
+mod boundary;
+mod compare;
+mod counts;
+mod edges;
+mod faults;
+mod fenced;
+mod library;
+mod texts;
+
+use compare::{answer_difference, state_difference};
+use counts::Counts;
+use faults::Fault;
+use library::{Library, LAST, NEXT, REFUSING, SECONDS, STATE};
+use ngachodui_model::lines::Kind;
+use ngachodui_model::traffic::random::Random;
+use ngachodui_model::traffic::{Mix, Traffic};
+use ngachodui_model::world::{Memory, Op, World};
+use std::process::exit;
+use std::time::{Duration, Instant};
+
+/// Operations from one fresh start to the next.
+const RUN: u64 = 50_000;
+
+/// Full journals after each run, then texts.
+const FULL_JOURNALS: u64 = 10;
+const TEXTS: u64 = 1_000;
+
+/// How often an event comes on a record that the model cannot hold.
+const ODD_RECORD_ONCE_IN: usize = 1_000;
+
+/// How many of the operations before a difference are told.
+const TOLD: usize = 12;
+
+const MIXES: [Mix; 14] = [
+    Mix::Noise,
+    Mix::Polite,
+    Mix::Damaged,
+    Mix::Records,
+    Mix::Long,
+    Mix::Clock,
+    Mix::Flood,
+    Mix::Takings,
+    Mix::BrokenJournal,
+    Mix::BeyondLimits,
+    Mix::WrongSizes,
+    Mix::WrongLines,
+    Mix::FullJournal,
+    Mix::Renewal,
+];
+
+/// When to stop.
+#[derive(Clone, Copy)]
+enum Limit {
+    Events(u64),
+    Time(Instant),
+}
+
+impl Limit {
+    fn is_reached(self, counts: &Counts) -> bool {
+        match self {
+            Limit::Events(events) => counts.events >= events,
+            Limit::Time(end) => Instant::now() >= end,
+        }
+    }
+}
+
+/// Both sides and what drives them.
+struct Pair {
+    world: World,
+    library: Library,
+    fault: Option<Fault>,
+    random: Random,
+    past: Vec<Op>,
+}
+
+impl Pair {
+    fn fresh(mut random: Random, fault: Option<Fault>) -> Pair {
+        let contents = random.byte();
+        let front = random.below(8);
+        Pair {
+            world: World::fresh(contents),
+            library: Library::fresh(contents, front),
+            fault,
+            random,
+            past: Vec::new(),
+        }
+    }
+
+    /// One operation on both sides.
+    fn step(&mut self, op: Op, counts: &mut Counts) -> Result<(), String> {
+        self.past.push(op);
+        let before = self.fault.map(|_| self.library.book.clone());
+        let expected = self.world.apply(op);
+        let mut found = self.library.apply(op);
+        if let (Some(fault), Some(before), Some(answer)) = (self.fault, before, found.as_mut()) {
+            fault.spoil(op, &before, &mut self.library, answer);
+        }
+        counts.operation(op, found);
+        if let Some(difference) = answer_difference(expected, found) {
+            return Err(difference);
+        }
+        match state_difference(&self.world, &self.library, op) {
+            Some(difference) => Err(difference),
+            None => Ok(()),
+        }
+    }
+
+    /// A difference, with where it was met and what came before it.
+    fn tell(&self, counts: &Counts, difference: &str) -> String {
+        let start = self.past.len().saturating_sub(TOLD);
+        let mut told = format!(
+            "run {}, operation {}, event {} of all\n  {}\nlast operations",
+            counts.runs,
+            self.past.len(),
+            counts.events,
+            difference
+        );
+        for op in &self.past[start..] {
+            told += &format!("\n  {:?}", op);
+        }
+        told
+    }
+
+    /// An event on a record with a number that no record has: 42, and nothing changed. A memory of
+    /// another size is answered first.
+    fn odd_record(&mut self, counts: &mut Counts) -> Result<(), String> {
+        let line = self.random.below(8) as u8;
+        let (field, least) = self.random.pick(&[
+            (STATE, 3),
+            (SECONDS, 256),
+            (NEXT, 256),
+            (LAST, 257),
+            (REFUSING, 2),
+        ]);
+        let value = match self.random.below(3) {
+            0 => least,
+            1 => 65_535,
+            _ => self.random.between(least, 65_535),
+        };
+        let kind = match self.random.below(4) {
+            0 => Kind::Seconds(self.random.byte()),
+            1 => Kind::Byte(self.random.byte()),
+            _ => Kind::Byte(self.random.pick(&[0x02, 0x04, 0x05, 0x0A])),
+        };
+        let op = Op::Event { line, kind };
+        let kept = *self.library.number(line, field);
+        *self.library.number(line, field) = value as u16;
+        let found = self.library.apply(op);
+        let after = *self.library.number(line, field);
+        *self.library.number(line, field) = kept;
+        counts.odd_record();
+
+        let right = Memory::ALL.map(Memory::size) == self.world.lent;
+        let number = if right { 42 } else { 41 };
+        let odd = format!(
+            "line {}, number {} set to {}, {:?}",
+            line, field, value, kind
+        );
+        if found.map(|answer| (answer.number, answer.reply)) != Some((number, 0)) {
+            return Err(format!("{}: {:?} in place of {}", odd, found, number));
+        }
+        if usize::from(after) != value {
+            return Err(format!("{}: changed to {}", odd, after));
+        }
+        match state_difference(&self.world, &self.library, op) {
+            Some(difference) => Err(format!("{}: {}", odd, difference)),
+            None => Ok(()),
+        }
+    }
+}
+
+/// One run from fresh, then full journals and texts. The mixes are all, or in every fourth run up to three of them.
+fn run(seed: u64, fault: Option<Fault>, limit: Limit, counts: &mut Counts) -> Result<(), String> {
+    let mut random = Random::new(seed);
+    let traffic_seed = random.number();
+    let mut traffic = if counts.runs % 4 == 3 {
+        let mixes: Vec<Mix> = (0..random.between(1, 3))
+            .map(|_| random.pick(&MIXES))
+            .collect();
+        Traffic::of(traffic_seed, &mixes)
+    } else {
+        Traffic::new(traffic_seed)
+    };
+    counts.runs += 1;
+
+    let mut pair = Pair::fresh(random, fault);
+    for operation in 1..=RUN {
+        let op = traffic.next(&pair.world);
+        let mut outcome = pair.step(op, counts);
+        if outcome.is_ok() && pair.random.once_in(ODD_RECORD_ONCE_IN) {
+            outcome = pair.odd_record(counts);
+        }
+        outcome.map_err(|difference| pair.tell(counts, &difference))?;
+        if operation % 1_000 == 0 && limit.is_reached(counts) {
+            break;
+        }
+    }
+    for _ in 0..FULL_JOURNALS {
+        for op in edges::full_journal(&mut pair.random) {
+            pair.step(op, counts)
+                .map_err(|difference| pair.tell(counts, &difference))?;
+        }
+    }
+    for text in 1..=TEXTS {
+        texts::compare(&mut traffic, &mut pair.random, fault, counts).map_err(|difference| {
+            format!("run {}, text {}\n  {}", counts.runs, text, difference)
+        })?;
+    }
+    Ok(())
+}
+
+/// Runs until the limit; each run has its own seed.
+fn compare(
+    seed: u64,
+    fault: Option<Fault>,
+    limit: Limit,
+    counts: &mut Counts,
+) -> Result<(), String> {
+    texts::compare_most()?;
+    let mut seeds = Random::new(seed);
+    loop {
+        run(seeds.number(), fault, limit, counts)?;
+        if limit.is_reached(counts) {
+            return Ok(());
+        }
+    }
+}
+
+/// Every fault must be found.
+fn try_faults(seed: u64) -> bool {
+    let mut all_found = true;
+    for fault in Fault::ALL {
+        let mut counts = Counts::default();
+        match compare(seed, Some(fault), Limit::Events(400_000), &mut counts) {
+            Err(difference) => {
+                let words = difference.lines().nth(1).unwrap_or("").trim();
+                let words: String = words.chars().take(100).collect();
+                println!("{:?}: found, event {}: {}", fault, counts.events, words);
+            }
+            Ok(()) => {
+                println!("{:?}: NOT FOUND in {} events", fault, counts.events);
+                all_found = false;
+            }
+        }
+    }
+    all_found
+}
+
+fn usage() -> ! {
+    eprintln!("usage: diff EVENTS SEED | diff SECONDSs SEED | diff --faults SEED");
+    exit(2)
+}
+
+fn number(text: &str) -> u64 {
+    text.parse().unwrap_or_else(|_| usage())
+}
+
+fn main() {
+    let arguments: Vec<String> = std::env::args().skip(1).collect();
+    let (what, seed) = match &arguments[..] {
+        [what, seed] => (what.as_str(), number(seed)),
+        _ => usage(),
+    };
+    if what == "--faults" {
+        exit(if try_faults(seed) { 0 } else { 1 });
+    }
+    let start = Instant::now();
+    let limit = match what.strip_suffix('s') {
+        Some(seconds) => Limit::Time(start + Duration::from_secs(number(seconds))),
+        None => Limit::Events(number(what)),
+    };
+    let mut counts = Counts::default();
+    let outcome = compare(seed, None, limit, &mut counts);
+    println!("seed {}, {:.1} s", seed, start.elapsed().as_secs_f64());
+    counts.print();
+    if let Err(difference) = outcome {
+        println!("DIFFERENCE with seed {}: {}", seed, difference);
+        exit(1);
+    }
+    let missing = counts.missing();
+    if missing.is_empty() {
+        println!("no difference; every answer came up");
+    } else {
+        println!("no difference; did not come up: {}", missing.join(", "));
+    }
+}

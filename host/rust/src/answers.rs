@@ -1,0 +1,222 @@
+//! Answers by name, and refusals of the text functions.
+
+use crate::boundary::Answered;
+use std::error::Error;
+use std::fmt;
+
+/// What an event or a taking was answered: document 01's table, each answer with its number.
+///
+/// [`Answer::reply`] is the byte to send back to the analyzer. After any answer from
+/// [`Answer::NoLine`] on nothing has changed.
+#[derive(Clone, Copy, PartialEq, Eq, Debug)]
+pub enum Answer {
+    /// 0: the byte was ignored or collected, or the seconds were counted.
+    Nothing,
+    /// 1: ENQ, a transfer is open.
+    Opened,
+    /// 2: a frame accepted; its message goes on.
+    Accepted,
+    /// 3: the last accepted frame once more, by its number; it is not kept again.
+    Repeated,
+    /// 4: the frame that ends a message, and the message is in the journal.
+    Stored,
+    /// 5: EOT, the transfer is over.
+    Ended,
+    /// 6: EOT, the transfer is over, and unfinished text was dropped.
+    Dropped,
+    /// 7: 30 seconds without a judged frame, the transfer is over.
+    TimedOut,
+    /// 8: a message is in the buffer.
+    Taken {
+        /// How many bytes it has, from the buffer's start.
+        length: usize,
+        /// Its place among its line's messages; after 65,535 comes 0.
+        serial: u16,
+    },
+    /// 20: ENQ while a transfer is open.
+    Busy,
+    /// 21: a frame of 246 bytes, and the last is no LF.
+    Unended,
+    /// 22: not the shape of a frame: too short, no CR before LF, or no ETB or ETX in its place.
+    Torn,
+    /// 23: the check digits are not those of the frame's bytes.
+    WrongCheck,
+    /// 24: a byte that may not stand in a text.
+    BadText,
+    /// 25: the frame's number is not 0 to 7.
+    BadNumber,
+    /// 26: a message of this transfer was refused (30, 31), and so is all else of it.
+    Refusing,
+    /// 27: the frame's number is neither the last nor the next.
+    OutOfTurn,
+    /// 28: with this frame the text has over 4,000 bytes.
+    TooLong,
+    /// 29: ETX, and the text is empty or does not end with CR.
+    NoCr,
+    /// 30: the text is complete and is not a message.
+    NoMessage,
+    /// 31: the message has no room in the journal.
+    NoRoom,
+    /// 40: the line is not 0 to 7.
+    NoLine,
+    /// 41: a memory of another size; a [`Gateway`](crate::Gateway) never gets it.
+    WrongSize,
+    /// 42: a record that holds what no record can; a [`Gateway`](crate::Gateway) never gets it.
+    BeyondLimits,
+    /// 43: the journal's bytes and counts do not agree; a [`Gateway`](crate::Gateway) never gets it.
+    Broken,
+    /// 44: the line has no message to take.
+    NothingWaiting,
+    /// 45: the buffer is shorter than the message.
+    BufferShort,
+}
+
+impl Answer {
+    /// The answer's number in document 01.
+    pub fn number(self) -> u8 {
+        match self {
+            Answer::Nothing => 0,
+            Answer::Opened => 1,
+            Answer::Accepted => 2,
+            Answer::Repeated => 3,
+            Answer::Stored => 4,
+            Answer::Ended => 5,
+            Answer::Dropped => 6,
+            Answer::TimedOut => 7,
+            Answer::Taken { .. } => 8,
+            Answer::Busy => 20,
+            Answer::Unended => 21,
+            Answer::Torn => 22,
+            Answer::WrongCheck => 23,
+            Answer::BadText => 24,
+            Answer::BadNumber => 25,
+            Answer::Refusing => 26,
+            Answer::OutOfTurn => 27,
+            Answer::TooLong => 28,
+            Answer::NoCr => 29,
+            Answer::NoMessage => 30,
+            Answer::NoRoom => 31,
+            Answer::NoLine => 40,
+            Answer::WrongSize => 41,
+            Answer::BeyondLimits => 42,
+            Answer::Broken => 43,
+            Answer::NothingWaiting => 44,
+            Answer::BufferShort => 45,
+        }
+    }
+
+    /// The byte to send back to the analyzer: ACK (06) with 1 to 4, NAK (15) with 20 to 31, else none.
+    pub fn reply(self) -> Option<u8> {
+        match self.number() {
+            1..=4 => Some(0x06),
+            20..=31 => Some(0x15),
+            _ => None,
+        }
+    }
+
+    /// The answer that the library gave.
+    pub(crate) fn of(answered: Answered) -> Answer {
+        let answer = match answered.number {
+            0 => Answer::Nothing,
+            1 => Answer::Opened,
+            2 => Answer::Accepted,
+            3 => Answer::Repeated,
+            4 => Answer::Stored,
+            5 => Answer::Ended,
+            6 => Answer::Dropped,
+            7 => Answer::TimedOut,
+            8 => Answer::Taken {
+                length: answered.length,
+                serial: answered.serial,
+            },
+            20 => Answer::Busy,
+            21 => Answer::Unended,
+            22 => Answer::Torn,
+            23 => Answer::WrongCheck,
+            24 => Answer::BadText,
+            25 => Answer::BadNumber,
+            26 => Answer::Refusing,
+            27 => Answer::OutOfTurn,
+            28 => Answer::TooLong,
+            29 => Answer::NoCr,
+            30 => Answer::NoMessage,
+            31 => Answer::NoRoom,
+            40 => Answer::NoLine,
+            41 => Answer::WrongSize,
+            42 => Answer::BeyondLimits,
+            43 => Answer::Broken,
+            44 => Answer::NothingWaiting,
+            45 => Answer::BufferShort,
+            number => unreachable!("the library has no answer {}", number),
+        };
+        debug_assert_eq!(answer.number(), answered.number);
+        debug_assert_eq!(answer.reply().unwrap_or(0), answered.reply);
+        answer
+    }
+}
+
+/// Why a text was not cut, read, escaped or unescaped. Nothing was written.
+#[derive(Clone, Copy, PartialEq, Eq, Debug)]
+pub enum Refusal {
+    /// 46: the text is no message, or has a wrong escape.
+    Malformed,
+    /// 47: the output is longer than its memory.
+    NotFitting,
+}
+
+impl Refusal {
+    /// The refusal's number in document 01.
+    pub fn number(self) -> u8 {
+        match self {
+            Refusal::Malformed => 46,
+            Refusal::NotFitting => 47,
+        }
+    }
+}
+
+impl fmt::Display for Refusal {
+    fn fmt(&self, f: &mut fmt::Formatter) -> fmt::Result {
+        f.write_str(match self {
+            Refusal::Malformed => "the text is malformed",
+            Refusal::NotFitting => "the output does not fit",
+        })
+    }
+}
+
+impl Error for Refusal {}
+
+#[cfg(test)]
+mod tests {
+    use super::*;
+
+    #[test]
+    fn each_answer_has_the_librarys_number_and_reply() {
+        for number in (0..=8).chain(20..=31).chain(40..=45) {
+            let reply = match number {
+                1..=4 => 0x06,
+                20..=31 => 0x15,
+                _ => 0,
+            };
+            let answer = Answer::of(Answered {
+                number,
+                reply,
+                serial: 7,
+                length: 9,
+            });
+            assert_eq!(answer.number(), number);
+            assert_eq!(answer.reply().unwrap_or(0), reply);
+            let taken = Answer::Taken {
+                length: 9,
+                serial: 7,
+            };
+            assert_eq!(answer == taken, number == 8);
+        }
+    }
+
+    #[test]
+    fn refusals_by_number() {
+        assert_eq!(Refusal::Malformed.number(), 46);
+        assert_eq!(Refusal::NotFitting.number(), 47);
+        assert_eq!(Refusal::NotFitting.to_string(), "the output does not fit");
+    }
+}

@@ -1,0 +1,178 @@
+//! A gateway that owns its memories.
+
+use crate::answers::Answer;
+use crate::boundary::{self, Numbers, Used};
+
+/// Eight serial lines and one journal, with all the memory that they need.
+///
+/// Give each byte that comes in to [`byte`](Gateway::byte) and send back what the answer's
+/// [`reply`](Answer::reply) says; tell each line the time with [`seconds`](Gateway::seconds); fetch
+/// messages with [`take`](Gateway::take). Lines are numbered 0 to 7; with any other the answer is
+/// [`Answer::NoLine`] and nothing changes.
+///
+/// ```
+/// use ngachodui::{Answer, Gateway};
+///
+/// let mut gateway = Gateway::fresh();
+/// assert_eq!(gateway.byte(3, 0x05), Answer::Opened); // ENQ
+///
+/// // A message in one frame: its number, the text, ETX, two check digits, CR and LF.
+/// let mut answer = Answer::Nothing;
+/// for byte in b"\x021H|\\^&\rL|1|N\r\x03B5\r\n" {
+///     answer = gateway.byte(3, *byte);
+/// }
+/// assert_eq!(answer, Answer::Stored);
+/// assert_eq!(answer.reply(), Some(0x06)); // ACK: from now on the copy here is the only one
+///
+/// let mut buffer = [0; ngachodui::TEXT];
+/// let answer = gateway.take(3, &mut buffer);
+/// assert_eq!(answer, Answer::Taken { length: 12, serial: 0 });
+/// assert_eq!(&buffer[..12], b"H|\\^&\rL|1|N\r");
+/// ```
+#[derive(Clone)]
+pub struct Gateway {
+    memory: Box<Memory>,
+}
+
+#[derive(Clone)]
+struct Memory {
+    numbers: Numbers,
+    used: Used,
+    journal: [u8; 32_768],
+    unfinished: [u8; 8 * 4_000],
+    frames: [u8; 8 * 246],
+}
+
+impl Gateway {
+    /// Every line neutral, the journal empty, all serials 0.
+    pub fn fresh() -> Gateway {
+        let mut memory = Box::new(Memory {
+            numbers: [0; 64],
+            used: [0; 9],
+            journal: [0; 32_768],
+            unfinished: [0; 8 * 4_000],
+            frames: [0; 8 * 246],
+        });
+        boundary::fresh(&mut memory.numbers, &mut memory.used);
+        Gateway { memory }
+    }
+
+    /// A byte has come in on a line.
+    pub fn byte(&mut self, line: u8, byte: u8) -> Answer {
+        let memory = &mut *self.memory;
+        Answer::of(boundary::byte(
+            line,
+            byte,
+            &mut memory.numbers,
+            &mut memory.used,
+            &mut memory.journal,
+            &mut memory.unfinished,
+            &mut memory.frames,
+        ))
+    }
+
+    /// So many seconds have passed on a line since the last call that said so. After 30 without a
+    /// judged frame its transfer is over. The lines have no clock in common: tell each one.
+    pub fn seconds(&mut self, line: u8, seconds: u8) -> Answer {
+        let memory = &mut *self.memory;
+        Answer::of(boundary::seconds(
+            line,
+            seconds,
+            &mut memory.numbers,
+            &mut memory.used,
+            &mut memory.journal,
+            &mut memory.unfinished,
+            &mut memory.frames,
+        ))
+    }
+
+    /// Takes a line's oldest message out of the journal and puts its text at the start of the buffer;
+    /// the buffer keeps its rest. One of [`TEXT`](crate::TEXT) bytes is never too short.
+    pub fn take(&mut self, line: u8, buffer: &mut [u8]) -> Answer {
+        let memory = &mut *self.memory;
+        Answer::of(boundary::take(
+            line,
+            &memory.numbers,
+            &mut memory.used,
+            &mut memory.journal,
+            buffer,
+        ))
+    }
+
+    /// How many bytes of the journal a line's waiting messages use, 4 counted for each besides its
+    /// text; 0 for a line that there is not. Each line is sure of 2,048.
+    pub fn used(&self, line: u8) -> u32 {
+        let used = &self.memory.used[..8];
+        used.get(usize::from(line)).copied().unwrap_or(0)
+    }
+}
+
+impl Default for Gateway {
+    fn default() -> Gateway {
+        Gateway::fresh()
+    }
+}
+
+#[cfg(test)]
+mod tests {
+    use super::*;
+    use crate::cut;
+
+    const TEXT: &[u8] = b"H|\\^&\rP|1\rO|1\rR|1|^^^GLU|5.2|mmol/L\rL|1|N\r";
+
+    fn frames() -> Vec<u8> {
+        let mut out = [0; 200];
+        let length = cut(TEXT, &mut out).expect("a message");
+        out[..length].to_vec()
+    }
+
+    #[test]
+    fn a_message_cut_sent_and_taken() {
+        let mut gateway = Gateway::fresh();
+        assert_eq!(gateway.byte(7, 0x05), Answer::Opened);
+        let mut told = Vec::new();
+        for byte in frames() {
+            match gateway.byte(7, byte) {
+                Answer::Nothing => {}
+                answer => told.push(answer.number()),
+            }
+        }
+        assert_eq!(told, [2, 2, 2, 2, 4]);
+        assert_eq!(gateway.byte(7, 0x04), Answer::Ended);
+        assert_eq!(gateway.used(7), 4 + TEXT.len() as u32);
+        assert_eq!((gateway.used(6), gateway.used(8)), (0, 0));
+
+        let mut buffer = [0xEE; 100];
+        assert_eq!(gateway.take(7, &mut buffer[..40]), Answer::BufferShort);
+        assert_eq!(buffer, [0xEE; 100]);
+        let taken = Answer::Taken {
+            length: TEXT.len(),
+            serial: 0,
+        };
+        assert_eq!(gateway.take(7, &mut buffer), taken);
+        assert_eq!(&buffer[..TEXT.len()], TEXT);
+        assert!(buffer[TEXT.len()..].iter().all(|&byte| byte == 0xEE));
+        assert_eq!(gateway.take(7, &mut buffer), Answer::NothingWaiting);
+        assert_eq!(gateway.used(7), 0);
+    }
+
+    #[test]
+    fn time_and_lines_that_are_none() {
+        let mut gateway = Gateway::default();
+        assert_eq!(gateway.byte(0, 0x05), Answer::Opened);
+        assert_eq!(gateway.seconds(0, 29), Answer::Nothing);
+        assert_eq!(gateway.byte(0, 0x05), Answer::Busy);
+        assert_eq!(gateway.seconds(0, 1), Answer::TimedOut);
+        assert_eq!(gateway.byte(8, 0x05), Answer::NoLine);
+        assert_eq!(gateway.take(255, &mut []), Answer::NoLine);
+    }
+
+    #[test]
+    fn a_clone_goes_its_own_way() {
+        let mut one = Gateway::fresh();
+        one.byte(0, 0x05);
+        let mut other = one.clone();
+        assert_eq!(one.byte(0, 0x04), Answer::Ended);
+        assert_eq!(other.byte(0, 0x05), Answer::Busy);
+    }
+}

@@ -1,0 +1,26 @@
+//! Ngachodui for hosts in Rust: a gateway between laboratory analyzers and a results dashboard.
+//!
+//! Analyzers send frames (ASTM E1381) with records (E1394) down eight serial lines. A [`Gateway`]
+//! takes the bytes as they come, says which byte to send back, and keeps each whole message until the
+//! host takes it. [`cut`], [`read`], [`escape`], [`unescape`] and [`is_message`] work on texts alone.
+//!
+//! The work is done by a library whose every function is proved to do what its contract says. This
+//! crate adds the memory and the names, and nothing of it is `unsafe` to use.
+
+#![warn(missing_docs)]
+
+mod answers;
+#[allow(missing_docs)]
+mod boundary;
+mod gateway;
+mod texts;
+
+pub use answers::{Answer, Refusal};
+pub use gateway::Gateway;
+pub use texts::{cut, escape, is_message, read, unescape, Record};
+
+/// The longest message, in bytes: a buffer of this length is never too short for a taking.
+pub const TEXT: usize = 4_000;
+
+/// The most bytes that the frames of a message can have: 4,000 of text in 999 frames.
+pub const CUT: usize = 10_993;

@@ -1,0 +1,245 @@
+/* Ngachodui: a gateway between laboratory analyzers and a results dashboard, for hosts in C and C++.
+ *
+ * Analyzers send frames (ASTM E1381) with records (E1394) down eight serial lines. The host hands
+ * each byte that comes in, and each second that passes, to the library; the library says what it
+ * did, by a number of document 01's table, and which byte to send back. Whole messages wait in one
+ * journal until the host takes them.
+ *
+ * The library keeps nothing between calls, allocates nothing, and calls nothing but memcpy and memset.
+ * All that a gateway is lies in memory of the host's: a ngachodui_state and three memories of fixed
+ * sizes, lent to every call. To begin, call ngachodui_fresh on the state; the memories may hold
+ * anything. From then on only the library changes them.
+ *
+ * What the host owes at every call, since C cannot say it:
+ *   - each pointer is valid for the length beside it, or for the array in its type, and aligned for
+ *     its type. It is not null, not even with length 0;
+ *   - no two of the memories of one call overlap;
+ *   - nobody else touches them until the call returns. Different gateways may be used by different
+ *     threads at the same time.
+ * Nothing else is asked: whatever the numbers and the bytes are, each call returns and does what is
+ * said here, and a wrong line, size, state or text is answered by its number. That is proved, for
+ * all bytes and all calls; `docs/CONTRACTS.md` says what each function promises.
+ *
+ * Link with libngachodui.a, which is for x86-64 Linux. */
+#ifndef NGACHODUI_H
+#define NGACHODUI_H
+
+#include <stdbool.h>
+#include <stddef.h>
+#include <stdint.h>
+
+#ifdef __cplusplus
+extern "C" {
+#endif
+
+/* ---- Sizes ---- */
+
+enum {
+    NGACHODUI_LINES = 8,               /* the lines are numbered 0 to 7 */
+
+    /* The three memories, in bytes. Lent at any other size, an event is answered 41. */
+    NGACHODUI_JOURNAL_SIZE = 32768,    /* the messages that wait */
+    NGACHODUI_UNFINISHED_SIZE = 32000, /* unfinished text, 4,000 bytes for each line */
+    NGACHODUI_FRAMES_SIZE = 1968,      /* the frame that a line is receiving, 246 bytes for each */
+
+    /* What is never exceeded: memory for so many is never too short. */
+    NGACHODUI_TEXT_LIMIT = 4000,       /* bytes of a message, for a taking */
+    NGACHODUI_FRAME_LIMIT = 247,       /* bytes of a frame, from STX to LF */
+    NGACHODUI_RECORDS_LIMIT = 999,     /* records of a message, for reading */
+    NGACHODUI_CUT_LIMIT = 10993        /* bytes of a message's frames: 4,000 of text in 999 frames */
+};
+
+/* ---- Answers ---- */
+
+/* The answers, by their numbers in document 01. With 1 to 4 the byte to send back is ACK (06), with
+ * 20 to 31 it is NAK (15), and with the others there is none. */
+enum ngachodui_number {
+    NGACHODUI_NOTHING = 0,          /* the byte was ignored or collected, or the seconds were counted */
+    NGACHODUI_DONE = 0,             /* of the text functions: the output is written */
+
+    NGACHODUI_OPENED = 1,           /* ENQ: a transfer is open */
+    NGACHODUI_ACCEPTED = 2,         /* a frame accepted; its message goes on */
+    NGACHODUI_REPEATED = 3,         /* the last accepted frame once more, by its number; not kept again */
+    NGACHODUI_STORED = 4,           /* the frame that ends a message, and the message is in the journal */
+    NGACHODUI_ENDED = 5,            /* EOT: the transfer is over */
+    NGACHODUI_DROPPED = 6,          /* EOT: the transfer is over, and unfinished text was dropped */
+    NGACHODUI_TIMED_OUT = 7,        /* 30 seconds without a judged frame: the transfer is over */
+    NGACHODUI_TAKEN = 8,            /* a message is in the buffer, with its length and serial */
+
+    NGACHODUI_BUSY = 20,            /* ENQ while a transfer is open */
+    NGACHODUI_UNENDED = 21,         /* a frame of 246 bytes, and the last is no LF */
+    NGACHODUI_TORN = 22,            /* not the shape of a frame: too short, no CR before LF, no ETB or ETX */
+    NGACHODUI_WRONG_CHECK = 23,     /* the check digits are not those of the frame's bytes */
+    NGACHODUI_BAD_TEXT = 24,        /* a byte that may not stand in a text */
+    NGACHODUI_BAD_NUMBER = 25,      /* the frame's number is not 0 to 7 */
+    NGACHODUI_REFUSING = 26,        /* a message was refused (30, 31): so is all else of this transfer */
+    NGACHODUI_OUT_OF_TURN = 27,     /* the frame's number is neither the last nor the next */
+    NGACHODUI_TOO_LONG = 28,        /* with this frame the text has over 4,000 bytes */
+    NGACHODUI_NO_CR = 29,           /* ETX, and the text is empty or does not end with CR */
+    NGACHODUI_NO_MESSAGE = 30,      /* the text is complete and is not a message */
+    NGACHODUI_NO_ROOM = 31,         /* the message has no room in the journal */
+
+    /* Refusals of the call: nothing at all has changed. */
+    NGACHODUI_NO_LINE = 40,         /* the line is not 0 to 7 */
+    NGACHODUI_WRONG_SIZE = 41,      /* a memory was lent at another size */
+    NGACHODUI_BEYOND_LIMITS = 42,   /* the line's record holds what no record can */
+    NGACHODUI_BROKEN = 43,          /* the journal's bytes and counts do not agree */
+    NGACHODUI_NOTHING_WAITING = 44, /* the line has no message to take */
+    NGACHODUI_BUFFER_SHORT = 45,    /* the buffer is shorter than the message */
+    NGACHODUI_MALFORMED = 46,       /* the text to cut or read is no message, or has a wrong escape */
+    NGACHODUI_NOT_FITTING = 47      /* the output is longer than its memory */
+};
+
+/* The answer to an event or a taking. */
+typedef struct ngachodui_answered {
+    uint8_t number;    /* enum ngachodui_number, 0 to 45 */
+    uint8_t reply;     /* the byte to send to the analyzer: 0x06, 0x15, or 0 for none */
+    uint16_t serial;   /* with answer 8 the message's serial, else 0 */
+    size_t length;     /* with answer 8 the message's length, else 0 */
+} ngachodui_answered;
+
+/* The answer of a text function. */
+typedef struct ngachodui_made {
+    uint8_t number;    /* NGACHODUI_DONE, NGACHODUI_MALFORMED or NGACHODUI_NOT_FITTING */
+    size_t length;     /* when done: how much was written, from the start of the output; else 0 */
+} ngachodui_made;
+
+/* ---- State ---- */
+
+enum ngachodui_line_state {
+    NGACHODUI_NEUTRAL = 0,   /* no transfer */
+    NGACHODUI_WAITING = 1,   /* a transfer is open, between frames */
+    NGACHODUI_INSIDE = 2     /* inside a frame */
+};
+
+/* One line. A host may read it at any time, and may save state and memories and load them again. A
+ * record that the host sets itself is used as it is if it is within the limits here; if not, events on
+ * that line are answered 42. */
+typedef struct ngachodui_line {
+    uint16_t state;       /* enum ngachodui_line_state */
+    uint16_t collected;   /* bytes of the frame so far, up to 245 */
+    uint16_t joined;      /* bytes of unfinished text, up to 4,000 */
+    uint16_t seconds;     /* since the transfer opened or a frame was judged, up to 29 */
+    uint16_t next;        /* the number of the next frame, up to 7 */
+    uint16_t last;        /* one more than the number of the last accepted frame, up to 8; 0 for none */
+    uint16_t refusing;    /* 1: a message of this transfer was refused; else 0 */
+    uint16_t serial;      /* of the line's next message; after 65,535 comes 0 */
+} ngachodui_line;
+
+/* How much of the journal is used, in bytes. Counts that do not agree with the journal are answered 43. */
+typedef struct ngachodui_counts {
+    uint32_t used[NGACHODUI_LINES];  /* by each line's messages, 4 counted for each besides its text */
+    uint32_t in_use;                 /* by all of them together */
+} ngachodui_counts;
+
+/* A gateway, beside its three memories. */
+typedef struct ngachodui_state {
+    ngachodui_line lines[NGACHODUI_LINES];
+    ngachodui_counts counts;
+} ngachodui_state;
+
+/* The library was compiled for these layouts. */
+#if defined(__cplusplus) && __cplusplus >= 201103L
+#define NGACHODUI_LAYOUT(fact) static_assert(fact, #fact)
+#elif !defined(__cplusplus) && defined(__STDC_VERSION__) && __STDC_VERSION__ >= 201112L
+#define NGACHODUI_LAYOUT(fact) _Static_assert(fact, #fact)
+#else
+#define NGACHODUI_LAYOUT(fact) struct ngachodui_layout
+#endif
+NGACHODUI_LAYOUT(sizeof(ngachodui_line) == 16);
+NGACHODUI_LAYOUT(sizeof(ngachodui_counts) == 36);
+NGACHODUI_LAYOUT(sizeof(ngachodui_answered) == 16);
+NGACHODUI_LAYOUT(sizeof(ngachodui_made) == 16);
+#undef NGACHODUI_LAYOUT
+
+/* ---- The gateway ---- */
+
+/* Makes every line neutral with next number 1 and serial 0, and the journal empty. Call it once,
+ * before all else; later it forgets every message that waits. */
+void ngachodui_fresh(ngachodui_line lines[NGACHODUI_LINES], ngachodui_counts *counts);
+
+/* A byte has come in on a line.
+ *
+ * Answers 0 to 6, 20 to 31, and 40, 41, 42, 43, tested in this order: 40, 41, 42, then the byte's
+ * work. `reply` goes back to the analyzer. After 4 the message is the library's alone: keep state and
+ * memories.
+ *
+ * Changes, by the answer:
+ *   0        at most this line's record, and its frame's next byte
+ *   1, 5, 6  this line's record: its counts 0, next number 1, no last number, not refusing
+ *   2        the record; the frame's last byte; the text behind the line's unfinished text
+ *   4        as 2, and the entry at the journal's end, the line's used count, the bytes in use, the
+ *            line's serial; the line has no unfinished text any more
+ *   30, 31   as 2, but the number is not advanced, the line has no unfinished text any more and
+ *            refuses frames until the transfer ends
+ *   3, 21 to 29   the frame's last byte; the line waits, its collected and second counts 0
+ *   20, 40 to 43  nothing
+ * 43 leaves the line inside its frame; 30 seconds free it. */
+ngachodui_answered ngachodui_byte(uint8_t line, uint8_t byte,
+                                  ngachodui_line lines[NGACHODUI_LINES], ngachodui_counts *counts,
+                                  uint8_t *journal, size_t journal_length,
+                                  uint8_t *unfinished, size_t unfinished_length,
+                                  uint8_t *frames, size_t frames_length);
+
+/* So many seconds, 0 to 255, have passed on a line since the last call that said so.
+ *
+ * Answers 0, 7, and 40, 41, 42 in this order. 0 changes the line's second count, and nothing on a
+ * neutral line; 7 makes the line neutral, as after 5; the others change nothing. The lines have no
+ * clock in common: tell each one, as often as is convenient, at least every few seconds while its
+ * transfer is open. */
+ngachodui_answered ngachodui_seconds(uint8_t line, uint8_t seconds,
+                                     ngachodui_line lines[NGACHODUI_LINES], ngachodui_counts *counts,
+                                     uint8_t *journal, size_t journal_length,
+                                     uint8_t *unfinished, size_t unfinished_length,
+                                     uint8_t *frames, size_t frames_length);
+
+/* Takes a line's oldest message: its text goes to the start of the buffer, and it leaves the journal.
+ *
+ * Answers 8, and 40, 41 (of the journal), 43, 44, 45 in this order. With 8, `length` bytes of the
+ * buffer are written and the rest keeps its bytes; later messages move up in the journal, and the
+ * line's used count and the bytes in use fall. The others change nothing. Serials count a line's
+ * messages, so the host can see that none is missing. A buffer of NGACHODUI_TEXT_LIMIT bytes is
+ * never too short. */
+ngachodui_answered ngachodui_take(uint8_t line,
+                                  const ngachodui_line lines[NGACHODUI_LINES], ngachodui_counts *counts,
+                                  uint8_t *journal, size_t journal_length,
+                                  uint8_t *buffer, size_t buffer_length);
+
+/* ---- Texts ---- */
+
+/* These need no gateway. When done, the output holds what is made, from its start, and keeps its rest;
+ * refused, it keeps all its bytes. 46 comes before 47. */
+
+/* Whether a text is a message: 1 to 4,000 allowed bytes, records ended by CR from H to L, in an order
+ * and with sequence numbers as document 01 has them. */
+bool ngachodui_is_message(const uint8_t *text, size_t text_length);
+
+/* Cuts a message into the frames that send it: for each record pieces of 240 bytes, the last with
+ * ETX, those before it with ETB, numbered from 1. To send it: ENQ, then these bytes, then EOT, with
+ * an ACK from the other side after ENQ and after each frame. 46: the text is no message. The length is
+ * the text's and 7 for each frame: at most NGACHODUI_CUT_LIMIT. */
+ngachodui_made ngachodui_cut(const uint8_t *text, size_t text_length, uint8_t *out, size_t out_length);
+
+/* Reads a message: each record's type letter, where it starts in the text, its length without CR, and
+ * its owner, by number from 1, or 0 where it has none (H and L). `length` is the number of records.
+ * 46: the text is no message. 47: one of the four has fewer slots than the message has records;
+ * NGACHODUI_RECORDS_LIMIT are always enough. The lengths count slots, not bytes. */
+ngachodui_made ngachodui_read(const uint8_t *text, size_t text_length,
+                              uint8_t *types, size_t types_length,
+                              uint16_t *offsets, size_t offsets_length,
+                              uint16_t *lengths, size_t lengths_length,
+                              uint16_t *owners, size_t owners_length);
+
+/* Writes a text so that it can stand in a field: | as &F&, ^ as &S&, \ as &R&, & as &E&. Never 46. At
+ * most three times the text's length. */
+ngachodui_made ngachodui_escape(const uint8_t *text, size_t text_length, uint8_t *out, size_t out_length);
+
+/* The way back. 46: a | \ or ^ stands there, or an & that begins none of the four escapes. */
+ngachodui_made ngachodui_unescape(const uint8_t *component, size_t component_length,
+                                  uint8_t *out, size_t out_length);
+
+#ifdef __cplusplus
+}
+#endif
+
+#endif
