@@ -8,3 +8,4 @@ pub mod ToldBack
 pub mod Hosts
 pub mod Refusals
 pub mod OneOutcome
+pub mod HostRuns

@@ -10,19 +10,35 @@ use Rattle.ngachodui.proofs.event.Statement.{statement}
 use Rattle.ngachodui.proofs.event.Tie as tie
 
 returns : tie.Need-returns
-returns c = let a = c .before .before .before .before .before .before .args in no-line (now (a .numbers)) (now (a .used)) (a .e) (now (a .journal)) (now (a .unfinished)) (now (a .frames)) _ (omega arith) (c .told .ensures)
+returns c =
+    let a = c .before .before .before .before .before .before .args in
+    no-line (now (a .numbers)) (now (a .used)) (a .e) (now (a .journal)) (now (a .unfinished)) (now (a .frames)) _ (omega arith) (c .told .ensures)
 
 returns-2 : tie.Need-returns-2
-returns-2 c = let a = c .before .before .before .before .before .before .before .before .args in wrong-size (now (a .numbers)) (now (a .used)) (a .e) (now (a .journal)) (now (a .unfinished)) (now (a .frames)) _ (omega arith) (sym (c .before .before .is-right .ensures) ∙ not-true _ (c .before .if2 .taken)) (c .told2 .ensures)
+returns-2 c =
+    let right = c .before .before in
+    let a = right .before .before .before .before .before .before .args in
+    wrong-size (now (a .numbers)) (now (a .used)) (a .e) (now (a .journal)) (now (a .unfinished)) (now (a .frames)) _ (omega arith) (sym (right .is-right .ensures) ∙ not-true _ (c .before .if2 .taken)) (c .told2 .ensures)
 
 returns-3 : tie.Need-returns-3
-returns-3 c = let a = c .before .before .before .before .before .before .before .before .before .before .before .args in beyond (now (a .numbers)) (now (a .used)) (a .e) (now (a .journal)) (now (a .unfinished)) (now (a .frames)) _ (omega arith) (sym (c .before .before .before .before .before .is-right .ensures) ∙ not-false _ (c .before .before .before .before .if2 .left)) (sym (c .before .before .is-within .ensures) ∙ not-true _ (c .before .if3 .taken)) (c .told3 .ensures)
+returns-3 c =
+    let within = c .before .before in
+    let right = within .before .before .before in
+    let a = right .before .before .before .before .before .before .args in
+    beyond (now (a .numbers)) (now (a .used)) (a .e) (now (a .journal)) (now (a .unfinished)) (now (a .frames)) _ (omega arith) (sym (right .is-right .ensures) ∙ not-false _ (within .before .before .if2 .left))
+    (sym (within .is-within .ensures) ∙ not-true _ (c .before .if3 .taken)) (c .told3 .ensures)
 
 step-requires : tie.Need-step-requires
 step-requires c κs = (omega arith, sym (c .before .before .before .before .before .before .is-within .ensures) ∙ not-false _ (c .before .before .before .before .before .if3 .left))
 
 returns-4 : tie.Need-returns-4
-returns-4 c = let a = c .before .before .before .before .before .before .before .before .before .before .before .before .before .before .before .before .before .before .before .before .before .before .args in by-step (now (a .numbers)) (now (a .used)) (a .e) (now (a .journal)) (now (a .unfinished)) (now (a .frames)) (omega arith) (sym (c .before .before .before .before .before .before .before .before .before .before .before .before .before .before .before .before .is-right .ensures) ∙ not-false _ (c .before .before .before .before .before .before .before .before .before .before .before .before .before .before .before .if2 .left)) (sym (c .before .before .before .before .before .before .before .before .before .before .before .before .before .is-within .ensures) ∙ not-false _ (c .before .before .before .before .before .before .before .before .before .before .before .before .if3 .left)) (c .before .before .before .before .before .before .step .ensures)
+returns-4 c =
+    let stepped = c .before .before .before .before .before .before in
+    let within = stepped .before .before .before .before .before .before .before in
+    let right = within .before .before .before in
+    let a = right .before .before .before .before .before .before .args in
+    by-step (now (a .numbers)) (now (a .used)) (a .e) (now (a .journal)) (now (a .unfinished)) (now (a .frames)) (omega arith) (sym (right .is-right .ensures) ∙ not-false _ (within .before .before .if2 .left))
+    (sym (within .is-within .ensures) ∙ not-false _ (stepped .before .before .before .before .before .before .if3 .left)) (stepped .step .ensures)
 
 pub event-spec : {M : Type 1} → statement M
 event-spec =

@@ -9,10 +9,17 @@ use Rattle.ngachodui.proofs.ngachodui_byte.Statement.{statement}
 use Rattle.ngachodui.proofs.ngachodui_byte.Tie as tie
 
 collect-requires : tie.Need-collect-requires
-collect-requires c κs = let q = quick-facts _ _ _ _ _ _ (sym (c .before .before .before .is-quick .ensures) ∙ c .before .before .if1 .taken) in (q .line, numbers-facts _ _ (q .within) .collected, frames-right _ _ _ (q .right))
+collect-requires c κs =
+    let q = quick-facts _ _ _ _ _ _ (sym (c .before .before .before .is-quick .ensures) ∙ c .before .before .if1 .taken) in
+    (q .line, numbers-facts _ _ (q .within) .collected, frames-right _ _ _ (q .right))
 
 returns : tie.Need-returns
-returns c = let a = c .before .before .before .before .before .before .before .before .before .before .before .before .args in let q = quick-facts _ _ _ _ _ _ (sym (c .before .before .before .before .before .before .before .is-quick .ensures) ∙ c .before .before .before .before .before .before .if1 .taken) in by-quick (now (a .numbers)) (now (a .used)) (a .line) (a .byte) (now (a .journal)) (now (a .unfinished)) (now (a .frames)) q (c .told .ensures) (c .before .before .before .collect .ensures .0) (c .before .before .before .collect .ensures .1)
+returns c =
+    let collected = c .before .before .before in
+    let quick = collected .before .before .before .before in
+    let a = quick .before .before .before .before .before .args in
+    let q = quick-facts _ _ _ _ _ _ (sym (quick .is-quick .ensures) ∙ collected .before .before .before .if1 .taken) in
+    by-quick (now (a .numbers)) (now (a .used)) (a .line) (a .byte) (now (a .journal)) (now (a .unfinished)) (now (a .frames)) q (c .told .ensures) (collected .collect .ensures .0) (collected .collect .ensures .1)
 
 pub ngachodui-byte-spec : {M : Type 1} → statement M
 ngachodui-byte-spec =

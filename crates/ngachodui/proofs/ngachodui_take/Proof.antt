@@ -8,13 +8,25 @@ use Rattle.ngachodui.proofs.ngachodui_take.Statement.{statement}
 use Rattle.ngachodui.proofs.ngachodui_take.Tie as tie
 
 returns : tie.Need-returns
-returns c = let a = c .before .before .before .before .before .before .before .before .before .before .before .before .before .before .args in taken-nowhere (now (a .numbers)) (now (a .used)) (a .line) (now (a .journal)) (now (a .buffer)) (c .before .before .before .before .before .before .before .before .before .before .ledger-of .ensures .0) (c .before .before .before .before .before .before .before .take .ensures) (c .told-taking .ensures) (omega arith)
+returns c =
+    let taken = c .before .before .before .before .before .before .before in
+    let ledger = taken .before .before .before in
+    let a = ledger .before .before .before .before .args in
+    taken-nowhere (now (a .numbers)) (now (a .used)) (a .line) (now (a .journal)) (now (a .buffer)) (ledger .ledger-of .ensures .0) (taken .take .ensures) (c .told-taking .ensures) (omega arith)
 
 put-used-requires : tie.Need-put-used-requires
-put-used-requires c κs = let a = c .before .before .before .before .before .before .before .before .before .before .before .before .before .before .args in (omega arith, narrow-taken (now (a .numbers)) (now (a .used)) (a .line) (now (a .journal)) (now (a .buffer)) _ (c .before .before .before .before .before .before .before .take .ensures .result) (c .before .before .before .before .before .before .before .before .before .before .ledger-of .ensures .1))
+put-used-requires c κs =
+    let taken = c .before .before .before .before .before .before .before in
+    let ledger = taken .before .before .before in
+    let a = ledger .before .before .before .before .args in
+    (omega arith, narrow-taken (now (a .numbers)) (now (a .used)) (a .line) (now (a .journal)) (now (a .buffer)) _ (taken .take .ensures .result) (ledger .ledger-of .ensures .1))
 
 returns-2 : tie.Need-returns-2
-returns-2 c = let a = c .before .before .before .before .before .before .before .before .before .before .before .before .before .before .before .before .args in taken-there (now (a .numbers)) (now (a .used)) (a .line) (now (a .journal)) (now (a .buffer)) (c .before .before .before .before .before .before .before .before .before .before .before .before .ledger-of .ensures .0) (c .before .before .before .before .before .before .before .before .before .take .ensures) (c .told-taking2 .ensures) (omega arith) (c .before .put-used .ensures)
+returns-2 c =
+    let taken = c .before .before .before .before .before .before .before .before .before in
+    let ledger = taken .before .before .before in
+    let a = ledger .before .before .before .before .args in
+    taken-there (now (a .numbers)) (now (a .used)) (a .line) (now (a .journal)) (now (a .buffer)) (ledger .ledger-of .ensures .0) (taken .take .ensures) (c .told-taking2 .ensures) (omega arith) (c .before .put-used .ensures)
 
 pub ngachodui-take-spec : {M : Type 1} → statement M
 ngachodui-take-spec =

@@ -1,0 +1,168 @@
+-- A host's run from numbers in order is the gateway's run: the same answers, and at its end the numbers tell the gateway's state. So what is promised of runs holds for hosts.
+-- Assumes nothing.
+use mathlib.Core.Path.{_≡_, refl, sym, ap, subst, _∙_}
+use mathlib.Core.Bool.{Bool, true, false}
+use mathlib.Core.List.{List, [], _∷_}
+use Prim.Native.Nat.{ℕ}
+use native.Mathlib.Omega.{arith}
+use lib.Dec.{ltb}
+use Rattle.memory.specs.Sizes.{lines}
+use Rattle.memory.specs.Tests.{unless}
+use Rattle.journal.specs.Room.{todaysShares}
+use Rattle.line.specs.Paper.{replyOf}
+use Rattle.line.specs.declared.Answer.{Answer}
+use Rattle.line.specs.declared.Answer.the-variants.{Nothing, Opened, Accepted, Repeated, Stored, Ended, Dropped, TimedOut, Taken, Busy, Unended, Torn, WrongCheck, BadText, BadNumber, Refusing, OutOfTurn, TooLong, NoCr, NoMessage, NoRoom, NoLine, WrongSize, BeyondLimits, Broken, NothingWaiting, BufferShort, Malformed, NotFitting}
+use Rattle.gateway.specs.Verdicts.{verdictOf}
+use Rattle.gateway.specs.Events.{Memory, stepOf, lineAt, putBack, freshGateway, eventOf}
+use Rattle.gateway.specs.declared.Event.{Event}
+use Rattle.gateway.specs.declared.Gateway.{Gateway}
+use Rattle.gateway.specs.declared.Verdict.{Verdict}
+use Rattle.gateway.specs.declared.Verdict.the-variants.{Left, Opens, Closes, Begins, Counts, Collects, Refuses, Accepts, Stores, Against}
+use Rattle.gateway_laws.specs.Classes.{Class, quiet, opening, closing, refusing, accepting, storing, against, taking as gives, classOf, verdictClass}
+use Rattle.gateway_laws.proofs.Proper.{verdict-proper}
+use Rattle.serial.specs.Serial.{event, taking, annotate, final, Every}
+use Rattle.promises.specs.Machine.{State, Told, GatewayItem, onLine, step, Sound, May}
+use Rattle.promises.specs.Runs.{RightSizes, fresh, answered, isFault}
+use Rattle.promises.proofs.Runs.{always-sound, never-faulty}
+use Rattle.ngachodui.specs.Plain.{told}
+use Rattle.ngachodui.specs.Hosting.{Tells}
+use Rattle.ngachodui.specs.HostRuns.{HostState, gatewayState, InOrder, freshHost, HostTold, hostStep, Alike}
+use Rattle.ngachodui.specs.declared.Answered.{Answered}
+use Rattle.ngachodui.proofs.Hosts.{hosts-the-gateway, taking-hosts, fresh-hosts}
+
+nothing-else : {A : Type 0} → _≡_ {A = ℕ} 0 1 → A
+nothing-else z = absurd (omega arith)
+
+-- no event is answered 8, so what an event is told has all that its answer has
+abbrev isGiving : Class → Bool
+isGiving quiet = false
+isGiving opening = false
+isGiving closing = false
+isGiving refusing = false
+isGiving accepting = false
+isGiving storing = false
+isGiving against = false
+isGiving gives = true
+
+never-gives : (v : Verdict) → isGiving (verdictClass v) ≡ false
+never-gives (Left a) = refl
+never-gives Opens = refl
+never-gives (Closes a) = refl
+never-gives Begins = refl
+never-gives (Counts n) = refl
+never-gives Collects = refl
+never-gives (Refuses a) = refl
+never-gives (Accepts n) = refl
+never-gives (Stores n) = refl
+never-gives (Against a n) = refl
+
+tells-event : (a : Answer) → isGiving (classOf a) ≡ false → Tells (told a) a
+unfolding told replyOf
+tells-event Nothing h = record { number = refl; reply = refl; values = refl }
+tells-event Opened h = record { number = refl; reply = refl; values = refl }
+tells-event Accepted h = record { number = refl; reply = refl; values = refl }
+tells-event Repeated h = record { number = refl; reply = refl; values = refl }
+tells-event Stored h = record { number = refl; reply = refl; values = refl }
+tells-event Ended h = record { number = refl; reply = refl; values = refl }
+tells-event Dropped h = record { number = refl; reply = refl; values = refl }
+tells-event TimedOut h = record { number = refl; reply = refl; values = refl }
+tells-event (Taken n serial) h = nothing-else (cc h)
+tells-event Busy h = record { number = refl; reply = refl; values = refl }
+tells-event Unended h = record { number = refl; reply = refl; values = refl }
+tells-event Torn h = record { number = refl; reply = refl; values = refl }
+tells-event WrongCheck h = record { number = refl; reply = refl; values = refl }
+tells-event BadText h = record { number = refl; reply = refl; values = refl }
+tells-event BadNumber h = record { number = refl; reply = refl; values = refl }
+tells-event Refusing h = record { number = refl; reply = refl; values = refl }
+tells-event OutOfTurn h = record { number = refl; reply = refl; values = refl }
+tells-event TooLong h = record { number = refl; reply = refl; values = refl }
+tells-event NoCr h = record { number = refl; reply = refl; values = refl }
+tells-event NoMessage h = record { number = refl; reply = refl; values = refl }
+tells-event NoRoom h = record { number = refl; reply = refl; values = refl }
+tells-event NoLine h = record { number = refl; reply = refl; values = refl }
+tells-event WrongSize h = record { number = refl; reply = refl; values = refl }
+tells-event BeyondLimits h = record { number = refl; reply = refl; values = refl }
+tells-event Broken h = record { number = refl; reply = refl; values = refl }
+tells-event NothingWaiting h = record { number = refl; reply = refl; values = refl }
+tells-event BufferShort h = record { number = refl; reply = refl; values = refl }
+tells-event Malformed h = record { number = refl; reply = refl; values = refl }
+tells-event NotFitting h = record { number = refl; reply = refl; values = refl }
+
+event-gives : (g : Gateway) (e : Event) (m : Memory) → isGiving (classOf (eventOf todaysShares g e m .handled .answer)) ≡ false
+unfolding eventOf stepOf
+event-gives g e m = by-line (ltb (e .line) lines)
+  where
+    by-line : (b : Bool) → isGiving (classOf (unless b (record { handled = record { gateway = g; answer = NoLine }; memory = m }) (putBack g (e .line) (stepOf todaysShares (lineAt g (e .line)) (g .ledger) e m)) .handled .answer)) ≡ false
+    by-line true =
+        let v = verdictOf todaysShares (lineAt g (e .line)) (g .ledger) e (m .journal) (m .unfinished) (m .frames) in
+        ap isGiving (verdict-proper todaysShares (lineAt g (e .line)) (g .ledger) e (m .journal) (m .unfinished) (m .frames)) ∙ never-gives v
+    by-line false = refl
+
+-- one call
+pub record OneCall (s : HostState) (e : GatewayItem) : Type 0 where
+  pub state : gatewayState ((hostStep s e) .1) ≡ (step (gatewayState s) e) .1
+  pub tells : Tells ((hostStep s e) .0 .answered) ((step (gatewayState s) e) .0 .answer)
+  pub buffer : (hostStep s e) .0 .buffer ≡ (step (gatewayState s) e) .0 .buffer
+  pub in-order : InOrder ((hostStep s e) .1)
+
+pub one-call : (s : HostState) → InOrder s → (e : GatewayItem) → OneCall s e
+one-call s o (event i k) =
+    let g = gatewayState s .gateway in
+    let h = hosts-the-gateway (s .numbers) (s .used) o (onLine i k) (s .memory) in
+    record {
+      state = λ z. record { gateway = h .gateway z; memory = h .memory z };
+      tells = subst (λ (x : Answered). Tells x (eventOf todaysShares g (onLine i k) (s .memory) .handled .answer)) (sym (h .answer)) (tells-event _ (event-gives g (onLine i k) (s .memory)));
+      buffer = refl;
+      in-order = h .ordered;
+    }
+one-call s o (taking i b) =
+    let h = taking-hosts (s .numbers) (s .used) o i (s .memory .journal) b (record { result = refl; used = refl; journal = refl; buffer = refl }) in
+    record {
+      state = λ z. record { gateway = h .gateway z; memory = record { journal = h .journal z; unfinished = s .memory .unfinished; frames = s .memory .frames } };
+      tells = h .answer;
+      buffer = h .buffer;
+      in-order = h .ordered;
+    }
+
+-- a run of calls
+pub runs-alike : (s : HostState) → InOrder s → (es : List GatewayItem) → Alike (annotate hostStep s es) (annotate step (gatewayState s) es)
+runs-alike s o [] = tt
+runs-alike s o (e ∷ es) =
+    let c = one-call s o e in
+    (refl, c .tells, c .buffer, subst (λ (x : State). Alike (annotate hostStep ((hostStep s e) .1) es) (annotate step x es)) (c .state) (runs-alike ((hostStep s e) .1) (c .in-order) es))
+
+pub ends-alike : (s : HostState) → InOrder s → (es : List GatewayItem) → gatewayState (final hostStep s es) ≡ final step (gatewayState s) es
+ends-alike s o [] = refl
+ends-alike s o (e ∷ es) =
+    let c = one-call s o e in
+    ends-alike ((hostStep s e) .1) (c .in-order) es ∙ ap (λ (x : State). final step x es) (c .state)
+
+pub stays-in-order : (s : HostState) → InOrder s → (es : List GatewayItem) → InOrder (final hostStep s es)
+stays-in-order s o [] = o
+stays-in-order s o (e ∷ es) = stays-in-order ((hostStep s e) .1) (one-call s o e .in-order) es
+
+-- so the promises of runs from fresh hold for hosts; two of them, told of the host's own numbers
+alike-faultless : (xs : List (GatewayItem × HostTold)) (ys : List (GatewayItem × Told)) → Alike xs ys → Every (λ y. isFault (answered (y .1)) ≡ false) ys → Every (λ x. isFault (x .1 .answered .number) ≡ false) xs
+alike-faultless [] [] a f = tt
+alike-faultless [] (y ∷ ys) a f = absurd a
+alike-faultless (x ∷ xs) [] a f = absurd a
+alike-faultless (x ∷ xs) (y ∷ ys) a f = (ap isFault (a .1 .number) ∙ f .0, alike-faultless xs ys (a .3) (f .1))
+
+module _ (m : Memory) (sizes : RightSizes m) (es : List GatewayItem) (may : Every May es) where
+  fresh-in-order : (gatewayState (freshHost m) .gateway ≡ freshGateway) × InOrder (freshHost m)
+  fresh-in-order = fresh-hosts (record { numbers = refl; used = refl })
+
+  fresh-is : gatewayState (freshHost m) ≡ fresh m
+  fresh-is = λ z. record { gateway = (fresh-in-order .0) z; memory = m }
+
+  -- no call of a host is answered 41, 42 or 43
+  pub host-never-faulty : Every (λ x. isFault (x .1 .answered .number) ≡ false) (annotate hostStep (freshHost m) es)
+  host-never-faulty =
+      alike-faultless (annotate hostStep (freshHost m) es) (annotate step (fresh m) es)
+      (subst (λ (x : State). Alike (annotate hostStep (freshHost m) es) (annotate step x es)) fresh-is (runs-alike (freshHost m) (fresh-in-order .1) es)) (never-faulty m sizes es may)
+
+  -- and what it keeps is sound: eight records within their limits, right sizes, a whole journal that keeps every share
+  pub host-always-sound : Sound (gatewayState (final hostStep (freshHost m) es))
+  host-always-sound =
+      let end : gatewayState (final hostStep (freshHost m) es) ≡ final step (fresh m) es = ends-alike (freshHost m) (fresh-in-order .1) es ∙ ap (λ (x : State). final step x es) fresh-is in
+      subst Sound (sym end) (always-sound m sizes es may)
