@@ -90,8 +90,8 @@ enum ngachodui_number {
 
     NGACHODUI_NO_LINE = 40,         /* the line is not 0 to 7 */
     NGACHODUI_WRONG_SIZE = 41,      /* a lent memory has another size */
-    NGACHODUI_BEYOND_LIMITS = 42,   /* the line's record is beyond its limits: not left by these functions */
-    NGACHODUI_BROKEN = 43,          /* the journal or its counts are broken: not left by these functions */
+    NGACHODUI_BEYOND_LIMITS = 42,   /* the line's record is beyond its limits: no run of these functions leaves one */
+    NGACHODUI_BROKEN = 43,          /* the journal or its counts are broken: no run of these functions leaves them so */
     NGACHODUI_NOTHING_WAITING = 44, /* the line has no entry to take */
     NGACHODUI_BUFFER_SHORT = 45,    /* the buffer is too short for the line's oldest entry */
     NGACHODUI_MALFORMED = 46,       /* the text to cut or read is no message; the component has a wrong escape */
