@@ -1,3 +1,4 @@
+pub mod Marks
 pub mod Check
 pub mod Collected
 pub mod Put

@@ -1,8 +1,9 @@
 // E1381 frames: the bytes that a text may have, the check, the numbers, the shape of a frame that has come, and the writing of one.
 ghost use mathlib.Core.Path.{_≡_};
 ghost use mathlib.Core.List.{List, [], _∷_, _++_};
-ghost use Rattle.memory.specs.Tests.{all};
-ghost use Rattle.frame.specs.Allowed.{allowed};
+ghost use lib.ListN.{getD};
+ghost use Rattle.memory.specs.Tests.{is, all};
+ghost use Rattle.frame.specs.Allowed.{allowed, plus, classTable};
 ghost use Rattle.frame.specs.Check.{checkOf, digitsOf};
 ghost use Rattle.frame.specs.Number.{nextNumber};
 ghost use Rattle.frame.specs.Shape.{shapeOf};
@@ -81,16 +82,32 @@ const CLASSES: [u8; 256] = *b"\
 pub fn is_allowed(b: u8) -> bool
     ensures { λ r. ⌜ r ≡ allowed b ⌝ }
 {
-    CLASSES[b as usize] == b'+'
+    let table = classes();
+    is_marked(&table, b)
+}
+
+// The classes as a value: a loop that looks bytes up takes it once, as a constant is laid out anew wherever it is named.
+pub fn classes() -> [u8; 256]
+    ensures { λ r. ⌜ r ≡ classTable ⌝ }
+{
+    CLASSES
+}
+
+// Whether b is marked '+' in a table of classes: in the one above, whether it is allowed.
+pub fn is_marked(classes: &[u8; 256], b: u8) -> bool
+    ensures { λ r. ⌜ (r ≡ is plus (getD (now (classes .entry)) b 0)) × (now (classes .entry) ≡ classTable → r ≡ allowed b) ⌝ }
+{
+    classes[b as usize] == b'+'
 }
 
 // Whether E1394 allows every byte of the text.
 pub fn all_allowed(text: &[u8]) -> bool
     ensures { λ r. ⌜ r ≡ all allowed (now (text .entry)) ⌝ }
 {
+    let table = classes();
     let mut i = 0;
     while i < text.len() {
-        if !is_allowed(text[i]) {
+        if !is_marked(&table, text[i]) {
             return false;
         }
         i += 1;

@@ -17,13 +17,14 @@ use crate::Step;
 pub fn scan(text: &[u8]) -> Scanned
     ensures { λ r. ⌜ r ≡ cond (all allowed (before cr (now (text .entry)))) (Scanned.End (find (is cr) (now (text .entry)))) Scanned.NotText ⌝ }
 {
+    let table = frame::classes();
     let mut i: usize = 0;
     while i < text.len() {
         let b = text[i];
         if b == crate::CR {
             return Scanned::End(i);
         }
-        if !frame::is_allowed(b) {
+        if !frame::is_marked(&table, b) {
             return Scanned::NotText;
         }
         i += 1;

@@ -13,32 +13,32 @@ use Rattle.frame.proofs.all_allowed.Statement.{statement}
 use Rattle.frame.proofs.all_allowed.Tie as tie
 
 abbrev Inv-loop : tie.InvT-loop
-Inv-loop text i₀ i = (i ≤ length text) × (all allowed (drop i text) ≡ all allowed text)
+Inv-loop text table i₀ i = (i ≤ length text) × (all allowed (drop i text) ≡ all allowed text)
 
 abbrev μ-loop : tie.MeasureT-loop
-μ-loop text i₀ i = length text - i
+μ-loop text table i₀ i = length text - i
 
 loop-holds : tie.Need-loop-holds Inv-loop μ-loop
 loop-holds c = (omega arith, refl)
 
 returns : tie.Need-returns Inv-loop μ-loop
 returns c =
-    let l = c .before .before .before .before in
-    all-stop allowed (now (l .before .before .args .text)) (l .loop .i) (omega arith)
-    (sym (c .before .is-allowed .ensures) ∙ not-true _ (c .if1 .taken)) (l .loop .inv .1)
+    let l = c .before .before .before .before .before in
+    all-stop allowed (now (l .before .before .before .args .text)) (l .loop .i) (omega arith)
+    (sym (c .before .is-marked .ensures .1 (l .before .classes .ensures)) ∙ not-true _ (c .if1 .taken)) (l .loop .inv .1)
 
 loop-again : tie.Need-loop-again Inv-loop μ-loop
 loop-again c =
-    let l = c .before .before .before .before in (
+    let l = c .before .before .before .before .before in (
       omega arith,
-      all-next allowed (now (l .before .before .args .text)) (l .loop .i) (omega arith)
-          (sym (c .before .is-allowed .ensures) ∙ not-false _ (c .if1 .left)) (l .loop .inv .1),
+      all-next allowed (now (l .before .before .before .args .text)) (l .loop .i) (omega arith)
+          (sym (c .before .is-marked .ensures .1 (l .before .classes .ensures)) ∙ not-false _ (c .if1 .left)) (l .loop .inv .1),
     )
 
 returns-2 : tie.Need-returns-2 Inv-loop μ-loop
 returns-2 c =
     let l = c .before in
-    all-done allowed (now (l .before .before .args .text)) (l .loop .i) (omega arith) (l .loop .inv .1)
+    all-done allowed (now (l .before .before .before .args .text)) (l .loop .i) (omega arith) (l .loop .inv .1)
 
 pub all-allowed-spec : {M : Type 1} → statement M
 all-allowed-spec =
@@ -46,6 +46,7 @@ all-allowed-spec =
     (tie.spec
     Inv-loop
     μ-loop
+    (λ c κs. tt)
     loop-holds
     (λ c. omega arith)
     (λ c κs. tt)
