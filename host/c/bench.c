@@ -11,7 +11,6 @@
 #include "baseline.h"
 #include "ngachodui.h"
 
-#include <inttypes.h>
 #include <stdio.h>
 #include <stdlib.h>
 #include <string.h>
@@ -245,21 +244,30 @@ FOR_EACH_SIDE void morning(enum side side, uint64_t count)
 
 /* ---- Frames and messages ---- */
 
-/* The LF of a full frame: 240 bytes of text and ETB, right in all or with a wrong check digit. */
-FOR_EACH_SIDE void judged(enum side side, uint64_t count, bool right)
+static size_t text_of_frame(size_t size)
+{
+    enum { MOST = FRAME - 7 };
+    if (size > MOST)
+        stop("a frame has up to 240 bytes of text");
+    return size ? size : MOST;
+}
+
+/* The LF of a frame with so many bytes of text and ETB, right in all or with a wrong check digit. */
+FOR_EACH_SIDE void judged(enum side side, uint64_t count, size_t size, bool right)
 {
     uint8_t frame[FRAME] = { STX, '1' };
+    uint8_t *end = frame + 2 + size;
     unsigned sum = '1' + ETB;
-    for (unsigned i = 2; i < FRAME - 5; i++)
-        sum += frame[i] = (uint8_t)('!' + i % 90);
-    frame[FRAME - 5] = ETB;
-    frame[FRAME - 4] = (uint8_t)"0123456789ABCDEF"[sum >> 4 & 15];
-    frame[FRAME - 3] = right ? (uint8_t)"0123456789ABCDEF"[sum & 15] : '?';
-    frame[FRAME - 2] = CR;
+    for (size_t i = 0; i < size; i++)
+        sum += frame[2 + i] = (uint8_t)('!' + i % 90);
+    end[0] = ETB;
+    end[1] = (uint8_t)"0123456789ABCDEF"[sum >> 4 & 15];
+    end[2] = right ? (uint8_t)"0123456789ABCDEF"[sum & 15] : '?';
+    end[3] = CR;
     fresh(side);
     byte_in(side, 3, ENQ);
-    for (unsigned i = 0; i < FRAME - 1; i++)
-        byte_in(side, 3, frame[i]);
+    for (const uint8_t *at = frame; at < end + 4; at++)
+        byte_in(side, 3, *at);
     saved = now;
     for (uint64_t i = 0; i < count; i++) {
         unsigned number = byte_in(side, 3, LF);
@@ -419,6 +427,17 @@ static uint64_t nanoseconds(void)
     return (uint64_t)at.tv_sec * 1000000000 + (uint64_t)at.tv_nsec;
 }
 
+/* Always as many digits, one by one: so it takes as many instructions whatever the number is. */
+static void write_number(FILE *file, const char *words, uint64_t number)
+{
+    char digits[21] = "";
+    for (int i = 19; i >= 0; i--, number /= 10)
+        digits[i] = (char)('0' + number % 10);
+    fputs(words, file);
+    fputs(digits, file);
+    fputs("\n", file);
+}
+
 static void run(const char *operation, enum side side, uint64_t count, size_t size)
 {
 #define IS(name) (strcmp(operation, name) == 0)
@@ -431,7 +450,7 @@ static void run(const char *operation, enum side side, uint64_t count, size_t si
             function(PLAIN, __VA_ARGS__);                           \
         else                                                        \
             function(NONE, __VA_ARGS__);                            \
-        fprintf(stderr, "nanoseconds %020" PRIu64 "\n", nanoseconds() - start); \
+        write_number(stderr, "nanoseconds ", nanoseconds() - start); \
     } while (0)
     bool many = strstr(operation, "-many") != NULL;
     if (IS("collected")) {
@@ -440,9 +459,9 @@ static void run(const char *operation, enum side side, uint64_t count, size_t si
         read_trace();
         RUN(morning, count);
     } else if (IS("accepted")) {
-        RUN(judged, count, true);
+        RUN(judged, count, text_of_frame(size), true);
     } else if (IS("refused")) {
-        RUN(judged, count, false);
+        RUN(judged, count, text_of_frame(size), false);
     } else if (IS("decided-few") || IS("decided-many")) {
         make_message(size ? size : TEXT, many);
         cut_message();
@@ -490,6 +509,7 @@ int main(int argc, char **argv)
     note_bytes(unfinished, sizeof unfinished);
     note_bytes(frames, sizeof frames);
     note_bytes(buffer, sizeof buffer);
-    printf("%016" PRIx64 " %020" PRIu64 "\n", checksum, done);
+    write_number(stdout, "checksum ", checksum);
+    write_number(stdout, "operations ", done);
     return 0;
 }
