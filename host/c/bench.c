@@ -1,0 +1,515 @@
+/* One operation of the gateway, many times over, through the library or through the plain C gateway.
+ * host/bench counts the instructions of its runs.
+ *
+ *     bench OPERATION SIDE COUNT [SIZE]
+ *
+ * SIDE is library, plain or none. With none all is done but the call of the gateway, so that what it
+ * costs to call it again and again can be subtracted. Standard output has a checksum of all answers
+ * and of all memory at the end, which both sides must share, and how many operations were done (for
+ * bytes: how many bytes). Standard error has the time that they took. */
+#define _POSIX_C_SOURCE 200809L
+#include "baseline.h"
+#include "ngachodui.h"
+
+#include <stdio.h>
+#include <stdlib.h>
+#include <string.h>
+#include <time.h>
+
+enum side { LIBRARY, PLAIN, NONE };
+
+enum { STX = 0x02, ETX = 0x03, ENQ = 0x05, LF = 0x0A, CR = 0x0D, ETB = 0x17 };
+enum { TEXT = NGACHODUI_TEXT_LIMIT, FRAME = NGACHODUI_FRAME_LIMIT, RECORDS = NGACHODUI_RECORDS_LIMIT, LINES = 8 };
+
+/* Each operation is compiled once for each side, so that each calls its gateway directly. */
+#define FOR_EACH_SIDE static inline __attribute__((always_inline))
+
+static void stop(const char *why)
+{
+    fprintf(stderr, "bench: %s\n", why);
+    exit(1);
+}
+
+/* ---- The two gateways ---- */
+
+/* What is saved in front of an operation and put back behind it. */
+struct records {
+    ngachodui_state library;
+    struct plain_gateway plain;
+};
+
+static struct records now, saved;
+static uint8_t journal[NGACHODUI_JOURNAL_SIZE], saved_journal[NGACHODUI_JOURNAL_SIZE];
+static uint8_t unfinished[NGACHODUI_UNFINISHED_SIZE];
+static uint8_t frames[NGACHODUI_FRAMES_SIZE];
+static uint8_t buffer[TEXT];
+static const struct plain_memory memory = { journal, sizeof journal, unfinished, sizeof unfinished, frames, sizeof frames };
+
+static uint64_t checksum;
+static uint64_t done;
+
+/* The compiler must take memory for read and changed here: nothing around is left out. */
+#define KEEP_MEMORY() __asm__ volatile("" ::: "memory")
+
+static inline void note(uint64_t value)
+{
+    checksum = checksum * 31 + value;
+}
+
+FOR_EACH_SIDE void fresh(enum side side)
+{
+    if (side == LIBRARY)
+        ngachodui_fresh(now.library.lines, &now.library.counts);
+    else if (side == PLAIN)
+        now.plain = plain_fresh();
+}
+
+/* A host looks at the reply only where there is an answer. */
+FOR_EACH_SIDE unsigned byte_in(enum side side, unsigned line, uint8_t byte)
+{
+    unsigned number = 0;
+    if (side == LIBRARY) {
+        ngachodui_answered answer =
+            ngachodui_byte((uint8_t)line, byte, now.library.lines, &now.library.counts, journal, sizeof journal,
+                           unfinished, sizeof unfinished, frames, sizeof frames);
+        number = answer.number;
+        if (number != 0)
+            note(answer.reply);
+    } else if (side == PLAIN) {
+        number = plain_event(&now.plain, &memory, line, PLAIN_BYTE, byte).number;
+        if (number != 0) {
+            int reply = plain_reply(number);
+            note(reply == PLAIN_NO_REPLY ? 0 : (uint64_t)reply);
+        }
+    } else {
+        __asm__ volatile("" : "+r"(line), "+r"(byte));
+    }
+    note(number);
+    return number;
+}
+
+FOR_EACH_SIDE void seconds_in(enum side side, unsigned line, uint8_t seconds)
+{
+    unsigned number = 0;
+    if (side == LIBRARY)
+        number = ngachodui_seconds((uint8_t)line, seconds, now.library.lines, &now.library.counts, journal,
+                                   sizeof journal, unfinished, sizeof unfinished, frames, sizeof frames).number;
+    else if (side == PLAIN)
+        number = plain_event(&now.plain, &memory, line, PLAIN_SECONDS, seconds).number;
+    else
+        __asm__ volatile("" : "+r"(line), "+r"(seconds));
+    note(number);
+}
+
+FOR_EACH_SIDE void take_out(enum side side, unsigned line, size_t room)
+{
+    if (side == LIBRARY) {
+        ngachodui_answered answer = ngachodui_take((uint8_t)line, now.library.lines, &now.library.counts, journal,
+                                                   sizeof journal, buffer, room);
+        note(answer.number + 64 * answer.length + 4096 * 64 * (uint64_t)answer.serial);
+    } else if (side == PLAIN) {
+        struct plain_answer answer = plain_take(&now.plain, journal, sizeof journal, line, buffer, room);
+        note(answer.number + 64 * (size_t)answer.length + 4096 * 64 * (uint64_t)answer.serial);
+    } else {
+        __asm__ volatile("" : "+r"(line), "+r"(room));
+    }
+}
+
+/* Both sides' records, whatever the side, so that it costs the same. */
+static inline void put_back(void)
+{
+    now = saved;
+    KEEP_MEMORY();
+}
+
+/* ---- Messages ---- */
+
+static uint8_t text[TEXT];
+static size_t length;
+
+/* A record with its number, filled up to `size` bytes where that is more than it needs. */
+static void add_record(const char *start, unsigned number, size_t size)
+{
+    size_t n = length + (size_t)sprintf((char *)text + length, "%s%u", start, number);
+    const size_t end = length + size;
+    if (n + 1 < end)
+        text[n++] = '|';
+    for (; n + 1 < end; n++)
+        text[n] = (uint8_t)('a' + n % 26);
+    text[n++] = CR;
+    length = n;
+}
+
+/* A message of exactly `size` bytes, at least 20: few records of up to 900 bytes, or many of 4 and 5. */
+static void make_message(size_t size, bool many)
+{
+    enum { END = 4, LONG = 900, LEAST = 12 };
+    if (size < 20 || size > TEXT)
+        stop("a message has 20 to 4,000 bytes here");
+    length = (size_t)sprintf((char *)text, "H|\\^&\r");
+    if (many) {
+        unsigned orders = 0;
+        if (size - length >= 32)
+            add_record("P|", 1, 0);
+        while (size - length >= 80) {
+            add_record("O|", ++orders, 0);
+            for (unsigned results = 1; results <= 9; results++)
+                add_record("R|", results, 0);
+        }
+    }
+    for (unsigned number = 1; size - length > END; number++) {
+        size_t left = size - length - END;
+        add_record("M|", number, left > LONG + LEAST ? LONG : left);
+    }
+    length += (size_t)sprintf((char *)text + length, "L|1") + 1;
+    text[length - 1] = CR;
+    if (length != size || !plain_is_message(text, length))
+        stop("the message is not what it should be");
+}
+
+static uint8_t sent[NGACHODUI_CUT_LIMIT];
+static size_t sent_length;
+
+static void cut_message(void)
+{
+    if (plain_cut(text, length, sent, sizeof sent, &sent_length) != PLAIN_NOTHING)
+        stop("the message is not cut");
+}
+
+/* ---- Bytes through the lines ---- */
+
+/* Collected bytes, round robin over eight lines: 240 on each, then the frames begin again. */
+FOR_EACH_SIDE void collected(enum side side, uint64_t count)
+{
+    enum { BYTES = 240 };
+    fresh(side);
+    for (unsigned line = 0; line < LINES; line++) {
+        byte_in(side, line, ENQ);
+        byte_in(side, line, STX);
+    }
+    saved = now;
+    for (uint64_t i = 0; i < count; i++) {
+        for (unsigned at = 0; at < BYTES; at++)
+            for (unsigned line = 0; line < LINES; line++)
+                byte_in(side, line, (uint8_t)('A' + (at & 31)));
+        put_back();
+    }
+    done = count * BYTES * LINES;
+}
+
+/* A trace's events, from fresh. Its bytes, seconds and takings are one operation each. */
+struct event {
+    uint8_t line;
+    uint8_t kind;
+    uint16_t value;
+};
+
+static struct event *events;
+static size_t events_length;
+
+static void read_trace(void)
+{
+    unsigned line, value;
+    char kind, row[32];
+    while (fgets(row, sizeof row, stdin)) {
+        bool good = row[1] == ' ' && row[2] == 'B' ? sscanf(row, "%1u %c %2x", &line, &kind, &value) == 3
+                                                   : sscanf(row, "%1u %c %4u", &line, &kind, &value) == 3;
+        if (!good)
+            stop("no trace on standard input");
+        if ((events_length & (events_length - 1)) == 0) {
+            events = realloc(events, (2 * events_length + 1) * sizeof *events);
+            if (!events)
+                stop("no memory");
+        }
+        events[events_length++] = (struct event){ (uint8_t)line, (uint8_t)kind, (uint16_t)value };
+    }
+}
+
+FOR_EACH_SIDE void morning(enum side side, uint64_t count)
+{
+    for (uint64_t i = 0; i < count; i++) {
+        fresh(side);
+        for (size_t at = 0; at < events_length; at++) {
+            struct event event = events[at];
+            if (event.kind == 'B')
+                byte_in(side, event.line, (uint8_t)event.value);
+            else if (event.kind == 'S')
+                seconds_in(side, event.line, (uint8_t)event.value);
+            else
+                take_out(side, event.line, event.value);
+        }
+    }
+    done = count * events_length;
+}
+
+/* ---- Frames and messages ---- */
+
+static size_t text_of_frame(size_t size)
+{
+    enum { MOST = FRAME - 7 };
+    if (size > MOST)
+        stop("a frame has up to 240 bytes of text");
+    return size ? size : MOST;
+}
+
+/* The LF of a frame with so many bytes of text and ETB, right in all or with a wrong check digit. */
+FOR_EACH_SIDE void judged(enum side side, uint64_t count, size_t size, bool right)
+{
+    uint8_t frame[FRAME] = { STX, '1' };
+    uint8_t *end = frame + 2 + size;
+    unsigned sum = '1' + ETB;
+    for (size_t i = 0; i < size; i++)
+        sum += frame[2 + i] = (uint8_t)('!' + i % 90);
+    end[0] = ETB;
+    end[1] = (uint8_t)"0123456789ABCDEF"[sum >> 4 & 15];
+    end[2] = right ? (uint8_t)"0123456789ABCDEF"[sum & 15] : '?';
+    end[3] = CR;
+    fresh(side);
+    byte_in(side, 3, ENQ);
+    for (const uint8_t *at = frame; at < end + 4; at++)
+        byte_in(side, 3, *at);
+    saved = now;
+    for (uint64_t i = 0; i < count; i++) {
+        unsigned number = byte_in(side, 3, LF);
+        if (side != NONE && number != (right ? NGACHODUI_ACCEPTED : NGACHODUI_WRONG_CHECK))
+            stop("the frame is not judged as it should be");
+        put_back();
+    }
+    done = count;
+}
+
+/* The LF that completes a message, in an empty journal: the records are checked and the text stored. */
+FOR_EACH_SIDE void decided(enum side side, uint64_t count)
+{
+    fresh(side);
+    byte_in(side, 3, ENQ);
+    for (size_t i = 0; i < sent_length - 1; i++)
+        byte_in(side, 3, sent[i]);
+    saved = now;
+    for (uint64_t i = 0; i < count; i++) {
+        unsigned number = byte_in(side, 3, LF);
+        if (side != NONE && number != NGACHODUI_STORED)
+            stop("the message is not stored");
+        put_back();
+    }
+    done = count;
+}
+
+/* ---- Takings ---- */
+
+/* A journal of so many entries, each of the message, on the lines in turn. */
+static void fill_journal(unsigned entries)
+{
+    size_t at = 0;
+    for (unsigned i = 0; i < entries; i++) {
+        unsigned line = i % LINES, serial = i / LINES;
+        size_t size = 4 + length;
+        if (at + size > sizeof journal)
+            stop("so many entries do not fit");
+        const uint8_t header[4] = { (uint8_t)(line << 5 | length >> 8), (uint8_t)length, (uint8_t)(serial >> 8), (uint8_t)serial };
+        memcpy(journal + at, header, 4);
+        memcpy(journal + at + 4, text, length);
+        at += size;
+        now.library.counts.used[line] += (uint32_t)size;
+        now.library.lines[line].serial++;
+        now.plain.ledger.used[line] += (uint32_t)size;
+        now.plain.ledger.serials[line]++;
+    }
+    now.library.counts.in_use = now.plain.ledger.in_use = (uint32_t)at;
+    memcpy(saved_journal, journal, sizeof journal);
+}
+
+/* The first entry is taken, all others move up, and the journal is put back. */
+FOR_EACH_SIDE void taken(enum side side, uint64_t count, unsigned entries)
+{
+    now.plain = plain_fresh();
+    ngachodui_fresh(now.library.lines, &now.library.counts);
+    fill_journal(entries);
+    saved = now;
+    for (uint64_t i = 0; i < count; i++) {
+        take_out(side, 0, sizeof buffer);
+        memcpy(journal, saved_journal, sizeof journal);
+        put_back();
+    }
+    take_out(side, 0, sizeof buffer); /* so that what a taking leaves is in the checksum */
+    done = count;
+}
+
+/* ---- Texts ---- */
+
+static uint8_t out[3 * TEXT + FRAME];
+static size_t out_length;
+
+static void note_bytes(const uint8_t *bytes, size_t n)
+{
+    for (size_t i = 0; i < n; i++)
+        note(bytes[i]);
+}
+
+enum text_function { CHECK, CUT, ESCAPE, UNESCAPE };
+
+FOR_EACH_SIDE void over_text(enum side side, uint64_t count, enum text_function function)
+{
+    for (uint64_t i = 0; i < count; i++) {
+        unsigned number = 0;
+        if (side == LIBRARY && function == CHECK) {
+            number = ngachodui_is_message(text, length) ? 0 : NGACHODUI_MALFORMED;
+        } else if (side == LIBRARY) {
+            ngachodui_made made = function == CUT ? ngachodui_cut(text, length, out, sizeof out)
+                                : function == ESCAPE ? ngachodui_escape(text, length, out, sizeof out)
+                                : ngachodui_unescape(text, length, out, sizeof out);
+            number = made.number;
+            out_length = made.length;
+        } else if (side == PLAIN && function == CHECK) {
+            number = plain_is_message(text, length) ? 0 : NGACHODUI_MALFORMED;
+        } else if (side == PLAIN) {
+            number = function == CUT ? plain_cut(text, length, out, sizeof out, &out_length)
+                   : function == ESCAPE ? plain_escape(text, length, out, sizeof out, &out_length)
+                   : plain_unescape(text, length, out, sizeof out, &out_length);
+        }
+        KEEP_MEMORY();
+        if (number != 0)
+            stop("the text is refused");
+        note(side == NONE ? 0 : 1);
+    }
+    note_bytes(out, out_length);
+    done = count;
+}
+
+/* Reading fills four arrays in the library, and one of structs in plain C. */
+static uint8_t types[RECORDS];
+static uint16_t offsets[RECORDS], lengths[RECORDS], owners[RECORDS];
+static struct plain_record rows[RECORDS];
+
+FOR_EACH_SIDE void records_read(enum side side, uint64_t count)
+{
+    size_t n = 0;
+    for (uint64_t i = 0; i < count; i++) {
+        if (side == LIBRARY)
+            n = ngachodui_read(text, length, types, RECORDS, offsets, RECORDS, lengths, RECORDS, owners, RECORDS).length;
+        else if (side == PLAIN && plain_read(text, length, rows, RECORDS, &n) != PLAIN_NOTHING)
+            stop("the text is refused");
+        KEEP_MEMORY();
+        note(n);
+    }
+    for (size_t i = 0; i < n; i++) {
+        note(side == LIBRARY ? types[i] : rows[i].type);
+        note(side == LIBRARY ? offsets[i] : rows[i].offset);
+        note(side == LIBRARY ? lengths[i] : rows[i].length);
+        note(side == LIBRARY ? owners[i] : rows[i].owner);
+    }
+    done = count;
+}
+
+/* Letters, or with every fourth byte a delimiter; to unescape, the same escaped, so about so long. */
+static void make_text(size_t size, bool many, bool escaped)
+{
+    if (size > TEXT)
+        stop("a text has up to 4,000 bytes here");
+    for (size_t i = 0; i < size; i++)
+        text[i] = many && i % 4 == 3 ? (uint8_t)"|^\\&"[i / 4 % 4] : (uint8_t)('a' + i % 26);
+    length = size;
+    if (escaped && many) {
+        length = size * 2 / 3;
+        if (plain_escape(text, length, out, sizeof out, &length) != PLAIN_NOTHING || length > TEXT)
+            stop("the text is not escaped");
+        memcpy(text, out, length);
+        memset(out, 0, sizeof out);
+    }
+}
+
+/* ---- The command ---- */
+
+static uint64_t nanoseconds(void)
+{
+    struct timespec at;
+    clock_gettime(CLOCK_MONOTONIC, &at);
+    return (uint64_t)at.tv_sec * 1000000000 + (uint64_t)at.tv_nsec;
+}
+
+/* Always as many digits, one by one: so it takes as many instructions whatever the number is. */
+static void write_number(FILE *file, const char *words, uint64_t number)
+{
+    char digits[21] = "";
+    for (int i = 19; i >= 0; i--, number /= 10)
+        digits[i] = (char)('0' + number % 10);
+    fputs(words, file);
+    fputs(digits, file);
+    fputs("\n", file);
+}
+
+static void run(const char *operation, enum side side, uint64_t count, size_t size)
+{
+#define IS(name) (strcmp(operation, name) == 0)
+#define RUN(function, ...)                                          \
+    do {                                                            \
+        uint64_t start = nanoseconds();                             \
+        if (side == LIBRARY)                                        \
+            function(LIBRARY, __VA_ARGS__);                         \
+        else if (side == PLAIN)                                     \
+            function(PLAIN, __VA_ARGS__);                           \
+        else                                                        \
+            function(NONE, __VA_ARGS__);                            \
+        write_number(stderr, "nanoseconds ", nanoseconds() - start); \
+    } while (0)
+    bool many = strstr(operation, "-many") != NULL;
+    if (IS("collected")) {
+        RUN(collected, count);
+    } else if (IS("morning")) {
+        read_trace();
+        RUN(morning, count);
+    } else if (IS("accepted")) {
+        RUN(judged, count, text_of_frame(size), true);
+    } else if (IS("refused")) {
+        RUN(judged, count, text_of_frame(size), false);
+    } else if (IS("decided-few") || IS("decided-many")) {
+        make_message(size ? size : TEXT, many);
+        cut_message();
+        RUN(decided, count);
+    } else if (IS("taken-few")) {
+        make_message(TEXT, false);
+        RUN(taken, count, (unsigned)(size ? size : 8));
+    } else if (IS("taken-many")) {
+        length = (size_t)sprintf((char *)text, "H|\\^&|A\rL|1\r");
+        RUN(taken, count, (unsigned)(size ? size : 2000));
+    } else if (IS("check-few") || IS("check-many")) {
+        make_message(size ? size : TEXT, many);
+        RUN(over_text, count, CHECK);
+    } else if (IS("cut-few") || IS("cut-many")) {
+        make_message(size ? size : TEXT, many);
+        RUN(over_text, count, CUT);
+    } else if (IS("read-few") || IS("read-many")) {
+        make_message(size ? size : TEXT, many);
+        RUN(records_read, count);
+    } else if (IS("escape-none") || IS("escape-many")) {
+        make_text(size ? size : TEXT, many, false);
+        RUN(over_text, count, ESCAPE);
+    } else if (IS("unescape-none") || IS("unescape-many")) {
+        make_text(size ? size : TEXT, many, true);
+        RUN(over_text, count, UNESCAPE);
+    } else {
+        stop("no such operation");
+    }
+}
+
+int main(int argc, char **argv)
+{
+    if (argc != 4 && argc != 5)
+        stop("bench OPERATION library|plain|none COUNT [SIZE]");
+    enum side side = strcmp(argv[2], "library") == 0 ? LIBRARY : strcmp(argv[2], "plain") == 0 ? PLAIN : NONE;
+    if (side == NONE && strcmp(argv[2], "none") != 0)
+        stop("the side is library, plain or none");
+    run(argv[1], side, strtoull(argv[3], NULL, 10), argc == 5 ? strtoul(argv[4], NULL, 10) : 0);
+
+    /* The counts and the memories, which lie alike on both sides. */
+    for (unsigned line = 0; line < LINES; line++)
+        note(side == LIBRARY ? now.library.counts.used[line] : now.plain.ledger.used[line]);
+    note(side == LIBRARY ? now.library.counts.in_use : now.plain.ledger.in_use);
+    note_bytes(journal, sizeof journal);
+    note_bytes(unfinished, sizeof unfinished);
+    note_bytes(frames, sizeof frames);
+    note_bytes(buffer, sizeof buffer);
+    write_number(stdout, "checksum ", checksum);
+    write_number(stdout, "operations ", done);
+    return 0;
+}
