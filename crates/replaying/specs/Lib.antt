@@ -2,3 +2,4 @@ pub mod Lines
 pub mod Desk
 pub mod Turns
 pub mod Runs
+pub mod Listed
