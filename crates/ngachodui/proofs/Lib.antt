@@ -2,10 +2,4 @@ pub mod Numbers
 pub mod Narrow
 pub mod Ways
 pub mod TextWays
-pub mod Stores
-pub mod Touched
-pub mod ToldBack
-pub mod Hosts
-pub mod Refusals
 pub mod OneOutcome
-pub mod HostRuns

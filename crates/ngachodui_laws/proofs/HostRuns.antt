@@ -24,11 +24,11 @@ use Rattle.serial.specs.Serial.{event, taking, annotate, final, Every}
 use Rattle.promises.specs.Machine.{State, Told, GatewayItem, onLine, step, Sound, May}
 use Rattle.promises.specs.Runs.{RightSizes, fresh, answered, isFault}
 use Rattle.promises.proofs.Runs.{always-sound, never-faulty}
 use Rattle.ngachodui.specs.Plain.{told}
-use Rattle.ngachodui.specs.Hosting.{Tells}
-use Rattle.ngachodui.specs.HostRuns.{HostState, gatewayState, InOrder, freshHost, HostTold, hostStep, Alike}
+use Rattle.ngachodui_laws.specs.Hosting.{Tells}
+use Rattle.ngachodui_laws.specs.HostRuns.{HostState, gatewayState, InOrder, freshHost, HostTold, hostStep, Alike}
 use Rattle.ngachodui.specs.declared.Answered.{Answered}
-use Rattle.ngachodui.proofs.Hosts.{hosts-the-gateway, taking-hosts, fresh-hosts}
+use Rattle.ngachodui_laws.proofs.Hosts.{hosts-the-gateway, taking-hosts, fresh-hosts}
 
 nothing-else : {A : Type 0} → _≡_ {A = ℕ} 0 1 → A
 nothing-else z = absurd (omega arith)

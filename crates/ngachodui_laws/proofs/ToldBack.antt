@@ -13,11 +13,11 @@ use Rattle.memory.specs.Sizes.{lines}
 use Rattle.journal.specs.declared.Ledger.{Ledger}
 use Rattle.line.specs.declared.Line.{Line}
 use Rattle.gateway.specs.Events.{noRecord}
 use Rattle.ngachodui.specs.Plain.{fields, numberAt, lineOf, ledgerOf, withUsed}
-use Rattle.ngachodui.specs.Hosting.{linesOf, gatewayOf}
+use Rattle.ngachodui_laws.specs.Hosting.{linesOf, gatewayOf}
 use Rattle.ngachodui.proofs.Numbers.{used-at, serial-at}
-use Rattle.ngachodui.proofs.Stores.{stored, number-other, serial-own, line-other, line-own}
-use Rattle.ngachodui.proofs.Touched.{Touched, Lowered}
+use Rattle.ngachodui_laws.proofs.Stores.{stored, number-other, serial-own, line-other, line-own}
+use Rattle.ngachodui_laws.proofs.Touched.{Touched, Lowered}
 
 -- the lines
 pub lines-length : (ns : List ℕ) (i n : ℕ) → length (linesOf ns i n) ≡ n

@@ -22,12 +22,12 @@ use Rattle.gateway.specs.declared.Verdict.the-variants.{Left}
 use Rattle.gateway_laws.specs.Classes.{classOf, quiet}
 use Rattle.gateway_laws.proofs.Laws.{left-unchanged, refused-unchanged}
 use Rattle.gateway_laws.proofs.Takings.{taking-refused}
 use Rattle.ngachodui.specs.Plain.{lineOf, ledgerOf, withinNumbers, withUsed, told}
 use Rattle.ngachodui.specs.Calls.{AfterCall, refused, putBack, callOf, Taken as TakenBy}
-use Rattle.ngachodui.specs.Hosting.{gatewayOf, isRefusal}
+use Rattle.ngachodui_laws.specs.Hosting.{gatewayOf, isRefusal}
 use Rattle.ngachodui.specs.declared.Answered.{Answered}
 use Rattle.ngachodui.proofs.Numbers.{numbers-back, used-back}
-use Rattle.ngachodui.proofs.Hosts.{put-unchanged, tells}
+use Rattle.ngachodui_laws.proofs.Hosts.{put-unchanged, tells}
 
 nothing-else : {A : Type 0} → _≡_ {A = ℕ} 0 1 → A
 nothing-else z = absurd (omega arith)

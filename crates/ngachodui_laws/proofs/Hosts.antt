@@ -22,14 +22,14 @@ use Rattle.gateway.specs.Verdicts.{rightSizes, verdictOf}
 use Rattle.gateway.specs.Events.{Memory, memoryOf, AfterStep, AfterEvent, stepOf, freshGateway, eventOf, takeOf, tookAnswer, putBack as putLine}
 use Rattle.gateway.specs.declared.Event.{Event}
 use Rattle.gateway_laws.proofs.Laws.{unchanged, left-unchanged, limits-kept}
 use Rattle.ngachodui.specs.Plain.{lineOf, ledgerOf, withinNumbers, withUsed, told, toldTaking, freshNumbers}
 use Rattle.ngachodui.specs.Calls.{AfterCall, refused, putBack, callOf, Calling, Taken, Fresh}
-use Rattle.ngachodui.specs.Hosting.{linesOf, gatewayOf, Ordered, Hosts, Tells, HostsTaking}
+use Rattle.ngachodui_laws.specs.Hosting.{linesOf, gatewayOf, Ordered, Hosts, Tells, HostsTaking}
 use Rattle.ngachodui.specs.declared.Answered.{Answered}
 use Rattle.ngachodui.proofs.Numbers.{told-within, numbers-back, used-back}
-use Rattle.ngachodui.proofs.Stores.{stored, stored-length, within-other, within-own}
-use Rattle.ngachodui.proofs.Touched.{step-touched, taking-lowered}
-use Rattle.ngachodui.proofs.ToldBack.{line-at, counts-long, used-long, serials-long, gateway-put, taking-put}
+use Rattle.ngachodui_laws.proofs.Stores.{stored, stored-length, within-other, within-own}
+use Rattle.ngachodui_laws.proofs.Touched.{step-touched, taking-lowered}
+use Rattle.ngachodui_laws.proofs.ToldBack.{line-at, counts-long, used-long, serials-long, gateway-put, taking-put}
 
 -- what a step leaves as it was is as it was in the numbers
 pub put-unchanged : (ns us : List ℕ) (i : ℕ) → i < lines → withinNumbers ns i ≡ true → (m : Memory) (a : Answer)

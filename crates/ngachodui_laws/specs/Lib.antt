@@ -1,0 +1,2 @@
+pub mod Hosting
+pub mod HostRuns
