@@ -11,10 +11,8 @@ use borrow.Author.Tests.{eq-eqb, ne-eqb, not-true}
 use Rattle.memory.proofs.Tests.{never-both}
 use Rattle.record.specs.Delimiters.{standard, different}
 use Rattle.record.specs.declared.Delimiters.{Delimiters}
-use Rattle.component.specs.declared.Place.{Place}
-use Rattle.component.specs.declared.Place.the-variants.{Plain, Open, Held}
 use Rattle.component.specs.Escape.{letterFor, escapeOf, escaped}
-use Rattle.component.specs.Unescape.{turnPlain, turnOpen, turnHeld, right, plainOf, accepted, plain}
+use Rattle.component.specs.Unescape.{Place, Plain, Open, Held, turnPlain, turnOpen, turnHeld, right, plainOf, accepted, plain}
 use Rattle.component.proofs.Escapes.{escape-one, escape-three}
 
 -- one byte, escaped and read again

@@ -12,16 +12,28 @@ use Rattle.record.specs.declared.Delimiters.{Delimiters}
 use Rattle.component.specs.Escape.{letterFor}
 use Rattle.component.specs.declared.Put.{Put}
 use Rattle.component.specs.declared.Put.the-variants.{Done, Malformed, Short}
-use Rattle.component.specs.declared.Place.{Place}
-use Rattle.component.specs.declared.Place.the-variants.{Plain, Open, Held}
-use Rattle.component.specs.declared.Turn.{Turn}
-use Rattle.component.specs.declared.Turn.the-variants.{Keep, Give, Bad}
 use Rattle.component.specs.declared.Measured.{Measured}
 use Rattle.component.specs.declared.Measured.the-variants.{Of, Wrong}
+
+-- where an unescaping stands: outside an escape, behind its &, or behind its letter, which stands for this byte
+pub data Place : Type 0 where
+  Plain : Place
+  Open : Place
+  Held : ℕ → Place
+
+-- what a byte does to it: the place changes, a byte is put out, or the text is refused
+pub data Turn : Type 0 where
+  Keep : Place → Turn
+  Give : ℕ → Turn
+  Bad : Turn
 
 -- outside an escape: & opens one, a bare | \ ^ is refused, another byte is itself
 unfoldable pub turnPlain : Delimiters → ℕ → Turn
 turnPlain d b = cond (is (d .escape) b) (Keep Open) (cond (eqb (letterFor d b) 0) (Give b) Bad)
+
+-- the letters of the escapes: F S R E
+abbrev pub letters : List ℕ
+letters = 0x46 ∷ 0x53 ∷ 0x52 ∷ 0x45 ∷ []
 
 -- behind &: F is |, S is ^, R is \, E is &; another escape is refused
 unfoldable pub turnOpen : Delimiters → ℕ → Turn

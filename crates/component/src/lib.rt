@@ -27,20 +27,6 @@ pub enum Put {
     Short,
 }
 
-// Where an unescaping stands: outside an escape, behind its &, or behind its letter, which stands for this byte.
-enum Place {
-    Plain,
-    Open,
-    Held(u8),
-}
-
-// What a byte does to it: the place changes, a byte is put out, or the text is refused.
-enum Turn {
-    Keep(Place),
-    Give(u8),
-    Bad,
-}
-
 // The length of a component without its escapes, if they are right.
 enum Measured {
     Of(usize),
@@ -138,7 +124,7 @@ pub fn unescape(d: Delimiters, text: &[u8], out: &mut [u8]) -> Put
             if out.len() < n {
                 return Put::Short;
             }
-            unescaping::write(d, text, out);
+            unescaping::write(d, text, n, out);
             Put::Done(n)
         }
         Measured::Wrong => Put::Malformed,

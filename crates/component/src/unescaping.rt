@@ -1,130 +1,105 @@
 // Escapes into delimiters: first whether they are right and how long the plain text is, then the writing of it.
 ghost use mathlib.Core.Path.{_≡_};
+ghost use mathlib.Core.Bool.{true};
 ghost use Prim.Native.Nat.{_≤_};
 ghost use lib.ListN.{length};
 ghost use lib.Seq.{sets};
-ghost use Rattle.component.specs.Unescape.{turnPlain, turnOpen, turnHeld, turnOf, isPlain, plain, measured};
+ghost use Rattle.component.specs.Component.{isOneOf};
+ghost use Rattle.component.specs.declared.Measured.the-variants.{Of};
+ghost use Rattle.component.specs.Unescape.{Keep, Held, letters, turnOpen, plain, measured};
 use crate::Measured;
-use crate::Place;
-use crate::Turn;
 use record::Delimiters;
 
-fn turn_plain(d: Delimiters, b: u8) -> Turn
-    ensures { λ r. ⌜ r ≡ turnPlain d b ⌝ }
-{
-    if b == d.escape {
-        return Turn::Keep(Place::Open);
-    }
-    if crate::escaping::letter_for(d, b) == 0 {
-        Turn::Give(b)
-    } else {
-        Turn::Bad
-    }
-}
-
-fn turn_open(d: Delimiters, b: u8) -> Turn
-    ensures { λ r. ⌜ r ≡ turnOpen d b ⌝ }
+// Whether a byte is the letter of an escape.
+fn is_letter(b: u8) -> bool
+    ensures { λ r. ⌜ r ≡ isOneOf letters b ⌝ }
 {
     if b == b'F' {
-        return Turn::Keep(Place::Held(d.field));
+        return true;
     }
     if b == b'S' {
-        return Turn::Keep(Place::Held(d.component));
+        return true;
     }
     if b == b'R' {
-        return Turn::Keep(Place::Held(d.repeat));
+        return true;
     }
     if b == b'E' {
-        return Turn::Keep(Place::Held(d.escape));
+        return true;
     }
-    Turn::Bad
+    false
 }
 
-fn turn_held(d: Delimiters, held: u8, b: u8) -> Turn
-    ensures { λ r. ⌜ r ≡ turnHeld d held b ⌝ }
+// The byte that the letter of an escape stands for.
+fn meant(d: Delimiters, letter: u8) -> u8
+    requires { ⌜ isOneOf letters letter ≡ true ⌝ }
+    ensures { λ r. ⌜ turnOpen d letter ≡ Keep (Held r) ⌝ }
 {
-    if b == d.escape {
-        Turn::Give(held)
-    } else {
-        Turn::Bad
+    if letter == b'F' {
+        return d.field;
     }
-}
-
-fn take_turn(d: Delimiters, p: Place, b: u8) -> Turn
-    ensures { λ r. ⌜ r ≡ turnOf d p b ⌝ }
-{
-    match p {
-        Place::Plain => turn_plain(d, b),
-        Place::Open => turn_open(d, b),
-        Place::Held(held) => turn_held(d, held, b),
+    if letter == b'S' {
+        return d.component;
     }
-}
-
-fn is_plain(p: Place) -> bool
-    ensures { λ r. ⌜ r ≡ isPlain p ⌝ }
-{
-    match p {
-        Place::Plain => true,
-        Place::Open => false,
-        Place::Held(_) => false,
+    if letter == b'R' {
+        return d.repeat;
     }
+    d.escape
 }
 
 // The length of the plain text, if the escapes are right.
 pub fn measure(d: Delimiters, text: &[u8]) -> Measured
     ensures { λ r. ⌜ r ≡ measured d (now (text .entry)) ⌝ }
 {
-    let mut p = Place::Plain;
-    let mut n: usize = 0;
+    // Counted at the escapes alone: each is two bytes longer than what it stands for.
+    let mut less: usize = 0;
     let mut i: usize = 0;
     while i < text.len() {
         let b = text[i];
-        i += 1;
-        let t = take_turn(d, p, b);
-        match t {
-            Turn::Keep(q) => {
-                p = q;
-            }
-            Turn::Give(_) => {
-                p = Place::Plain;
-                n += 1;
-            }
-            Turn::Bad => {
+        if b == d.escape {
+            if text.len() - i < 3 {
                 return Measured::Wrong;
             }
+            if !is_letter(text[i + 1]) {
+                return Measured::Wrong;
+            }
+            if text[i + 2] != d.escape {
+                return Measured::Wrong;
+            }
+            i += 3;
+            less += 2;
+        } else {
+            if crate::escaping::letter_for(d, b) != 0 {
+                return Measured::Wrong;
+            }
+            i += 1;
         }
     }
-    if is_plain(p) {
-        Measured::Of(n)
-    } else {
-        Measured::Wrong
-    }
+    Measured::Of(i - less)
 }
 
-// Writes the plain text.
-pub fn write(d: Delimiters, text: &[u8], out: &mut [u8])
-    requires { ⌜ length (plain d (now text)) ≤ length (now out) ⌝ }
+// Writes the plain text, of this length: what the measure has found right is not tested again.
+pub fn write(d: Delimiters, text: &[u8], n: usize, out: &mut [u8])
+    requires { ⌜ (measured d (now text) ≡ Of n) × (n ≤ length (now out)) ⌝ }
     ensures { λ _. ⌜ now (out .exit) ≡ sets (now (out .entry)) 0 (plain d (now (text .entry))) ⌝ }
 {
-    let mut p = Place::Plain;
+    // A text as long as its plain text has no escape.
+    if n == text.len() {
+        memory::copy(out, text);
+        return;
+    }
     let mut o: usize = 0;
     let mut i: usize = 0;
-    while i < text.len() {
+    while o < n {
         let b = text[i];
-        i += 1;
-        let t = take_turn(d, p, b);
-        match t {
-            Turn::Keep(q) => {
-                p = q;
-            }
-            Turn::Give(x) => {
-                p = Place::Plain;
-                out[o] = x;
-                o += 1;
-            }
-            Turn::Bad => {
-                return;
-            }
+        if b == d.escape {
+            let x = meant(d, text[i + 1]);
+            out[o] = x;
+            o += 1;
+            i += 3;
+        } else {
+            out[o] = b;
+            o += 1;
+            i += 1;
         }
     }
 }

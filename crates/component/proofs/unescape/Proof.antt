@@ -1,8 +1,7 @@
 -- `component::unescape` meets its contract: each answer follows from the measure.
 -- Assumes nothing.
 use mathlib.Core.Path.{sym, _∙_}
-use native.Mathlib.Omega.{arith}
-use Rattle.component.proofs.Turns.{of-length, unescape-short, unescape-done, unescape-malformed}
+use Rattle.component.proofs.Turns.{unescape-short, unescape-done, unescape-malformed}
 use borrow.Author.Needs.{needs}
 use Rattle.component.proofs.unescape.Statement.{statement}
 use Rattle.component.proofs.unescape.Tie as tie
@@ -17,7 +16,7 @@ returns : tie.Need-returns
 returns c = let a = c .before .before .before .before .before .before .before .args in unescape-short (a .d) (a .text .now) (a .out .now) _ (sym (c .before .before .before .before .measure .ensures) ∙ c .before .before .m .given .1) (c .if1 .taken)
 
 write-requires : tie.Need-write-requires
-write-requires c κs = let a = c .before .before .before .before .before .before .before .before .args in omega (arith, of-length (a .d) (a .text .now) _ (sym (c .before .before .before .before .before .measure .ensures) ∙ c .before .before .before .m .given .1), c .before .if1 .left)
+write-requires c κs = (sym (c .before .before .before .before .before .measure .ensures) ∙ c .before .before .before .m .given .1, c .before .if1 .left)
 
 enum-told : tie.Need-enum-told
 enum-told c = search needs
