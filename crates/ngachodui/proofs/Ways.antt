@@ -4,8 +4,8 @@ use mathlib.Core.Path.{_≡_, refl, sym, ap, subst, _∙_}
 use mathlib.Core.Bool.{true, false, not, _&&_}
 use mathlib.Core.List.{List}
 use Prim.Native.Nat.{ℕ, _+_, _≤_, _<_}
-use borrow.Author.Tests.{lt-ltb, le-ltb, ltb-true, eqb-true, not-true}
-use lib.Dec.{ltb, eqb}
+use borrow.Author.Tests.{lt-ltb, le-ltb, eqb-true, not-true}
+use lib.Dec.{eqb}
 use lib.ListN.{length, set}
 use Rattle.memory.specs.Sizes.{lines, journalSize, unfinishedSize, framesSize}
 use Rattle.memory.specs.Tests.{is}
@@ -80,58 +80,51 @@ module _ (ns us : List ℕ) (e : Event) (j u f : List ℕ) where
 pub narrow-after : (l : Line) (d : Ledger) (e : Event) (m : Memory) {s : Stepped} → s ≡ stepOf todaysShares l d e m .stepped → Narrow d → Narrow (s .ledger)
 narrow-after l d e m q w = subst (λ (z : Stepped). Narrow (z .ledger)) (sym q) (step-narrow l d e m w)
 
--- a byte that is only collected
-pub record QuickFacts (i b : ℕ) (ns : List ℕ) (journal unfinished frames : ℕ) : Type 0 where
-  pub line : i < lines
-  pub right : rightLengths journal unfinished frames ≡ true
-  pub within : withinNumbers ns i ≡ true
-  pub only : onlyCollects ns i b ≡ true
-
-pub quick-facts : (i b : ℕ) (ns : List ℕ) (journal unfinished frames : ℕ) → quick i b ns journal unfinished frames ≡ true → QuickFacts i b ns journal unfinished frames
-unfolding quick
-quick-facts i b ns journal unfinished frames e =
-    let rest₁ = and-right (ltb i lines) _ e in
-    let rest₂ = and-right (rightLengths journal unfinished frames) _ rest₁ in
-    record {
-      line = ltb-true _ _ (and-left (ltb i lines) _ e);
-      right = and-left (rightLengths journal unfinished frames) _ rest₁;
-      within = and-left (withinNumbers ns i) _ rest₂;
-      only = and-right (withinNumbers ns i) _ rest₂;
-    }
-
+-- where the sizes are right, that of the frames is
 pub frames-right : (journal unfinished frames : ℕ) → rightLengths journal unfinished frames ≡ true → frames ≡ framesSize
 unfolding rightLengths
 frames-right journal unfinished frames e =
     let rest = and-right (eqb journal journalSize) (eqb unfinished unfinishedSize && eqb frames framesSize) e in
     eqb-true frames framesSize (and-right (eqb unfinished unfinishedSize) (eqb frames framesSize) rest)
 
-module _ (ns us : List ℕ) (i b : ℕ) (j u f : List ℕ) (q : QuickFacts i b ns (length j) (length u) (length f)) where
-  abbrev here : Event
-  here = record { line = i; kind = Byte b }
+-- a byte that is only collected
+module _ (ns : List ℕ) (i b : ℕ) (q : quick ns i b ≡ true) where
+  pub quick-within : withinNumbers ns i ≡ true
+  quick-within = and-right (onlyCollects ns i b) (withinNumbers ns i) q
 
   is-inside : stateOf (firstAt ns i) ≡ Inside
   unfolding onlyCollects
-  is-inside = rw (eqb-true (firstAt ns i) inside (and-left (eqb (firstAt ns i) inside) (not (is lf b) && not (eqb (numberAt ns i 1) mostCollected)) (q .only)))
+  is-inside =
+      let only = and-left (onlyCollects ns i b) (withinNumbers ns i) q in
+      rw (eqb-true (firstAt ns i) inside (and-left (eqb (firstAt ns i) inside) (not (is lf b) && not (eqb (numberAt ns i 1) mostCollected)) only))
 
   no-end : (is lf b ≡ false) × (eqb (numberAt ns i 1) mostCollected ≡ false)
   unfolding onlyCollects
   no-end =
-      let rest = and-right (eqb (firstAt ns i) inside) (not (is lf b) && not (eqb (numberAt ns i 1) mostCollected)) (q .only) in
+      let only = and-left (onlyCollects ns i b) (withinNumbers ns i) q in
+      let rest = and-right (eqb (firstAt ns i) inside) (not (is lf b) && not (eqb (numberAt ns i 1) mostCollected)) only in
       (not-true _ (and-left (not (is lf b)) (not (eqb (numberAt ns i 1) mostCollected)) rest), not-true _ (and-right (not (is lf b)) (not (eqb (numberAt ns i 1) mostCollected)) rest))
+
+module _ (ns us : List ℕ) (i b : ℕ) (j u f : List ℕ) (h : i < lines) (s : rightLengths (length j) (length u) (length f) ≡ true) (q : quick ns i b ≡ true) where
+  abbrev here : Event
+  here = record { line = i; kind = Byte b }
+
+  within : withinNumbers ns i ≡ true
+  within = quick-within ns i b q
 
   verdict : verdictOf todaysShares (lineOf ns i) (ledgerOf ns us) here j u f ≡ Collects
   unfolding verdictOf ownWork byteLook insideLook rightLengths
-  verdict = rw (lt-ltb i lines (q .line), q .right, told-within ns i (q .within), is-inside, no-end .0, no-end .1)
+  verdict = rw (lt-ltb i lines h, s, told-within ns i within, is-inside ns i b q, no-end ns i b q .0, no-end ns i b q .1)
 
   collects : stepOf todaysShares (lineOf ns i) (ledgerOf ns us) here (memoryOf j u f) ≡ settle Collects (lineOf ns i) (ledgerOf ns us) here (memoryOf j u f)
   unfolding stepOf
   collects = ap (λ (v : Verdict). settle v (lineOf ns i) (ledgerOf ns us) here (memoryOf j u f)) verdict
 
   pub by-quick : {r : Answered} {ns′ f′ : List ℕ} → r ≡ told Nothing → ns′ ≡ oneMore ns i → f′ ≡ set f (frameStart i + numberAt ns i 1) b → Calling ns us here j u f r ns′ us j u f′
-  by-quick {r} {ns′} {f′} p n g = by-step ns us here j u f (q .line) (q .right) (q .within) (as-called (ap (λ (x : AfterStep). putBack ns us i x) collects) (record {
+  by-quick {r} {ns′} {f′} p n g = by-step ns us here j u f h s within (as-called (ap (λ (x : AfterStep). putBack ns us i x) collects) (record {
     result = p;
-    numbers = n ∙ sym (count-back ns us i (q .line) (q .within) (numberAt ns i 1 + 1));
-    used = sym (used-back ns us i (q .line));
+    numbers = n ∙ sym (count-back ns us i h within (numberAt ns i 1 + 1));
+    used = sym (used-back ns us i h);
     journal = refl;
     unfinished = refl;
     frames = g;

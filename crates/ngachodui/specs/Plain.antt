@@ -4,7 +4,7 @@ use Prim.Native.Nat.{ℕ, zero, suc, _+_, _*_}
 use mathlib.Core.Bool.{Bool, cond, not, _&&_}
 use mathlib.Core.List.{List, [], _∷_}
 use lib.ListN.{getD, set}
-use lib.Dec.{leb, ltb, eqb}
+use lib.Dec.{leb, eqb}
 use Rattle.memory.specs.Sizes.{lines, messageLimit, journalSize, unfinishedSize, framesSize}
 use Rattle.memory.specs.Tests.{is}
 use Rattle.frame.specs.Control.{lf}
@@ -73,17 +73,17 @@ withinNumbers ns i =
 unfoldable pub onlyCollects : List ℕ → ℕ → ℕ → Bool
 onlyCollects ns i b = eqb (firstAt ns i) inside && (not (is lf b) && not (eqb (numberAt ns i 1) mostCollected))
 
--- and then it has one more collected
+-- and nothing else stands against it: its line's numbers are within their limits
+abbrev pub quick : List ℕ → ℕ → ℕ → Bool
+quick ns i b = onlyCollects ns i b && withinNumbers ns i
+
+-- then it has one more collected
 abbrev pub oneMore : List ℕ → ℕ → List ℕ
 oneMore ns i = set ns (start i + 1) (numberAt ns i 1 + 1)
 
 -- the lengths of the three memories
 unfoldable pub rightLengths : ℕ → ℕ → ℕ → Bool
 rightLengths journal unfinished frames = eqb journal journalSize && (eqb unfinished unfinishedSize && eqb frames framesSize)
-
--- a byte that passes 40 to 42 and is only collected
-unfoldable pub quick : ℕ → ℕ → List ℕ → ℕ → ℕ → ℕ → Bool
-quick i b ns journal unfinished frames = ltb i lines && (rightLengths journal unfinished frames && (withinNumbers ns i && onlyCollects ns i b))
 
 -- the record that they tell
 abbrev pub lineOf : List ℕ → ℕ → Line

@@ -5,9 +5,10 @@
 ghost use Prim.Native.Nat.{_<_};
 ghost use mathlib.Core.Path.{_≡_};
 ghost use mathlib.Core.Bool.{true};
+ghost use lib.ListN.{length};
 ghost use Rattle.gateway.specs.declared.Kind.the-variants.{Byte, Seconds};
 ghost use Rattle.memory.specs.Sizes.{lines};
-ghost use Rattle.ngachodui.specs.Plain.{withinNumbers};
+ghost use Rattle.ngachodui.specs.Plain.{withinNumbers, rightLengths};
 ghost use Rattle.ngachodui.specs.Calls.{Calling, Stepping, Taken, Fresh};
 use gateway::Event;
 use gateway::Kind;
@@ -39,15 +40,15 @@ pub extern "C" fn ngachodui_byte(
     ensures { λ r. ⌜ Calling (now (numbers .entry)) (now (used .entry)) (record { line = line; kind = Byte byte }) (now (journal .entry)) (now (unfinished .entry)) (now (frames .entry))
         r (now (numbers .exit)) (now (used .exit)) (now (journal .exit)) (now (unfinished .exit)) (now (frames .exit)) ⌝ }
 {
-    if plain::is_quick(
-        line,
-        byte,
-        numbers,
-        journal.len(),
-        unfinished.len(),
-        frames.len(),
-    ) {
-        plain::collect(line as usize, byte, numbers, frames);
+    let i = line as usize;
+    if memory::LINES <= i {
+        return plain::told(Answer::NoLine);
+    }
+    if !plain::is_right(journal.len(), unfinished.len(), frames.len()) {
+        return plain::told(Answer::WrongSize);
+    }
+    if plain::is_quick(numbers, i, byte) {
+        plain::collect(i, byte, numbers, frames);
         return plain::told(Answer::Nothing);
     }
     let e = Event {
@@ -71,6 +72,13 @@ pub extern "C" fn ngachodui_seconds(
     ensures { λ r. ⌜ Calling (now (numbers .entry)) (now (used .entry)) (record { line = line; kind = Seconds seconds }) (now (journal .entry)) (now (unfinished .entry)) (now (frames .entry))
         r (now (numbers .exit)) (now (used .exit)) (now (journal .exit)) (now (unfinished .exit)) (now (frames .exit)) ⌝ }
 {
+    let i = line as usize;
+    if memory::LINES <= i {
+        return plain::told(Answer::NoLine);
+    }
+    if !plain::is_right(journal.len(), unfinished.len(), frames.len()) {
+        return plain::told(Answer::WrongSize);
+    }
     let e = Event {
         line,
         kind: Kind::Seconds(seconds),
@@ -78,7 +86,7 @@ pub extern "C" fn ngachodui_seconds(
     event(e, numbers, used, journal, unfinished, frames)
 }
 
-// Any event: 40, 41, 42, then the gateway's step.
+// An event past 40 and 41: 42, then the gateway's step.
 fn event(
     e: Event,
     numbers: &mut [u16; plain::NUMBERS],
@@ -87,16 +95,11 @@ fn event(
     unfinished: &mut [u8],
     frames: &mut [u8],
 ) -> Answered
+    requires { ⌜ (e .line < lines) × (rightLengths (length (now journal)) (length (now unfinished)) (length (now frames)) ≡ true) ⌝ }
     ensures { λ r. ⌜ Calling (now (numbers .entry)) (now (used .entry)) e (now (journal .entry)) (now (unfinished .entry)) (now (frames .entry))
         r (now (numbers .exit)) (now (used .exit)) (now (journal .exit)) (now (unfinished .exit)) (now (frames .exit)) ⌝ }
 {
     let i = e.line as usize;
-    if memory::LINES <= i {
-        return plain::told(Answer::NoLine);
-    }
-    if !plain::is_right(journal.len(), unfinished.len(), frames.len()) {
-        return plain::told(Answer::WrongSize);
-    }
     if !plain::is_within(numbers, i) {
         return plain::told(Answer::BeyondLimits);
     }

@@ -82,28 +82,15 @@ pub fn is_right(journal: usize, unfinished: usize, frames: usize) -> bool
     frames == memory::FRAMES_SIZE
 }
 
-// Whether a byte passes 40 to 42 and is then only collected.
-pub fn is_quick(
-    line: u8,
-    byte: u8,
-    numbers: &[u16; NUMBERS],
-    journal: usize,
-    unfinished: usize,
-    frames: usize,
-) -> bool
-    ensures { λ r. ⌜ r ≡ quick line byte (now (numbers .entry)) journal unfinished frames ⌝ }
+// Whether a byte is only collected and its line's numbers are within their limits: in this order none is compared twice.
+pub fn is_quick(numbers: &[u16; NUMBERS], i: usize, byte: u8) -> bool
+    requires { ⌜ i < lines ⌝ }
+    ensures { λ r. ⌜ r ≡ quick (now (numbers .entry)) i byte ⌝ }
 {
-    let i = line as usize;
-    if memory::LINES <= i {
+    if !collects(numbers, i, byte) {
         return false;
     }
-    if !is_right(journal, unfinished, frames) {
-        return false;
-    }
-    if !is_within(numbers, i) {
-        return false;
-    }
-    collects(numbers, i, byte)
+    is_within(numbers, i)
 }
 
 // The byte behind those collected, and one more collected.
@@ -119,7 +106,7 @@ pub fn collect(i: usize, byte: u8, numbers: &mut [u16; NUMBERS], frames: &mut [u
 }
 
 // Whether a byte is only collected: inside a frame that it does not end.
-pub fn collects(numbers: &[u16; NUMBERS], i: usize, byte: u8) -> bool
+fn collects(numbers: &[u16; NUMBERS], i: usize, byte: u8) -> bool
     requires { ⌜ i < lines ⌝ }
     ensures { λ r. ⌜ r ≡ onlyCollects (now (numbers .entry)) i byte ⌝ }
 {
