@@ -37,7 +37,7 @@ count-le p (x ∷ s) = by-first (p x) (count-le p s)
     by-first false h = omega arith
 
 -- the first k bytes, and those behind them
-pub count-split : (p : ℕ → Bool) (k : ℕ) (s : List ℕ) → count p s ≡ count p (take k s) + count p (drop k s)
+count-split : (p : ℕ → Bool) (k : ℕ) (s : List ℕ) → count p s ≡ count p (take k s) + count p (drop k s)
 count-split p zero s = omega arith
 count-split p (suc k) [] = refl
 count-split p (suc k) (x ∷ s) = by-first (p x) (count-split p k s)
