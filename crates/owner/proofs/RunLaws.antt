@@ -22,6 +22,10 @@ near-skip ts l n (suc k) h f =
           rw (le-ltb (depthAt ts k) l b) (near-skip ts l n k (omega arith) (λ j p r. f j p (omega arith)))
     ]
 
+-- what stands deeper than `over` is a record: behind the last one the depth is 0
+pub inside : (ts : List ℕ) (at over d : ℕ) → (length ts ≤ at → d ≡ 0) → over < d → at < length ts
+inside ts at over d none h = elim (decLt at (length ts)) [ yes p ↦ p | no p ↦ let z = none (omega arith) in absurd (omega arith) ]
+
 -- right behind record n, what stands deeper than it belongs to it
 pub ready-child : (ts : List ℕ) (n : ℕ) → Ready ts (depthAt ts n) (n + 1) (n + 1)
 ready-child ts n in-it l h k = rw (add-one, lt-ltb (depthAt ts n) l h)

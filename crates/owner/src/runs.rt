@@ -23,16 +23,29 @@ fn depth(b: u8) -> u8
     }
 }
 
-// Record n with its owner, and the run that it owns. Gives the next record.
-fn read_owner(types: &[u8], owners: &mut [u16], n: usize, owner: u16) -> usize
+// How deep record n stands, or 0 behind the last record: nothing is less deep.
+fn depth_at(types: &[u8], n: usize) -> u8
+    ensures { λ r. ⌜ (n < length (now (types .entry)) → r ≡ depthAt (now (types .entry)) n) × (length (now (types .entry)) ≤ n → r ≡ 0) ⌝ }
+{
+    if types.len() <= n {
+        return 0;
+    }
+    let b = types[n];
+    depth(b)
+}
+
+// Record n, which stands at depth d, with its owner, and the run that it owns. Gives the next record. Most records own none.
+fn read_owner(types: &[u8], owners: &mut [u16], n: usize, d: u8, owner: u16) -> usize
     requires within { ⌜ (n < length (now types)) × (length (now types) ≤ length (now owners)) × (length (now types) < 65535) ⌝ }
+    requires deep { ⌜ d ≡ depthAt (now types) n ⌝ }
     requires owned { ⌜ nearest (now types) n (depthAt (now types) n) ≡ owner ⌝ }
     ensures { λ r. ⌜ Ran (now (types .entry)) (now (owners .entry)) (now (owners .exit)) (depthAt (now (types .entry)) n) n (n + 1) r ⌝ }
 {
     owners[n] = owner;
-    let b = types[n];
-    let d = depth(b);
     let next = n + 1;
+    if depth_at(types, next) <= d {
+        return next;
+    }
     read_run(types, owners, next, d, next as u16)
 }
 
@@ -42,15 +55,13 @@ fn read_run(types: &[u8], owners: &mut [u16], n: usize, over: u8, owner: u16) ->
     requires ready { ⌜ Ready (now types) over n owner ⌝ }
     ensures { λ r. ⌜ Ran (now (types .entry)) (now (owners .entry)) (now (owners .exit)) over n n r ⌝ }
 {
-    if types.len() <= n {
-        return n;
+    let mut at = n;
+    let mut d = depth_at(types, at);
+    while over < d {
+        at = read_owner(types, owners, at, d, owner);
+        d = depth_at(types, at);
     }
-    let b = types[n];
-    if depth(b) <= over {
-        return n;
-    }
-    let m = read_owner(types, owners, n, owner);
-    read_run(types, owners, m, over, owner)
+    at
 }
 
 // Writes each record's owner: the whole message is a run of its own, which no record owns.

@@ -2,6 +2,7 @@ pub mod Rows
 pub mod Scans
 pub mod Decimal
 pub mod Front
+pub mod RecordCount
 pub mod LastRecord
 pub mod Joined
 pub mod Messages

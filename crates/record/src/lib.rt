@@ -9,6 +9,7 @@ ghost use Rattle.record.specs.Records.{records, lastStart, endsWithL};
 ghost use Rattle.record.specs.Faults.{fault, isFaultless, isMessage};
 
 mod counting; // counting.rt: sequence numbers
+mod ends; // ends.rt: how many records of a text are ended
 mod judging; // judging.rt: one record
 mod walk; // walk.rt: one record of a text, and what the records up to it have led to
 
@@ -173,15 +174,15 @@ pub fn index_of(text: &[u8], b: u8) -> usize
 pub fn count_records(text: &[u8]) -> usize
     ensures { λ r. ⌜ r ≡ length (records (now (text .entry))) ⌝ }
 {
-    let mut at: usize = 0;
-    let mut n: usize = 0;
-    while at < text.len() {
-        let tail = &text[at..];
-        let e = index_of(tail, CR);
-        at = at + (e + 1);
-        n += 1;
+    let n = ends::count(text);
+    let len = text.len();
+    if len == 0 {
+        return n;
     }
-    n
+    if text[len - 1] == CR {
+        return n;
+    }
+    n + 1
 }
 
 // Whether a text is a message by these delimiters, and the first fault of one that is not. A byte that is not allowed goes before

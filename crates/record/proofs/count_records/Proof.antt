@@ -1,72 +1,36 @@
--- `record::count_records` meets its contract: those passed and those left are all.
+-- `record::count_records` meets its contract: each CR ends a record, and bytes behind the last CR are one more.
 -- Assumes nothing.
 use borrow.Author.Needs.{needs}
-use mathlib.Core.Path.{_≡_}
-use Prim.Native.Nat.{_+_, _-_, _≤_}
+use mathlib.Core.Path.{_∙_}
 use native.Mathlib.Omega.{arith}
-use lib.ListN.{length, drop, drop-of-length-le}
+use Rattle.memory.specs.Tests.{is}
 use Rattle.frame.specs.Control.{cr}
-use Rattle.record.specs.Records.{records}
-use Rattle.record.proofs.Scans.{tail-within}
-use Rattle.record.proofs.Front.{count-front}
+use Rattle.record.proofs.RecordCount.{count-le, count-none, count-ended, count-open}
 use Rattle.record.proofs.count_records.Statement.{statement}
 use Rattle.record.proofs.count_records.Tie as tie
 
-abbrev Inv-loop : tie.InvT-loop
-Inv-loop text at₀ n₀ at n = (at ≤ length text + 1) × (n ≤ at) × (n + length (records (drop at text)) ≡ length (records text))
+count-requires : tie.Need-count-requires
+count-requires c κs = search needs
 
-abbrev μ-loop : tie.MeasureT-loop
-μ-loop text at₀ n₀ at n = length text + 1 - at
+returns : tie.Need-returns
+returns c = c .before .count .ensures ∙ count-none (c .before .before .before .args .text .now) (c .if1 .taken)
 
-loop-holds : tie.Need-loop-holds Inv-loop μ-loop
-loop-holds c = (search needs, search needs, omega arith)
+sub-if2 : tie.Need-sub-if2
+sub-if2 c = search needs
 
-sub-tail : tie.Need-sub-tail Inv-loop μ-loop
-sub-tail c = search needs
+shared-slice-read-if2 : tie.Need-shared-slice-read-if2
+shared-slice-read-if2 c = search needs
 
-part-tail-start : tie.Need-part-tail-start Inv-loop μ-loop
-part-tail-start c = search needs
+returns-2 : tie.Need-returns-2
+returns-2 c = c .before .before .before .count .ensures ∙ count-ended (c .before .before .before .before .before .args .text .now) (omega arith) (c .if2 .taken)
 
-part-tail-end : tie.Need-part-tail-end Inv-loop μ-loop
-part-tail-end c = search needs
+add-result : tie.Need-add-result
+add-result c = let s = c .before .before .before .before .before in omega (arith, c .before .before .before .count .ensures, count-le (is cr) (s .args .text .now), s .good)
 
-index-of-requires : tie.Need-index-of-requires Inv-loop μ-loop
-index-of-requires c κs = search needs
-
-add-at : tie.Need-add-at Inv-loop μ-loop
-add-at c = let l = c .before .before .before in omega (arith, tail-within cr (l .before .before .args .text .now) (l .loop .at) (c .index-of .result) (omega arith) (c .index-of .ensures), l .before .before .good)
-
-add-at-2 : tie.Need-add-at-2 Inv-loop μ-loop
-add-at-2 c = let l = c .before .before .before in omega (arith, tail-within cr (l .before .before .args .text .now) (l .loop .at) (c .index-of .result) (omega arith) (c .index-of .ensures), l .before .before .good)
-
-add-n : tie.Need-add-n Inv-loop μ-loop
-add-n c = search needs
-
-loop-less : tie.Need-loop-less Inv-loop μ-loop
-loop-less c = search needs
-
-loop-again : tie.Need-loop-again Inv-loop μ-loop
-loop-again c = let l = c .before .before .before in
-    let w : l .loop .at + c .index-of .result ≤ length (l .before .before .args .text .now) = tail-within cr (l .before .before .args .text .now) (l .loop .at) (c .index-of .result) (omega arith) (c .index-of .ensures) in
-    (omega arith, omega arith, count-front (l .before .before .args .text .now) (l .loop .at) (c .index-of .result) (l .loop .n) _ (omega arith) (c .index-of .ensures) (l .loop .inv .2))
-
-returns : tie.Need-returns Inv-loop μ-loop
-returns c = let s = c .before .before .before .args .text .now in let le : length s ≤ c .before .loop .at = omega arith in let z = rw (drop-of-length-le s le) at (c .before .loop .inv .2) in omega (arith, z)
+returns-3 : tie.Need-returns-3
+returns-3 c = let e = count-open (c .before .before .before .before .before .args .text .now) (omega arith) (c .if2 .left) in omega (arith, e, c .before .before .before .count .ensures)
 
 pub count-records-spec : {M : Type 1} → statement M
 count-records-spec =
     tie.close
-    (tie.spec
-    Inv-loop
-    μ-loop
-    loop-holds
-    sub-tail
-    part-tail-start
-    part-tail-end
-    index-of-requires
-    add-at
-    add-at-2
-    add-n
-    loop-less
-    loop-again
-    returns)
+    (tie.spec count-requires returns sub-if2 shared-slice-read-if2 returns-2 add-result returns-3)

@@ -2,11 +2,12 @@
 -- Assumes nothing.
 use borrow.Author.Needs.{needs}
 use Prim.Native.Nat.{_+_, _-_, _*_, _≤_}
-use mathlib.Core.Path.{_≡_, _∙_}
+use mathlib.Core.Path.{_≡_, refl, _∙_}
+use mathlib.Core.List.{List}
 use native.Mathlib.Omega.{arith}
-use lib.ListN.{length, length-set}
-use Rattle.owner.specs.Nearest.{depthAt}
-use Rattle.owner.proofs.RunLaws.{ready-child, ready-on, ran-none, ran-on, ran-owner}
+use lib.ListN.{length, length-set, set}
+use Rattle.owner.specs.Nearest.{depthAt, Ready, Ran}
+use Rattle.owner.proofs.RunLaws.{inside, ready-child, ready-on, ran-none, ran-on, ran-owner}
 use Prim.Native.Nat.{ℕ, _<_}
 use borrow.Fn.Kinds.{In}
 use borrow.Fn.PlainCycle.{Measures, is, falls, and}
@@ -16,7 +17,7 @@ use Rattle.owner.proofs.runs.+read_owner+read_run.Lts-read_owner as rea
 use Rattle.owner.proofs.runs.read_run.Reads as read-run
 use Rattle.owner.proofs.runs.read_run.Kinds as read-run-kinds
 use Rattle.owner.proofs.runs.+read_owner+read_run.Lts-read_run as read-run-lts
-use Rattle.owner.proofs.runs.depth.Reads as depth-reads
+use Rattle.owner.proofs.runs.depth_at.Reads as depth-at-reads
 use Rattle.owner.proofs.runs.+read_owner+read_run.{statement}
 use Rattle.owner.proofs.runs.+read_owner+read_run.Tie.{close}
 
@@ -42,171 +43,192 @@ read-run-below t =
     and 2 read-run-kinds.ps (falls 2 read-run-kinds.ps _<_ μ-read-run t) read-run.Pre
 
 read-owner-mul-owners : (t : ℕ) → read-owner-lts.Need-mul-owners (
-  depth-reads.Asked,
-  depth-reads.Learnt,
+  depth-at-reads.Asked,
+  depth-at-reads.Learnt,
   read-run-below t,
   read-run.Post,
 ) (read-owner-at t) read-owner.Post
 read-owner-mul-owners t c = search needs
 
 read-owner-slice-write-owners : (t : ℕ) → read-owner-lts.Need-slice-write-owners (
-  depth-reads.Asked,
-  depth-reads.Learnt,
+  depth-at-reads.Asked,
+  depth-at-reads.Learnt,
   read-run-below t,
   read-run.Post,
 ) (read-owner-at t) read-owner.Post
 read-owner-slice-write-owners t c = search needs
 
-read-owner-shared-slice-read-b : (t : ℕ) → read-owner-lts.Need-shared-slice-read-b (
-  depth-reads.Asked,
-  depth-reads.Learnt,
-  read-run-below t,
-  read-run.Post,
-) (read-owner-at t) read-owner.Post
-read-owner-shared-slice-read-b t c = search needs
-
-read-owner-depth-requires : (t : ℕ) → read-owner-lts.Need-depth-requires (
-  depth-reads.Asked,
-  depth-reads.Learnt,
-  read-run-below t,
-  read-run.Post,
-) (read-owner-at t) read-owner.Post
-read-owner-depth-requires t c κs = search needs
-
 read-owner-add-next : (t : ℕ) → read-owner-lts.Need-add-next (
-  depth-reads.Asked,
-  depth-reads.Learnt,
+  depth-at-reads.Asked,
+  depth-at-reads.Learnt,
   read-run-below t,
   read-run.Post,
 ) (read-owner-at t) read-owner.Post
 read-owner-add-next t c = search needs
 
+read-owner-depth-at-requires : (t : ℕ) → read-owner-lts.Need-depth-at-requires (
+  depth-at-reads.Asked,
+  depth-at-reads.Learnt,
+  read-run-below t,
+  read-run.Post,
+) (read-owner-at t) read-owner.Post
+read-owner-depth-at-requires t c κs = search needs
+
+read-owner-same-length : (t : ℕ) → read-owner-lts.Need-same-length (
+  depth-at-reads.Asked,
+  depth-at-reads.Learnt,
+  read-run-below t,
+  read-run.Post,
+) (read-owner-at t) read-owner.Post
+read-owner-same-length t c = simp length-set
+
+read-owner-returns : (t : ℕ) → read-owner-lts.Need-returns (
+  depth-at-reads.Asked,
+  depth-at-reads.Learnt,
+  read-run-below t,
+  read-run.Post,
+) (read-owner-at t) read-owner.Post
+read-owner-returns t c = let s = c .before .before .before .before in
+    let ts : List ℕ = s .args .types .now in
+    ran-owner ts (s .args .owners .now) (set (s .args .owners .now) (s .args .n) (s .args .owner)) (s .args .n) (s .args .n + 1) (s .args .owner) (omega arith) (s .pre .1 .1 .1)
+    (ran-none ts (set (s .args .owners .now) (s .args .n) (s .args .owner)) (depthAt ts (s .args .n)) (s .args .n + 1) (omega arith)
+    (λ h. let e : c .before .depth-at .result ≡ depthAt ts (s .args .n + 1) = c .before .depth-at .ensures .0 h in omega (arith, e, s .pre .1 .1 .0, c .if1 .taken)))
+
 read-owner-cast-read-run : (t : ℕ) → read-owner-lts.Need-cast-read-run (
-  depth-reads.Asked,
-  depth-reads.Learnt,
+  depth-at-reads.Asked,
+  depth-at-reads.Learnt,
   read-run-below t,
   read-run.Post,
 ) (read-owner-at t) read-owner.Post
 read-owner-cast-read-run t c = search needs
 
 read-owner-read-run-requires : (t : ℕ) → read-owner-lts.Need-read-run-requires (
-  depth-reads.Asked,
-  depth-reads.Learnt,
+  depth-at-reads.Asked,
+  depth-at-reads.Learnt,
   read-run-below t,
   read-run.Post,
 ) (read-owner-at t) read-owner.Post
-read-owner-read-run-requires t c κs = let a = c .before .before .before .before .before in
-    (omega (arith, a .pre .0), ((omega arith, simp length-set (omega arith), omega arith), rw (c .before .depth .ensures) (ready-child (a .args .types .now) (a .args .n))))
+read-owner-read-run-requires t c κs = let s = c .before .before .before .before .before in
+    (omega (arith, s .pre .0), ((omega arith, simp length-set (omega arith), omega arith), rw (s .pre .1 .1 .0) (ready-child (s .args .types .now) (s .args .n))))
 
-read-owner-same-length : (t : ℕ) → read-owner-lts.Need-same-length (
-  depth-reads.Asked,
-  depth-reads.Learnt,
+read-owner-same-length-2 : (t : ℕ) → read-owner-lts.Need-same-length-2 (
+  depth-at-reads.Asked,
+  depth-at-reads.Learnt,
   read-run-below t,
   read-run.Post,
 ) (read-owner-at t) read-owner.Post
-read-owner-same-length t c = c .before .before .read-run .kept .1 .0 ∙ simp length-set
+read-owner-same-length-2 t c = c .before .before .read-run .kept .1 .0 ∙ simp length-set
 
-read-owner-returns : (t : ℕ) → read-owner-lts.Need-returns (
-  depth-reads.Asked,
-  depth-reads.Learnt,
+read-owner-returns-2 : (t : ℕ) → read-owner-lts.Need-returns-2 (
+  depth-at-reads.Asked,
+  depth-at-reads.Learnt,
   read-run-below t,
   read-run.Post,
 ) (read-owner-at t) read-owner.Post
-read-owner-returns t c = let s = c .before .before .before .before .before .before .before .before in
-    ran-owner (s .args .types .now) (s .args .owners .now) (c .before .before .read-run .last .1 .0) (s .args .n) (c .before .before .read-run .result) (s .args .owner) (omega arith) (s .pre .1 .1) (rw (c .before .before .before .before .depth .ensures) at (c .before .before .read-run .ensures))
+read-owner-returns-2 t c = let s = c .before .before .before .before .before .before .before .before in
+    ran-owner (s .args .types .now) (s .args .owners .now) (c .before .before .read-run .last .1 .0) (s .args .n) (c .before .before .read-run .result) (s .args .owner) (omega arith) (s .pre .1 .1 .1) (rw (s .pre .1 .1 .0) at (c .before .before .read-run .ensures))
 
-read-run-returns : (t : ℕ) → read-run-lts.Need-returns (
-  depth-reads.Asked,
-  depth-reads.Learnt,
+-- what is left of the run, from `at` on, makes the run whole
+abbrev read-run-Inv-loop : read-run-lts.InvT-loop
+read-run-Inv-loop types owners₀ n over owner at₀ d₀ owners at d =
+    (n ≤ at) × (at ≤ length types) × (length owners ≡ length owners₀)
+    × (at < length types → d ≡ depthAt types at) × (length types ≤ at → d ≡ 0) × Ready types over at owner
+    × ((os : List ℕ) (m : ℕ) → Ran types owners os over at at m → Ran types owners₀ os over n n m)
+
+abbrev read-run-μ-loop : read-run-lts.MeasureT-loop
+read-run-μ-loop types owners₀ n over owner at₀ d₀ owners at d = length types - at
+
+read-run-depth-at-requires : (t : ℕ) → read-run-lts.Need-depth-at-requires (
+  depth-at-reads.Asked,
+  depth-at-reads.Learnt,
   read-owner-below t,
   read-owner.Post,
-  read-run-below t,
-  read-run.Post,
-) (read-run-at t) read-run.Post
-read-run-returns t c = let s = c .before .before .before in ran-none (s .args .types .now) (s .args .owners .now) (s .args .over) (s .args .n) (s .pre .1 .0 .0) (λ h. absurd (omega arith))
+) (read-run-at t) read-run.Post read-run-Inv-loop read-run-μ-loop
+read-run-depth-at-requires t c κs = search needs
 
-read-run-shared-slice-read-b : (t : ℕ) → read-run-lts.Need-shared-slice-read-b (
-  depth-reads.Asked,
-  depth-reads.Learnt,
+read-run-loop-holds : (t : ℕ) → read-run-lts.Need-loop-holds (
+  depth-at-reads.Asked,
+  depth-at-reads.Learnt,
   read-owner-below t,
   read-owner.Post,
-  read-run-below t,
-  read-run.Post,
-) (read-run-at t) read-run.Post
-read-run-shared-slice-read-b t c = search needs
-
-read-run-depth-requires : (t : ℕ) → read-run-lts.Need-depth-requires (
-  depth-reads.Asked,
-  depth-reads.Learnt,
-  read-owner-below t,
-  read-owner.Post,
-  read-run-below t,
-  read-run.Post,
-) (read-run-at t) read-run.Post
-read-run-depth-requires t c κs = search needs
-
-read-run-returns-2 : (t : ℕ) → read-run-lts.Need-returns-2 (
-  depth-reads.Asked,
-  depth-reads.Learnt,
-  read-owner-below t,
-  read-owner.Post,
-  read-run-below t,
-  read-run.Post,
-) (read-run-at t) read-run.Post
-read-run-returns-2 t c = let s = c .before .before .before .before .before .before in ran-none (s .args .types .now) (s .args .owners .now) (s .args .over) (s .args .n) (s .pre .1 .0 .0) (λ h. rw (c .before .depth .ensures) at (c .if2 .taken))
+) (read-run-at t) read-run.Post read-run-Inv-loop read-run-μ-loop
+read-run-loop-holds t c = (omega arith, omega arith, refl, c .depth-at .ensures .0, c .depth-at .ensures .1, c .before .before .before .pre .1 .1, λ os m r. r)
 
 read-run-read-owner-requires : (t : ℕ) → read-run-lts.Need-read-owner-requires (
-  depth-reads.Asked,
-  depth-reads.Learnt,
+  depth-at-reads.Asked,
+  depth-at-reads.Learnt,
   read-owner-below t,
   read-owner.Post,
-  read-run-below t,
-  read-run.Post,
-) (read-run-at t) read-run.Post
-read-run-read-owner-requires t c κs = let s = c .before .before .before .before .before .before .before in
-    (omega (arith, s .pre .0), ((omega arith, omega arith, omega arith), s .pre .1 .1 (omega arith) (depthAt (s .args .types .now) (s .args .n)) (rw (c .before .before .depth .ensures) at (c .before .if2 .left)) (omega arith)))
+) (read-run-at t) read-run.Post read-run-Inv-loop read-run-μ-loop
+read-run-read-owner-requires t c κs = let l = c .before .before in let s = l .before .before .before .before in
+    let ts : List ℕ = s .args .types .now in
+    let h : l .loop .at < length ts = inside ts (l .loop .at) (s .args .over) (l .loop .d) (l .loop .inv .4) (c .before .loop-test .taken) in
+    let e : l .loop .d ≡ depthAt ts (l .loop .at) = l .loop .inv .3 h in
+    (omega (arith, s .pre .0), ((h, omega (arith, s .pre .1 .0), s .pre .1 .0 .2), (e, l .loop .inv .5 h (depthAt ts (l .loop .at)) (omega (arith, e, c .before .loop-test .taken)) (omega arith))))
 
-read-run-read-run-requires : (t : ℕ) → read-run-lts.Need-read-run-requires (
-  depth-reads.Asked,
-  depth-reads.Learnt,
+read-run-depth-at-requires-2 : (t : ℕ) → read-run-lts.Need-depth-at-requires-2 (
+  depth-at-reads.Asked,
+  depth-at-reads.Learnt,
   read-owner-below t,
   read-owner.Post,
-  read-run-below t,
-  read-run.Post,
-) (read-run-at t) read-run.Post
-read-run-read-run-requires t c κs = let s = c .before .before .before .before .before .before .before .before .before .before .before in let o = c .before .before .before in
-    let u : s .args .n + 1 ≤ o .read-owner .result = o .read-owner .ensures .up in
-    let w : o .read-owner .result ≤ length (s .args .types .now) = o .read-owner .ensures .within in
-    let k : length (o .read-owner .last .1 .0) ≡ length (s .args .owners .now) = o .read-owner .kept .1 .0 in
-    (omega (arith, s .pre .0), ((omega arith, omega (arith, k), omega arith), ready-on (s .args .types .now) (s .args .owners .now) (o .read-owner .last .1 .0) (s .args .over) (s .args .n) (o .read-owner .result) (s .args .owner) (s .pre .1 .1) (omega arith) (o .read-owner .ensures)))
+) (read-run-at t) read-run.Post read-run-Inv-loop read-run-μ-loop
+read-run-depth-at-requires-2 t c κs = search needs
+
+read-run-loop-less : (t : ℕ) → read-run-lts.Need-loop-less (
+  depth-at-reads.Asked,
+  depth-at-reads.Learnt,
+  read-owner-below t,
+  read-owner.Post,
+) (read-run-at t) read-run.Post read-run-Inv-loop read-run-μ-loop
+read-run-loop-less t c = let l = c .before .before .before .before .before .before in let o = c .before .before .before in
+    let u : l .loop .at + 1 ≤ o .read-owner .result = o .read-owner .ensures .up in
+    let w : o .read-owner .result ≤ length (l .before .before .before .before .args .types .now) = o .read-owner .ensures .within in
+    omega arith
+
+read-run-loop-again : (t : ℕ) → read-run-lts.Need-loop-again (
+  depth-at-reads.Asked,
+  depth-at-reads.Learnt,
+  read-owner-below t,
+  read-owner.Post,
+) (read-run-at t) read-run.Post read-run-Inv-loop read-run-μ-loop
+read-run-loop-again t c = let l = c .before .before .before .before .before .before in let o = c .before .before .before in let s = l .before .before .before .before in
+    let ts : List ℕ = s .args .types .now in
+    let h : l .loop .at < length ts = inside ts (l .loop .at) (s .args .over) (l .loop .d) (l .loop .inv .4) (o .before .before .loop-test .taken) in
+    let e : l .loop .d ≡ depthAt ts (l .loop .at) = l .loop .inv .3 h in
+    let deeper : s .args .over < depthAt ts (l .loop .at) = omega (arith, e, o .before .before .loop-test .taken) in
+    let u : l .loop .at + 1 ≤ o .read-owner .result = o .read-owner .ensures .up in (
+      omega arith,
+      o .read-owner .ensures .within,
+      o .read-owner .kept .1 .0 ∙ l .loop .inv .2,
+      c .depth-at2 .ensures .0,
+      c .depth-at2 .ensures .1,
+      ready-on ts (l .loop .owners) (o .read-owner .last .1 .0) (s .args .over) (l .loop .at) (o .read-owner .result) (s .args .owner) (l .loop .inv .5) h (o .read-owner .ensures),
+      λ os m r. l .loop .inv .6 os m (ran-on ts (l .loop .owners) (o .read-owner .last .1 .0) os (s .args .over) (l .loop .at) (o .read-owner .result) m deeper (o .read-owner .ensures) r),
+    )
 
 read-run-same-length : (t : ℕ) → read-run-lts.Need-same-length (
-  depth-reads.Asked,
-  depth-reads.Learnt,
+  depth-at-reads.Asked,
+  depth-at-reads.Learnt,
   read-owner-below t,
   read-owner.Post,
-  read-run-below t,
-  read-run.Post,
-) (read-run-at t) read-run.Post
+) (read-run-at t) read-run.Post read-run-Inv-loop read-run-μ-loop
 read-run-same-length t c = search needs
 
-read-run-returns-3 : (t : ℕ) → read-run-lts.Need-returns-3 (
-  depth-reads.Asked,
-  depth-reads.Learnt,
+read-run-returns : (t : ℕ) → read-run-lts.Need-returns (
+  depth-at-reads.Asked,
+  depth-at-reads.Learnt,
   read-owner-below t,
   read-owner.Post,
-  read-run-below t,
-  read-run.Post,
-) (read-run-at t) read-run.Post
-read-run-returns-3 t c =
-    let s = c .before .before .before .before .before .before .before .before .before .before .before .before .before .before in
-    let o = c .before .before .before .before .before .before in
-    ran-on (s .args .types .now) (s .args .owners .now) (o .read-owner .last .1 .0) (c .before .before .read-run .last .1 .0) (s .args .over) (s .args .n) (o .read-owner .result) (c .before .before .read-run .result) (rw (c .before .before .before .before .before .before .before .before .before .depth .ensures) at (c .before .before .before .before .before .before .before .before .if2 .left)) (o .read-owner .ensures) (c .before .before .read-run .ensures)
+) (read-run-at t) read-run.Post read-run-Inv-loop read-run-μ-loop
+read-run-returns t c = let l = c .before in let s = l .before .before .before .before in
+    let ts : List ℕ = s .args .types .now in
+    l .loop .inv .6 (l .loop .owners) (l .loop .at)
+    (ran-none ts (l .loop .owners) (s .args .over) (l .loop .at) (l .loop .inv .1) (λ h. let e : l .loop .d ≡ depthAt ts (l .loop .at) = l .loop .inv .3 h in omega (arith, e, c .loop-test .left)))
 
 pub +read-owner+read-run-spec : {M : Type 1} → statement M
 +read-owner+read-run-spec = close μ-read-owner μ-read-run (λ t. read-owner-lts.spec (
-  depth-reads.Asked,
-  depth-reads.Learnt,
+  depth-at-reads.Asked,
+  depth-at-reads.Learnt,
   read-run-below t,
   read-run.Post,
 )
@@ -214,28 +236,25 @@ pub +read-owner+read-run-spec : {M : Type 1} → statement M
     read-owner.Post
     (read-owner-mul-owners t)
     (read-owner-slice-write-owners t)
-    (read-owner-shared-slice-read-b t)
-    (read-owner-depth-requires t)
     (read-owner-add-next t)
+    (read-owner-depth-at-requires t)
+    (read-owner-same-length t)
+    (read-owner-returns t)
     (read-owner-cast-read-run t)
     (read-owner-read-run-requires t)
-    (read-owner-same-length t)
-    (read-owner-returns t))
-    λ t. read-run-lts.spec (
-      depth-reads.Asked,
-      depth-reads.Learnt,
-      read-owner-below t,
-      read-owner.Post,
-      read-run-below t,
-      read-run.Post,
-    )
+    (read-owner-same-length-2 t)
+    (read-owner-returns-2 t))
+    λ t. read-run-lts.spec
+    (depth-at-reads.Asked, depth-at-reads.Learnt, read-owner-below t, read-owner.Post)
     (read-run-at t)
     read-run.Post
-    (read-run-returns t)
-    (read-run-shared-slice-read-b t)
-    (read-run-depth-requires t)
-    (read-run-returns-2 t)
+    read-run-Inv-loop
+    read-run-μ-loop
+    (read-run-depth-at-requires t)
+    (read-run-loop-holds t)
     (read-run-read-owner-requires t)
-    (read-run-read-run-requires t)
+    (read-run-depth-at-requires-2 t)
+    (read-run-loop-less t)
+    (read-run-loop-again t)
     (read-run-same-length t)
-    (read-run-returns-3 t)
+    (read-run-returns t)
