@@ -5,10 +5,10 @@
  * did, by a number of document 01's table, and which byte to send back. Whole messages wait in one
  * journal until the host takes them.
  *
- * The library keeps nothing between calls, allocates nothing, and calls nothing but memcpy and memset.
- * All that a gateway is lies in memory of the host's: a ngachodui_state and three memories of fixed
- * sizes, lent to every call. To begin, call ngachodui_fresh on the state; the memories may hold
- * anything. From then on only the library changes them.
+ * The library keeps nothing between calls, allocates nothing, and calls nothing but memcpy, memmove
+ * and memset. All that a gateway is lies in memory of the host's: a ngachodui_state and three
+ * memories of fixed sizes, lent to every call. To begin, call ngachodui_fresh on the state; the
+ * memories may hold anything. From then on only the library changes them.
  *
  * What the host owes at every call, since C cannot say it:
  *   - each pointer is valid for the length beside it, or for the array in its type, and aligned for

@@ -11,7 +11,7 @@ use native.Mathlib.Decide.{ℕ-discrete}
 use lib.ListN.{length, take, drop, getD, length-drop, drop-of-length-le}
 use lib.Dec.{eqb}
 use lib.Seq.{take-all, drop-drop, getD-set-same, getD-set-other}
-use borrow.Author.Tests.{eq-eqb, ne-eqb}
+use borrow.Author.Tests.{lt-leb, eq-eqb, ne-eqb}
 use Rattle.memory.specs.Sizes.{lines, messageLimit}
 use Rattle.memory.proofs.Parts.{length-part}
 use Rattle.journal.specs.Header.{leastHead, headSize, entrySize, headOf}
@@ -135,6 +135,14 @@ walk-start bs = record { passed = refl; within = omega arith; rest = sym (prepen
 
 pub walk-end : (bs : List ℕ) (at : ℕ) (done : List Entry) → Passed bs at done → length bs ≤ at → entries bs ≡ some done
 walk-end bs at done w h = w .rest ∙ rw (drop-of-length-le bs h, entries-nil) (ap some (append-nil done))
+
+-- bytes that are too few for a header are no entry
+pub walk-short : (bs : List ℕ) (at : ℕ) (done : List Entry) → Passed bs at done → at < length bs → length bs - at < leastHead → entries bs ≡ none
+unfolding starts
+walk-short bs at done w more h =
+    let some-left : 0 < length (drop at bs) = rw length-drop (omega arith) in
+    let few : length (drop at bs) < leastHead = rw length-drop h in
+    w .rest ∙ ap (prepend done) (entries-stop (drop at bs) some-left (rw (lt-leb leastHead (length (drop at bs)) few)))
 
 -- what a header that was read says of the bytes
 first-some : (cs : List ℕ) (b : Bool) → starts cs ≡ b → (firstHead cs .count ≡ 0 → ⊥) → (starts cs ≡ true) × (firstHead cs ≡ headOf cs)

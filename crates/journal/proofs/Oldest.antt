@@ -3,12 +3,12 @@
 use mathlib.Core.Path.{_≡_, refl, sym, ap, _∙_}
 use mathlib.Core.List.{List, [], _∷_, _++_}
 use mathlib.Core.Bool.{Bool, true, false, cond}
-use Prim.Native.Nat.{ℕ, _+_, _≤_, _<_}
+use Prim.Native.Nat.{ℕ, _+_, _≤_}
 use native.Mathlib.Omega.{arith}
 use lib.Dec.{eqb}
-use borrow.Author.Tests.{eq-eqb, ne-eqb, eqb-true}
-use Rattle.journal.specs.Entries.{Entry, size, sizes, total, before, from}
-use Rattle.journal.proofs.Chains.{total-append}
+use borrow.Author.Tests.{eq-eqb, eqb-true}
+use Rattle.journal.specs.Entries.{Entry, size, total, before, from}
+use Rattle.journal.proofs.Chains.{size-pos, total-append}
 
 pub cons-inj : (e f : Entry) (es fs : List Entry) → e ∷ es ≡ f ∷ fs → (e ≡ f) × (es ≡ fs)
 cons-inj e f es fs q = (cc, cc)
@@ -40,45 +40,24 @@ total-oldest l es e fs q =
     let o : total l (e ∷ fs) ≡ size e + total l fs = rw (eq-eqb _ _ (from-line l es e fs q)) in
     omega (arith, t, o)
 
--- ---- how a walk finds it
+-- ---- how a walk finds it: while the line's sum is 0, all that is passed stands before the line's oldest, and from then on nothing more does
 
--- where the first entry of line l stands, if the entries stand from `at` on; n where none is of that line
-abbrev pub placeIn : ℕ → ℕ → List Entry → ℕ → ℕ
-placeIn l at [] n = n
-placeIn l at (e ∷ es) n = cond (eqb (e .line) l) at (placeIn l (at + size e) es n)
+none-before : (b : Bool) (e : Entry) (ds es : List Entry) (n : ℕ) → (n ≡ 0 → ds ≡ es) → cond b (size e) 0 + n ≡ 0 → cond b [] (e ∷ ds) ≡ e ∷ es
+none-before true e ds es n h q = absurd (omega (arith, size-pos e))
+none-before false e ds es n h q = ap (λ (x : List Entry). e ∷ x) (h (omega arith))
 
--- one entry more, of another line
-same-place : (b : Bool) (at x y : ℕ) → x ≡ y → cond b at x ≡ cond b at y
-same-place b at x y q = rw q
+pub all-before : (l : ℕ) (es : List Entry) → total l es ≡ 0 → before l es ≡ es
+all-before l [] q = refl
+all-before l (e ∷ es) q = none-before (eqb (e .line) l) e (before l es) es (total l es) (all-before l es) q
 
-pub place-other : (l at : ℕ) (es : List Entry) (e : Entry) (n : ℕ) → (e .line ≡ l → ⊥) → placeIn l at (es ++ e ∷ []) n ≡ placeIn l at es n
-place-other l at [] e n q = rw (ne-eqb _ _ q)
-place-other l at (d ∷ ds) e n q = same-place (eqb (d .line) l) at _ _ (place-other l (at + size d) ds e n q)
+last-before : (b : Bool) (e : Entry) → (cond b (size e) 0 + 0 ≡ 0 → ⊥) → cond b [] (e ∷ []) ≡ []
+last-before true e q = refl
+last-before false e q = absurd (q refl)
 
--- one more, where one of the line's is passed
-later-place : (b : Bool) (at x y n : ℕ) → ((y ≡ n → ⊥) → x ≡ y) → (cond b at y ≡ n → ⊥) → cond b at x ≡ cond b at y
-later-place true at x y n h q = refl
-later-place false at x y n h q = h q
+no-more : (b : Bool) (d : Entry) (es ds : List Entry) (m n : ℕ) → ((n ≡ 0 → ⊥) → es ≡ ds) → (cond b m 0 + n ≡ 0 → ⊥) → cond b [] (d ∷ es) ≡ cond b [] (d ∷ ds)
+no-more true d es ds m n h q = refl
+no-more false d es ds m n h q = ap (λ (x : List Entry). d ∷ x) (h (λ z. q (omega arith)))
 
-pub place-later : (l at : ℕ) (es : List Entry) (e : Entry) (n : ℕ) → (placeIn l at es n ≡ n → ⊥) → placeIn l at (es ++ e ∷ []) n ≡ placeIn l at es n
-place-later l at [] e n q = absurd (q refl)
-place-later l at (d ∷ ds) e n q = later-place (eqb (d .line) l) at _ _ n (place-later l (at + size d) ds e n) q
-
--- the line's first
-first-place : (b : Bool) (at x y n m k : ℕ) → at < n → (y ≡ n → x ≡ at + m + k) → cond b at y ≡ n → cond b at x ≡ at + (m + k)
-first-place true at x y n m k p h q = absurd (omega arith)
-first-place false at x y n m k p h q = omega (arith, h q)
-
-pub place-first : (l at : ℕ) (es : List Entry) (e : Entry) (n : ℕ) → e .line ≡ l → at + sizes es < n → placeIn l at es n ≡ n → placeIn l at (es ++ e ∷ []) n ≡ at + sizes es
-place-first l at [] e n q p r = rw (eq-eqb _ _ q) (omega arith)
-place-first l at (d ∷ ds) e n q p r =
-    first-place (eqb (d .line) l) at _ _ n (size d) (sizes ds) (omega arith) (place-first l (at + size d) ds e n q (omega arith)) r
-
--- at the end of the walk
-end-place : (b : Bool) (at x : ℕ) (d : Entry) (ds : List Entry) → x ≡ at + size d + sizes ds → cond b at x ≡ at + sizes (cond b [] (d ∷ ds))
-end-place true at x d ds q = omega arith
-end-place false at x d ds q = omega arith
-
-pub place-end : (l at : ℕ) (es : List Entry) (n : ℕ) → n ≡ at + sizes es → placeIn l at es n ≡ at + sizes (before l es)
-place-end l at [] n q = q
-place-end l at (d ∷ ds) n q = end-place (eqb (d .line) l) at _ d (before l ds) (place-end l (at + size d) ds n (omega arith))
+pub same-before : (l : ℕ) (ds : List Entry) (e : Entry) → (total l (ds ++ e ∷ []) ≡ 0 → ⊥) → before l (ds ++ e ∷ []) ≡ before l ds
+same-before l [] e q = last-before (eqb (e .line) l) e q
+same-before l (d ∷ ds) e q = no-more (eqb (d .line) l) d _ _ (size d) (total l (ds ++ e ∷ [])) (same-before l ds e) q

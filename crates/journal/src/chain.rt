@@ -13,16 +13,15 @@ struct Sums {
     oldest: usize,
 }
 
-// Walks the entries that s is made of. While none of the line's is passed, its oldest is taken to stand at the end.
+// Walks the entries that s is made of. While none of the line's is passed, its oldest is taken to stand behind those that are.
 fn walk(s: &[u8], line: usize) -> Sums
-    requires { ⌜ length (now s) ≤ journalSize ⌝ }
+    requires { ⌜ (length (now s) ≤ journalSize) × (line < lines) ⌝ }
     ensures { λ r. ⌜ Walked (now (s .entry)) line (r .whole) (r .sums) (r .oldest) ⌝ }
 {
-    let none = s.len();
     let mut sums = [0u32; 8];
-    let mut oldest = none;
+    let mut oldest = 0;
     let mut at = 0;
-    while at < s.len() {
+    while crate::header::LEAST_HEAD <= s.len() - at {
         let h = crate::header::entry_at(&s[at..]);
         let count = h.count;
         if count == 0 {
@@ -35,16 +34,13 @@ fn walk(s: &[u8], line: usize) -> Sums
         let owner = h.line;
         let size = crate::header::entry_size(count);
         sums[owner] += size as u32;
-        let here = at;
         at += size;
-        if owner == line {
-            if oldest == none {
-                oldest = here;
-            }
+        if sums[line] == 0 {
+            oldest = at;
         }
     }
     Sums {
-        whole: true,
+        whole: at == s.len(),
         sums,
         oldest,
     }
@@ -70,7 +66,7 @@ pub struct Found {
 }
 
 pub fn look(ledger: crate::Ledger, line: usize, journal: &[u8]) -> Found
-    requires { ⌜ length (now journal) ≡ journalSize ⌝ }
+    requires { ⌜ (length (now journal) ≡ journalSize) × (line < lines) ⌝ }
     ensures { λ r. ⌜ Seen ledger line (now (journal .entry)) (r .whole) (r .oldest) ⌝ }
 {
     let in_use = ledger.in_use;

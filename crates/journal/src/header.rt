@@ -15,7 +15,7 @@ pub struct Header {
 }
 
 // No header is shorter.
-const LEAST_HEAD: usize = 4;
+pub const LEAST_HEAD: usize = 4;
 
 // What one weighs in the number that a header spells: of the text's length, of the spare bit, of the line.
 const LENGTH_AT: u64 = 65536;
@@ -68,13 +68,14 @@ fn whole(h: Header, room: usize) -> Header
         count: 0,
         serial: 0,
     };
-    if h.spare != 0 {
-        return none;
-    }
+    // The length's two tests stand side by side: they are compiled to one.
     if h.count < 1 {
         return none;
     }
     if memory::MESSAGE_LIMIT < h.count {
+        return none;
+    }
+    if h.spare != 0 {
         return none;
     }
     let count = h.count;

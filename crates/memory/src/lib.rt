@@ -5,6 +5,8 @@ ghost use lib.Dec.{leb};
 ghost use Rattle.memory.specs.Moves.{Copied, ClosedUp};
 ghost use Rattle.memory.specs.Fields.{octets, width, fieldAt, FieldWritten};
 
+mod moving; // moving.rt: pieces of memory moved at once
+
 // The sizes that document 01 fixes; specs/Sizes.antt says what each is.
 pub const LINES: usize = 8;
 
@@ -38,8 +40,9 @@ pub fn copy(dst: &mut [u8], src: &[u8]) -> bool
     }
     let mut done = 0;
     while done < src.len() {
-        dst[done] = src[done];
-        done += 1;
+        let next = done + moving::piece(src.len() - done);
+        moving::carry(&mut dst[done..], &src[done..next]);
+        done = next;
     }
     true
 }
@@ -73,8 +76,9 @@ pub fn close_up(area: &mut [u8], at: usize, gap: usize, end: usize) -> bool
     let last = end - gap;
     let mut i = at;
     while i < last {
-        area[i] = area[i + gap];
-        i += 1;
+        let n = moving::piece(last - i);
+        moving::move_down(area, i, gap, n);
+        i += n;
     }
     true
 }

@@ -2,16 +2,16 @@
 -- Assumes nothing.
 use mathlib.Core.Path.{_≡_, refl, sym, _∙_, ap}
 use mathlib.Core.List.{List}
-use Prim.Native.Nat.{ℕ, suc, _+_, _-_, _≤_, _<_}
+use Prim.Native.Nat.{ℕ, _+_, _-_, _≤_}
 use native.Mathlib.Nat.{sub-self}
 use native.Mathlib.Omega.{arith}
-use lib.ListN.{length, take, getD, set, length-set}
-use lib.Seq.{take-all}
+use lib.ListN.{length, take}
+use lib.Seq.{take-all, length-take-le}
 use denote.Ref.{now}
-use Rattle.memory.specs.Parts.{splice}
+use Rattle.memory.specs.Parts.{part, splice}
 use Rattle.memory.specs.Moves.{later}
-use Rattle.memory.proofs.Parts.{splice-nil, length-part}
-use Rattle.memory.proofs.Moves.{close-more, closed-no, closed-yes}
+use Rattle.memory.proofs.Parts.{length-part, length-splice, splice-nil}
+use Rattle.memory.proofs.Moves.{close-on, closed-no, closed-yes}
 use Rattle.memory.proofs.close_up.Statement.{statement}
 use Rattle.memory.proofs.close_up.Tie as tie
 
@@ -31,17 +31,17 @@ abbrev μ-loop : tie.MeasureT-loop
 μ-loop area₀ at gap end last i₀ area i = last - i
 
 returns : tie.Need-returns Inv-loop μ-loop
-returns c = let a = c .before .args in closed-no (now (a .area)) (a .at) (a .gap) (a .end) (λ h k. omega arith)
+returns c = let a = c .before .before .args in closed-no (now (a .area)) (a .at) (a .gap) (a .end) (λ h k. omega arith)
 
 returns-2 : tie.Need-returns-2 Inv-loop μ-loop
-returns-2 c = let a = c .before .before .args in closed-no (now (a .area)) (a .at) (a .gap) (a .end) (λ h k. omega arith)
+returns-2 c = let a = c .before .before .before .args in closed-no (now (a .area)) (a .at) (a .gap) (a .end) (λ h k. omega arith)
 
 returns-3 : tie.Need-returns-3 Inv-loop μ-loop
-returns-3 c = let a = c .before .before .before .args in closed-no (now (a .area)) (a .at) (a .gap) (a .end) (λ h k. omega arith)
+returns-3 c = let a = c .before .before .before .before .args in closed-no (now (a .area)) (a .at) (a .gap) (a .end) (λ h k. omega arith)
 
 loop-holds : tie.Need-loop-holds Inv-loop μ-loop
 loop-holds c =
-    let a = c .before .before .before .args in
+    let a = c .before .before .before .before .args in
     record {
       fits = omega arith;
       room = omega arith;
@@ -54,28 +54,33 @@ loop-holds c =
 
 loop-again : tie.Need-loop-again Inv-loop μ-loop
 loop-again c =
-    let l = c .before .before .loop in
-    let a = c .before .before .before .before .before .before .args in
+    let l = c .before .before .before .before .before .before .loop in
+    let a = c .before .before .before .before .before .before .before .before .before .before .before .args in
+    let n : ℕ = c .before .before .before .before .piece .result in
     let j : ℕ = l .i - a .at in
     let here : l .i ≡ a .at + j = omega arith in
-    let next : l .i + 1 - a .at ≡ suc j = omega arith in
-    let from : l .i + a .gap ≡ a .at + j + a .gap = omega arith in
-    let within : a .at + a .gap + j < a .end = omega arith in
+    let next : l .i + n - a .at ≡ j + n = omega arith in
+    let all : length (later (now (a .area)) (a .at) (a .gap) (a .end)) ≡ a .end - (a .at + a .gap) =
+    length-part (now (a .area)) (a .at + a .gap) (a .end - (a .at + a .gap)) (omega arith) in
+    let first : length (take (j + n) (later (now (a .area)) (a .at) (a .gap) (a .end))) ≡ j + n =
+    length-take-le (j + n) (later (now (a .area)) (a .at) (a .gap) (a .end)) (omega arith) in
+    let same = c .before .before .move-down .ensures
+    ∙ ap (λ (m : ℕ). splice (l .area) m (part (l .area) (m + a .gap) n)) here
+    ∙ rw (← l .inv .same) at (close-on (now (a .area)) (a .at) (a .gap) (a .end) j n (omega arith) (omega arith)) in
     record {
       fits = omega arith;
       room = omega arith;
       upto = omega arith;
       low = omega arith;
       high = omega arith;
-      same = ap (λ (n : ℕ). set (l .area) n (getD (l .area) (l .i + a .gap) 0)) here
-          ∙ rw (next, from, l .inv .same) (close-more (now (a .area)) (a .at) (a .gap) (a .end) j (omega arith) within);
-      long = simp length-set (omega arith);
+      same = rw next same;
+      long = ap length same ∙ length-splice (now (a .area)) (a .at) (take (j + n) (later (now (a .area)) (a .at) (a .gap) (a .end))) (omega arith);
     }
 
 returns-4 : tie.Need-returns-4 Inv-loop μ-loop
 returns-4 c =
     let l = c .before .loop in
-    let a = c .before .before .before .before .before .args in
+    let a = c .before .before .before .before .before .before .args in
     let n : length (later (now (a .area)) (a .at) (a .gap) (a .end)) ≡ a .end - (a .at + a .gap) =
     length-part (now (a .area)) (a .at + a .gap) (a .end - (a .at + a .gap)) (omega arith) in
     let all : length (later (now (a .area)) (a .at) (a .gap) (a .end)) ≤ l .i - a .at = omega arith in
@@ -94,8 +99,8 @@ close-up-spec =
     (λ c. omega arith)
     loop-holds
     (λ c. omega arith)
-    (λ c. omega arith)
-    (λ c. omega arith)
+    (λ c κs. omega arith)
+    (λ c κs. omega arith)
     (λ c. omega arith)
     (λ c. omega arith)
     loop-again

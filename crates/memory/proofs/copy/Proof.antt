@@ -1,17 +1,16 @@
 -- `memory::copy` meets its contract. The loop's invariant: the first `done` bytes of src are over the start of dst, and the rest is as it was.
 -- Assumes nothing.
-use mathlib.Core.Path.{_≡_, refl, sym, _∙_}
+use mathlib.Core.Path.{_≡_, refl, sym, _∙_, ap}
 use mathlib.Core.List.{List}
-use Prim.Native.Nat.{ℕ, _+_, _-_, _≤_, _<_}
+use Prim.Native.Nat.{ℕ, _+_, _-_, _≤_}
 use native.Mathlib.Nat.{zero-add}
-use native.Mathlib.Numerals.{add-one}
 use native.Mathlib.Omega.{arith}
-use lib.ListN.{length, take, length-set}
-use lib.Seq.{take-length}
+use lib.ListN.{length, take, length-take, length-drop}
+use lib.Seq.{take-length, length-take-le}
 use denote.Ref.{now}
-use Rattle.memory.specs.Parts.{splice}
-use Rattle.memory.proofs.Parts.{splice-nil}
-use Rattle.memory.proofs.Moves.{copy-more, copied-no, copied-yes}
+use Rattle.memory.specs.Parts.{part, splice}
+use Rattle.memory.proofs.Parts.{length-part, part-lent, length-splice, splice-nil}
+use Rattle.memory.proofs.Moves.{copy-on, laid-back, copied-no, copied-yes}
 use Rattle.memory.proofs.copy.Statement.{statement}
 use Rattle.memory.proofs.copy.Tie as tie
 
@@ -28,30 +27,39 @@ abbrev μ-loop : tie.MeasureT-loop
 μ-loop dst₀ src done₀ dst done = length src - done
 
 returns : tie.Need-returns Inv-loop μ-loop
-returns c = let a = c .before .args in copied-no (now (a .dst)) 0 (now (a .src)) (omega arith)
+returns c = let a = c .before .before .before .args in copied-no (now (a .dst)) 0 (now (a .src)) (omega arith)
 
 loop-holds : tie.Need-loop-holds Inv-loop μ-loop
 loop-holds c =
-    let a = c .before .args in
+    let a = c .before .before .before .args in
     record { fits = omega arith; within = omega arith; same = sym (splice-nil (now (a .dst)) 0); long = refl }
+
+carry-requires : tie.Need-carry-requires Inv-loop μ-loop
+carry-requires c κs = simp (length-take, length-drop) (omega arith)
 
 loop-again : tie.Need-loop-again Inv-loop μ-loop
 loop-again c =
-    let l = c .before .before .loop in
-    let a = c .before .before .before .before .args in
-    let p : 0 + length (now (a .src)) ≤ length (now (a .dst)) = omega arith in
-    let q : l .done < length (now (a .src)) = omega arith in
+    let l = c .before .before .before .before .before .before .before .loop in
+    let a = c .before .before .before .before .before .before .before .before .before .before .before .args in
+    let n : ℕ = c .before .before .before .before .before .piece .result in
+    let here : length (part (now (a .src)) (l .done) n) ≡ n = length-part (now (a .src)) (l .done) n (omega arith) in
+    let next = l .done + n in
+    let first : length (take next (now (a .src))) ≡ next = length-take-le next (now (a .src)) (omega arith) in
+    let more = rw (← l .inv .same, zero-add) at (copy-on (now (a .dst)) 0 (now (a .src)) (l .done) n (omega arith) (omega arith)) in
+    let same = laid-back (l .dst) (l .done) (part (now (a .src)) (l .done) n) _ _ (omega arith) refl
+    (c .before .before .carry .ensures ∙ ap (splice _ 0) (part-lent (now (a .src)) (l .done) n))
+    ∙ more in
     record {
       fits = omega arith;
       within = omega arith;
-      same = rw (l .inv .same, add-one) (rw zero-add at (copy-more (now (a .dst)) 0 (now (a .src)) (l .done) p q));
-      long = simp length-set (omega arith);
+      same = same;
+      long = ap length same ∙ length-splice (now (a .dst)) 0 (take next (now (a .src))) (omega arith);
     }
 
 returns-2 : tie.Need-returns-2 Inv-loop μ-loop
 returns-2 c =
     let l = c .before .loop in
-    let a = c .before .before .before .args in
+    let a = c .before .before .before .before .before .args in
     let e : l .done ≡ length (now (a .src)) = omega arith in
     copied-yes (now (a .dst)) 0 (now (a .src)) (omega arith) refl (l .inv .same ∙ rw (e, take-length))
 
@@ -64,8 +72,15 @@ copy-spec =
     returns
     loop-holds
     (λ c. omega arith)
+    (λ c κs. omega arith)
     (λ c. omega arith)
     (λ c. omega arith)
+    (λ c. omega arith)
+    (λ c. omega arith)
+    (λ c. omega arith)
+    (λ c. omega arith)
+    (λ c. omega arith)
+    carry-requires
     (λ c. omega arith)
     loop-again
     (λ c. omega arith)
