@@ -35,7 +35,7 @@ leb-max a b m = by-tests (leb a m) (leb b m) refl refl
     by-tests true false p q = lt-leb (max a b) m (omega (arith, leb-false b m q))
     by-tests false y p q = lt-leb (max a b) m (omega (arith, leb-false a m p))
 
-and-true : (a : Bool) → a && true ≡ a
+pub and-true : (a : Bool) → a && true ≡ a
 and-true true = refl
 and-true false = refl
 

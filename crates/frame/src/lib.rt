@@ -7,7 +7,7 @@ ghost use Rattle.frame.specs.Allowed.{allowed, plus, classTable};
 ghost use Rattle.frame.specs.Check.{checkOf, digitsOf};
 ghost use Rattle.frame.specs.Number.{nextNumber};
 ghost use Rattle.frame.specs.Shape.{shapeOf};
-ghost use Rattle.frame.specs.Writing.{FrameWritten};
+ghost use Rattle.frame.specs.Writing.{FrameWritten, FramePut};
 
 mod hex; // hex.rt: the digit of a number below 16
 mod judging; // judging.rt: the parts of a frame's shape
@@ -173,9 +173,6 @@ pub fn shape_of(limit: usize, collected: &[u8], last: u8) -> Shape
 pub fn write_frame(limit: usize, number: u8, end: End, text: &[u8], out: &mut [u8]) -> Written
     ensures { λ r. ⌜ FrameWritten limit number end (now (text .entry)) (now (out .entry)) r (now (out .exit)) ⌝ }
 {
-    if MOST_NUMBER < number {
-        return Written::NoFrame;
-    }
     let n = text.len() + AROUND_TEXT;
     if limit < n {
         return Written::NoFrame;
@@ -183,9 +180,20 @@ pub fn write_frame(limit: usize, number: u8, end: End, text: &[u8], out: &mut [u
     if !all_allowed(text) {
         return Written::NoFrame;
     }
-    if out.len() < n {
+    put_frame(number, end, text, out)
+}
+
+// Writes a frame of any bytes over the start of out: for a text that is known to be allowed and to fit its frame.
+pub fn put_frame(number: u8, end: End, text: &[u8], out: &mut [u8]) -> Written
+    ensures { λ r. ⌜ FramePut number end (now (text .entry)) (now (out .entry)) r (now (out .exit)) ⌝ }
+{
+    if MOST_NUMBER < number {
+        return Written::NoFrame;
+    }
+    let size = text.len() + AROUND_TEXT;
+    if out.len() < size {
         return Written::NoRoom;
     }
-    writing::put_frame(number, end, text, out);
-    Written::Length(n)
+    writing::lay_frame(number, end, text, out);
+    Written::Length(size)
 }

@@ -9,7 +9,7 @@ use denote.Ref.{now}
 use lib.ListN.{length}
 use Rattle.record.specs.Delimiters.{standard}
 use Rattle.record.specs.Faults.{isMessage}
-use Rattle.record.proofs.Messages.{message-short, message-allowed}
+use Rattle.record.proofs.Messages.{message-short}
 use Rattle.cutting.specs.Frames.{cutOf}
 use Rattle.cutting.proofs.Written.{no-message, no-room, cut-written, limit-small, by-message}
 use Rattle.cutting.proofs.Laws.{cut-long}
@@ -50,9 +50,8 @@ returns-3 c =
 
 write-all-requires : tie.Need-write-all-requires
 write-all-requires c κs =
-    let text = now (c .before .before .before .before .before .before .before .before .args .text) in
     let long = measured (c .before .before) in
-    (omega arith, message-allowed standard text (a-message (c .before .before .before)), omega arith)
+    (omega arith, omega arith)
 
 returns-4 : tie.Need-returns-4
 returns-4 c =

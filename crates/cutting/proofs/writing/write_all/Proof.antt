@@ -12,7 +12,7 @@ use Rattle.frame.specs.Number.{mostNumber}
 use Rattle.record.proofs.Scans.{tailAt, rest-part}
 use Rattle.cutting.specs.Frames.{cutOf}
 use Rattle.cutting.proofs.Steps.{Turn, turn}
-use Rattle.cutting.proofs.Written.{left, left-long, written-on, turn-clean, left-none}
+use Rattle.cutting.proofs.Written.{left, left-long, written-on, left-none}
 use Rattle.cutting.proofs.writing.write_all.Statement.{statement}
 use Rattle.cutting.proofs.writing.write_all.Tie as tie
 
@@ -44,7 +44,7 @@ write-piece-requires c κs =
     let n = c .before .piece-length .result in
     let long : length (tailAt text (l .at)) ≡ length text - l .at = rw (rest-part, length-drop) in
     let ahead = left-long (s .args .limit) text (l .at) n (l .number) t in
-    (t .some, omega (arith, t .within, long), t .short, l .inv .1, turn-clean (s .args .limit) text (l .at) n (l .number) t (s .pre .1), omega (arith, ahead, l .inv .2, l .inv .4, s .pre .2))
+    (t .some, omega (arith, t .within, long), l .inv .1, omega (arith, ahead, l .inv .2, l .inv .4, s .pre .1))
 
 add-done : tie.Need-add-done Inv-loop μ-loop
 add-done c = let t = turned (c .before .before .before .before) in omega (arith, t .short)
@@ -55,7 +55,7 @@ add-done-2 c =
     let l = c .before .before .before .before .before .before .before .loop in
     let p = c .before .before .before .before in
     let ahead = left-long (s .args .limit) (now (s .args .text)) (l .at) (p .piece-length .result) (l .number) (turned p) in
-    omega (arith, ahead, l .inv .4, s .pre .2)
+    omega (arith, ahead, l .inv .4, s .pre .1)
 
 add-at : tie.Need-add-at Inv-loop μ-loop
 add-at c = let t = turned (c .before .before .before .before) in omega (arith, t .within)
@@ -70,7 +70,7 @@ loop-again c =
     let l = c .before .before .before .before .before .before .before .before .loop in
     let p = c .before .before .before .before .before in
     written-on (a .limit) (now (a .text)) (l .at) (p .piece-length .result) (l .number) (turned p) (l .out) (now (a .out)) (l .done)
-    (l .inv .2) (s .pre .2) (l .inv .4) (l .inv .3) (c .before .before .before .write-piece .ensures) (c .next-number .ensures)
+    (l .inv .2) (s .pre .1) (l .inv .4) (l .inv .3) (c .before .before .before .write-piece .ensures) (c .next-number .ensures)
 
 same-length : tie.Need-same-length Inv-loop μ-loop
 same-length c = c .before .loop .inv .2
