@@ -11,7 +11,7 @@ use Rattle.memory.proofs.Parts.{splice-nil}
 use Rattle.frame.specs.Number.{mostNumber}
 use Rattle.record.proofs.Scans.{tailAt, rest-part}
 use Rattle.cutting.specs.Frames.{cutOf}
-use Rattle.cutting.proofs.Steps.{Turn, turn}
+use Rattle.cutting.proofs.Steps.{Turn, turn, ended-tail}
 use Rattle.cutting.proofs.Written.{left, left-long, written-on, left-none}
 use Rattle.cutting.proofs.writing.write_all.Statement.{statement}
 use Rattle.cutting.proofs.writing.write_all.Tie as tie
@@ -34,6 +34,11 @@ turned : (c : tie.After-piece-length Inv-loop μ-loop) → Turn (c .before .befo
 turned c =
     let a = c .before .before .before .before .before .before .args in
     turn (a .limit) (now (a .text)) (c .before .before .before .loop .at) (c .piece-length .result) (omega arith) (omega arith) (c .piece-length .ensures)
+
+piece-length-requires : tie.Need-piece-length-requires Inv-loop μ-loop
+piece-length-requires c κs =
+    let s = c .before .before .before .before .before in
+    (omega arith, ended-tail (now (s .args .text)) (c .before .before .loop .at) (s .pre .2) (omega arith))
 
 write-piece-requires : tie.Need-write-piece-requires Inv-loop μ-loop
 write-piece-requires c κs =
@@ -93,7 +98,7 @@ write-all-spec =
     (λ c. search needs)
     (λ c. search needs)
     (λ c. search needs)
-    (λ c κs. search needs)
+    piece-length-requires
     write-piece-requires
     add-done
     add-done-2
