@@ -3,14 +3,14 @@
 use mathlib.Core.Path.{_≡_, refl, ap}
 use mathlib.Core.Bool.{Bool, true, false, _&&_, _||_}
 use mathlib.Core.List.{List, [], _∷_}
-use Prim.Native.Nat.{ℕ, _+_, _%_, _≤_, _<_, max}
+use Prim.Native.Nat.{ℕ, _+_, _%_, _<_, max}
 use native.Mathlib.Numerals.{add-one}
 use native.Mathlib.Omega.{arith}
 use borrow.Author.Tests.{le-leb, lt-leb, leb-true, leb-false, eqb-true, ne-eqb}
 use lib.Dec.{leb, eqb}
 use lib.ListN.{length, take, getD}
 use lib.Seq.{take-suc}
-use Rattle.memory.specs.Tests.{is, between, all}
+use Rattle.memory.specs.Tests.{between, all}
 use Rattle.memory.proofs.Tests.{and-left, and-right, and-both, all-append}
 use Rattle.frame.specs.Control.{cr}
 use Rattle.frame.specs.Allowed.{allowed}

@@ -1,6 +1,6 @@
 -- `frame::plain::is_plain` meets its contract: of the bytes passed, none lies farther past the space than a plain one exactly if all are plain.
 -- Assumes nothing.
-use mathlib.Core.Path.{_≡_, refl, sym, ap, _∙_}
+use mathlib.Core.Path.{_≡_, refl, sym, _∙_}
 use Prim.Native.Nat.{_-_, _≤_}
 use native.Mathlib.Omega.{arith}
 use lib.Dec.{leb}

@@ -1,7 +1,6 @@
 -- `frame::plain::past_space` meets its contract.
 -- Assumes nothing.
 use mathlib.Core.Path.{sym, ap}
-use Prim.Native.Nat.{ℕ}
 use borrow.Author.Needs.{needs}
 use Rattle.frame.specs.Plain.{plain}
 use Rattle.frame.proofs.PlainBytes.{plain-past}
