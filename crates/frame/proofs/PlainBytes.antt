@@ -47,6 +47,7 @@ or-true : (a : Bool) → a || true ≡ true
 or-true true = refl
 or-true false = refl
 
+-- a plain byte is allowed, and so a text of them
 plain-allowed : (b : ℕ) → plain b ≡ true → allowed b ≡ true
 unfolding plain allowed
 plain-allowed b e = by-cr (eqb b cr) refl e
