@@ -7,19 +7,16 @@ use Prim.Native.Nat.{ℕ, _+_, _-_, _*_, _≤_, _<_}
 use native.Mathlib.Nat.{add-zero}
 use native.Mathlib.Omega.{arith}
 use borrow.Author.Tests.{le-leb, lt-leb, lt-ltb, le-ltb}
-use lib.ListN.{length, take, drop, length-append, length-drop, drop-of-length-le, take-append-drop}
+use lib.ListN.{length, take, drop, length-append, length-drop, drop-of-length-le}
 use lib.Seq.{take-all, length-take-le}
 use Rattle.memory.specs.Parts.{splice}
-use Rattle.memory.specs.Tests.{all}
 use Rattle.memory.proofs.Parts.{splice-from, splice-join, length-splice}
-use Rattle.memory.proofs.Tests.{and-left, and-right, all-append}
-use Rattle.frame.specs.Allowed.{allowed}
 use Rattle.frame.specs.Number.{mostNumber, nextNumber}
 use Rattle.frame.specs.Shape.{aroundText}
-use Rattle.frame.specs.Writing.{frameOf, frameIn, FrameWritten}
+use Rattle.frame.specs.Writing.{frameOf, putIn, FramePut}
 use Rattle.frame.specs.declared.End.{End}
 use Rattle.frame.specs.declared.Written.{Written}
-use Rattle.frame.proofs.Put.{length-collected, by-text}
+use Rattle.frame.proofs.Put.{length-collected}
 use Rattle.record.specs.Delimiters.{standard}
 use Rattle.record.specs.Faults.{isMessage}
 use Rattle.record.proofs.Scans.{tailAt, rest-part}
@@ -32,24 +29,17 @@ pub length-frame : (number : ℕ) (end : End) (text : List ℕ) → length (fram
 unfolding frameOf
 length-frame number end text = let z = length-collected number end text in omega (arith, z)
 
--- the frame was written to the part from `at` on, which is back in its place
-pub frame-back : (limit number : ℕ) (end : End) (text d m b : List ℕ) (at : ℕ) (r : Written) → number ≤ mostNumber → length text + aroundText ≤ limit → all allowed text ≡ true
-    → at + (length text + aroundText) ≤ length d → m ≡ take (length d - at) (drop at d) → FrameWritten limit number end text m r b
+-- the frame was put into the part from `at` on, which is back in its place
+pub frame-back : (number : ℕ) (end : End) (text d m b : List ℕ) (at : ℕ) (r : Written) → number ≤ mostNumber
+    → at + (length text + aroundText) ≤ length d → m ≡ take (length d - at) (drop at d) → FramePut number end text m r b
     → take at d ++ (b ++ drop (length d - at) (drop at d)) ≡ splice d at (frameOf number end text)
-unfolding frameIn
-frame-back limit number end text d m b at r few short clean room e w =
+unfolding putIn
+frame-back number end text d m b at r few room e w =
     let whole : m ≡ drop at d = e ∙ take-all (length d - at) (drop at d) (rw length-drop (omega arith)) in
     let fits : length text + aroundText ≤ length m = rw (whole, length-drop) (omega arith) in
     let over : length (drop at d) ≤ length d - at = rw length-drop (omega arith) in
-    let laid : b ≡ splice m 0 (frameOf number end text) = w .after ∙ rw (by-text limit number text few short clean, le-leb (length text + aroundText) (length m) fits) in
+    let laid : b ≡ splice m 0 (frameOf number end text) = w .after ∙ rw (le-leb number mostNumber few, le-leb (length text + aroundText) (length m) fits) in
     rw (drop-of-length-le (drop at d) over, append-nil, laid, whole, ← splice-from d at 0 (frameOf number end text) (omega arith), add-zero)
-
--- a part of allowed bytes
-all-take : (p : ℕ → Bool) (s : List ℕ) (n : ℕ) → all p s ≡ true → all p (take n s) ≡ true
-all-take p s n e = and-left (all p (take n s)) (all p (drop n s)) (sym (all-append p (take n s) (drop n s)) ∙ ap (all p) (take-append-drop n s) ∙ e)
-
-all-drop : (p : ℕ → Bool) (s : List ℕ) (n : ℕ) → all p s ≡ true → all p (drop n s) ≡ true
-all-drop p s n e = and-right (all p (take n s)) (all p (drop n s)) (sym (all-append p (take n s) (drop n s)) ∙ ap (all p) (take-append-drop n s) ∙ e)
 
 -- what is left to write at a place of the text
 abbrev pub left : ℕ → List ℕ → ℕ → ℕ → List ℕ
@@ -80,10 +70,6 @@ module _ (limit : ℕ) (text : List ℕ) (at n number : ℕ) (t : Turn limit tex
       let f = turnFrame text at n number in
       let size : n + aroundText ≡ length f = sym frame-long in
       rw (size, left-turn) (splice-join out done f (left limit text (at + n) (nextNumber number)) (omega (arith, left-long, frame-long)))
-
-  -- its bytes are allowed where the text's are
-  pub turn-clean : all allowed text ≡ true → all allowed (take n (tailAt text at)) ≡ true
-  turn-clean e = rw rest-part (all-take allowed (drop at text) n (all-drop allowed text at e))
 
 next-few : (number : ℕ) → nextNumber number ≤ mostNumber
 unfolding nextNumber

@@ -4,11 +4,10 @@ ghost use mathlib.Core.Bool.{true};
 ghost use Prim.Native.Nat.{_+_, _-_, _<_, _≤_};
 ghost use lib.ListN.{length, getD, take};
 ghost use Rattle.memory.specs.Parts.{splice};
-ghost use Rattle.memory.specs.Tests.{all};
-ghost use Rattle.frame.specs.Allowed.{allowed};
 ghost use Rattle.frame.specs.Number.{mostNumber};
 ghost use Rattle.frame.specs.Shape.{aroundText};
 ghost use Rattle.frame.specs.Writing.{frameOf};
+ghost use Rattle.record.specs.Records.{endsWithCr};
 ghost use Rattle.cutting.specs.Pieces.{endAfter};
 ghost use Rattle.cutting.specs.Frames.{cutOf};
 use frame::End;
@@ -27,17 +26,17 @@ fn end_after(b: u8) -> End
 }
 
 // The frame of the first n bytes, at `done`.
-fn write_piece(limit: usize, number: u8, text: &[u8], n: usize, out: &mut [u8], done: usize)
-    requires { ⌜ (1 ≤ n) × (n ≤ length (now text)) × (n + aroundText ≤ limit) × (number ≤ mostNumber) × (all allowed (take n (now text)) ≡ true) × (done + (n + aroundText) ≤ length (now out)) ⌝ }
+fn write_piece(number: u8, text: &[u8], n: usize, out: &mut [u8], done: usize)
+    requires { ⌜ (1 ≤ n) × (n ≤ length (now text)) × (number ≤ mostNumber) × (done + (n + aroundText) ≤ length (now out)) ⌝ }
     ensures { λ _. ⌜ now (out .exit) ≡ splice (now (out .entry)) done (frameOf number (endAfter (getD (now (text .entry)) (n - 1) 0)) (take n (now (text .entry)))) ⌝ }
 {
     let end = end_after(text[n - 1]);
-    frame::write_frame(limit, number, end, &text[..n], &mut out[done..]);
+    frame::put_frame(number, end, &text[..n], &mut out[done..]);
 }
 
 // All frames of a text, over the start of out.
 pub fn write_all(limit: usize, text: &[u8], out: &mut [u8])
-    requires { ⌜ (aroundText < limit) × (all allowed (now text) ≡ true) × (length (cutOf limit (now text)) ≤ length (now out)) ⌝ }
+    requires { ⌜ (aroundText < limit) × (length (cutOf limit (now text)) ≤ length (now out)) × (endsWithCr (now text) ≡ true) ⌝ }
     ensures { λ _. ⌜ now (out .exit) ≡ splice (now (out .entry)) 0 (cutOf limit (now (text .entry))) ⌝ }
 {
     let mut at: usize = 0;
@@ -46,7 +45,7 @@ pub fn write_all(limit: usize, text: &[u8], out: &mut [u8])
     while at < text.len() {
         let tail = &text[at..];
         let n = crate::pieces::piece_length(limit, tail);
-        write_piece(limit, number, tail, n, out, done);
+        write_piece(number, tail, n, out, done);
         done = done + (n + frame::AROUND_TEXT);
         at = at + n;
         number = frame::next_number(number);

@@ -1,4 +1,5 @@
 pub mod Marks
+pub mod PlainBytes
 pub mod Check
 pub mod Collected
 pub mod Put

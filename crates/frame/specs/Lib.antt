@@ -1,5 +1,6 @@
 pub mod Control
 pub mod Allowed
+pub mod Plain
 pub mod Check
 pub mod Number
 pub mod Shape

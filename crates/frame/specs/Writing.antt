@@ -59,6 +59,18 @@ pub record FrameWritten (limit number : ℕ) (end : End) (text out : List ℕ) (
   pub answer : r ≡ writtenOf limit number text out
   pub after : out′ ≡ frameIn limit number end text out
 
+-- the same of any bytes, of which only the number is tested: the answer, and the memory after it
+unfoldable pub putOf : ℕ → List ℕ → List ℕ → Written
+putOf number text out = unless (leb number mostNumber) NoFrame (unless (hasRoom text out) NoRoom (Length (length text + aroundText)))
+
+unfoldable pub putIn : ℕ → End → List ℕ → List ℕ → List ℕ
+putIn number end text out = cond (leb number mostNumber && hasRoom text out) (splice out 0 (frameOf number end text)) out
+
+-- what writing a frame of any bytes says
+pub record FramePut (number : ℕ) (end : End) (text out : List ℕ) (r : Written) (out′ : List ℕ) : Type 0 where
+  pub answer : r ≡ putOf number text out
+  pub after : out′ ≡ putIn number end text out
+
 -- the paper's number of each refusal
 abbrev pub refusedBy : Written → Option ℕ
 refusedBy NoFrame = some 46

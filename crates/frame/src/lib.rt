@@ -7,10 +7,11 @@ ghost use Rattle.frame.specs.Allowed.{allowed, plus, classTable};
 ghost use Rattle.frame.specs.Check.{checkOf, digitsOf};
 ghost use Rattle.frame.specs.Number.{nextNumber};
 ghost use Rattle.frame.specs.Shape.{shapeOf};
-ghost use Rattle.frame.specs.Writing.{FrameWritten};
+ghost use Rattle.frame.specs.Writing.{FrameWritten, FramePut};
 
 mod hex; // hex.rt: the digit of a number below 16
 mod judging; // judging.rt: the parts of a frame's shape
+mod plain; // plain.rt: texts of plain bytes
 mod writing; // writing.rt: the parts of a frame in lent memory
 
 pub const STX: u8 = 0x02;
@@ -100,10 +101,13 @@ pub fn is_marked(classes: &[u8; 256], b: u8) -> bool
     classes[b as usize] == b'+'
 }
 
-// Whether E1394 allows every byte of the text.
+// Whether E1394 allows every byte of the text. Plain bytes are, and looked for first, as the table is slower.
 pub fn all_allowed(text: &[u8]) -> bool
     ensures { λ r. ⌜ r ≡ all allowed (now (text .entry)) ⌝ }
 {
+    if plain::is_plain(text) {
+        return true;
+    }
     let table = classes();
     let mut i = 0;
     while i < text.len() {
@@ -169,9 +173,6 @@ pub fn shape_of(limit: usize, collected: &[u8], last: u8) -> Shape
 pub fn write_frame(limit: usize, number: u8, end: End, text: &[u8], out: &mut [u8]) -> Written
     ensures { λ r. ⌜ FrameWritten limit number end (now (text .entry)) (now (out .entry)) r (now (out .exit)) ⌝ }
 {
-    if MOST_NUMBER < number {
-        return Written::NoFrame;
-    }
     let n = text.len() + AROUND_TEXT;
     if limit < n {
         return Written::NoFrame;
@@ -179,9 +180,20 @@ pub fn write_frame(limit: usize, number: u8, end: End, text: &[u8], out: &mut [u
     if !all_allowed(text) {
         return Written::NoFrame;
     }
-    if out.len() < n {
+    put_frame(number, end, text, out)
+}
+
+// Writes a frame of any bytes over the start of out: for a text that is known to be allowed and to fit its frame.
+pub fn put_frame(number: u8, end: End, text: &[u8], out: &mut [u8]) -> Written
+    ensures { λ r. ⌜ FramePut number end (now (text .entry)) (now (out .entry)) r (now (out .exit)) ⌝ }
+{
+    if MOST_NUMBER < number {
+        return Written::NoFrame;
+    }
+    let size = text.len() + AROUND_TEXT;
+    if out.len() < size {
         return Written::NoRoom;
     }
-    writing::put_frame(number, end, text, out);
-    Written::Length(n)
+    writing::lay_frame(number, end, text, out);
+    Written::Length(size)
 }

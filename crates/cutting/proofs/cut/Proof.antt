@@ -9,7 +9,7 @@ use denote.Ref.{now}
 use lib.ListN.{length}
 use Rattle.record.specs.Delimiters.{standard}
 use Rattle.record.specs.Faults.{isMessage}
-use Rattle.record.proofs.Messages.{message-short, message-allowed}
+use Rattle.record.proofs.Messages.{message-short, message-ends}
 use Rattle.cutting.specs.Frames.{cutOf}
 use Rattle.cutting.proofs.Written.{no-message, no-room, cut-written, limit-small, by-message}
 use Rattle.cutting.proofs.Laws.{cut-long}
@@ -34,7 +34,7 @@ a-message c = sym (c .before .is-message .ensures) ∙ not-false _ (c .if2 .left
 measure-requires : tie.Need-measure-requires
 measure-requires c κs =
     let text = now (c .before .before .before .before .before .args .text) in
-    (omega arith, message-short standard text (a-message c))
+    (omega arith, message-short standard text (a-message c), message-ends standard text (a-message c))
 
 -- what was measured is the length of the frames
 measured : (c : tie.After-measure) → c .measure .result ≡ length (cutOf (c .before .before .before .before .before .before .args .limit) (now (c .before .before .before .before .before .before .args .text)))
@@ -52,7 +52,7 @@ write-all-requires : tie.Need-write-all-requires
 write-all-requires c κs =
     let text = now (c .before .before .before .before .before .before .before .before .args .text) in
     let long = measured (c .before .before) in
-    (omega arith, message-allowed standard text (a-message (c .before .before .before)), omega arith)
+    (omega arith, omega arith, message-ends standard text (a-message (c .before .before .before)))
 
 returns-4 : tie.Need-returns-4
 returns-4 c =

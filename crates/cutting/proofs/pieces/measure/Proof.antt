@@ -8,7 +8,7 @@ use denote.Ref.{now}
 use lib.ListN.{length, drop, drop-of-length-le}
 use Rattle.frame.specs.Shape.{aroundText}
 use Rattle.cutting.specs.Pieces.{piecesOf}
-use Rattle.cutting.proofs.Steps.{Turn, turn}
+use Rattle.cutting.proofs.Steps.{Turn, turn, ended-tail}
 use Rattle.cutting.proofs.pieces.measure.Statement.{statement}
 use Rattle.cutting.proofs.pieces.measure.Tie as tie
 
@@ -29,6 +29,11 @@ turned : (c : tie.After-piece-length Inv-loop μ-loop) → Turn (c .before .befo
 turned c =
     let a = c .before .before .before .before .before .args in
     turn (a .limit) (now (a .text)) (c .before .before .before .loop .at) (c .piece-length .result) (omega arith) (omega arith) (c .piece-length .ensures)
+
+piece-length-requires : tie.Need-piece-length-requires Inv-loop μ-loop
+piece-length-requires c κs =
+    let s = c .before .before .before .before in
+    (omega arith, ended-tail (now (s .args .text)) (c .before .before .loop .at) (s .pre .2) (omega arith))
 
 add-total : tie.Need-add-total Inv-loop μ-loop
 add-total c = let t = turned c in omega (arith, t .within, c .before .before .before .before .before .pre)
@@ -68,7 +73,7 @@ measure-spec =
     (λ c. search needs)
     (λ c. search needs)
     (λ c. search needs)
-    (λ c κs. search needs)
+    piece-length-requires
     add-total
     add-total-2
     add-at

@@ -1,31 +1,63 @@
--- `cutting::pieces::piece_length` meets its contract: no more of the text is scanned than a piece can have.
+-- `cutting::pieces::piece_length` meets its contract. The loop's invariant: the bytes from n on decide, and there is one at n.
 -- Assumes nothing.
-use mathlib.Core.Path.{sym, ap, _∙_}
+use mathlib.Core.Path.{_≡_}
+use Prim.Native.Nat.{_+_, _-_, _≤_, _<_}
+use native.Mathlib.Nat.{zero-add}
 use native.Mathlib.Omega.{arith}
 use borrow.Author.Needs.{needs}
 use denote.Ref.{now}
-use lib.Seq.{length-take-le, take-all}
+use lib.ListN.{length, take, drop}
 use Rattle.cutting.specs.Pieces.{pieceSize, throughCr}
+use Rattle.cutting.proofs.Steps.{ended-some, ended-next, through-stop, through-next, through-all}
 use Rattle.cutting.proofs.pieces.piece_length.Statement.{statement}
 use Rattle.cutting.proofs.pieces.piece_length.Tie as tie
 
-slice-aggregate-through-cr : tie.Need-slice-aggregate-through-cr
-slice-aggregate-through-cr c =
-    let a = c .before .before .before .args in
-    sym (length-take-le _ (now (a .text)) (omega arith))
+abbrev Inv-loop : tie.InvT-loop
+Inv-loop limit text size n₀ n =
+    (n < length text) × (n ≤ pieceSize limit) × (n + throughCr (take (pieceSize limit - n) (drop n text)) ≡ throughCr (take (pieceSize limit) text))
 
-returns-2 : tie.Need-returns-2
+abbrev μ-loop : tie.MeasureT-loop
+μ-loop limit text size n₀ n = pieceSize limit - n
+
+loop-holds : tie.Need-loop-holds Inv-loop μ-loop
+loop-holds c =
+    let whole : pieceSize (c .args .limit) - 0 ≡ pieceSize (c .args .limit) = omega arith in
+    (ended-some (now (c .args .text)) (c .pre .1), omega arith, rw (whole, zero-add))
+
+returns : tie.Need-returns Inv-loop μ-loop
+returns c =
+    let a = c .before .before .before .before .args in
+    let l = c .before .before .before .loop in
+    through-stop (now (a .text)) (pieceSize (a .limit)) (l .n) (omega arith) (l .inv .0) (c .if1 .taken) (l .inv .2)
+
+loop-again : tie.Need-loop-again Inv-loop μ-loop
+loop-again c =
+    let s = c .before .before .before .before in
+    let l = c .before .before .before .loop in
+    let text = now (s .args .text) in (
+      ended-next text (l .n) (s .pre .1) (l .inv .0) (c .if1 .left),
+      omega arith,
+      through-next text (pieceSize (s .args .limit)) (l .n) (omega arith) (l .inv .0) (c .if1 .left) (l .inv .2),
+    )
+
+returns-2 : tie.Need-returns-2 Inv-loop μ-loop
 returns-2 c =
-    let a = c .before .before .before .args in
-    c .through-cr2 .ensures ∙ ap throughCr (sym (take-all (pieceSize (a .limit)) (now (a .text)) (omega arith)))
+    let a = c .before .before .args in
+    let l = c .before .loop in
+    through-all (now (a .text)) (pieceSize (a .limit)) (l .n) (omega arith) (l .inv .2)
 
 pub piece-length-spec : {M : Type 1} → statement M
 piece-length-spec =
     tie.close
     (tie.spec
+    Inv-loop
+    μ-loop
     (λ c. search needs)
-    slice-aggregate-through-cr
-    (λ c κs. search needs)
-    (λ c. search needs)
-    (λ c κs. search needs)
+    loop-holds
+    (λ c. omega arith)
+    (λ c. omega arith)
+    returns
+    (λ c. omega arith)
+    (λ c. omega arith)
+    loop-again
     returns-2)

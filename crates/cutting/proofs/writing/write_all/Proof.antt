@@ -11,8 +11,8 @@ use Rattle.memory.proofs.Parts.{splice-nil}
 use Rattle.frame.specs.Number.{mostNumber}
 use Rattle.record.proofs.Scans.{tailAt, rest-part}
 use Rattle.cutting.specs.Frames.{cutOf}
-use Rattle.cutting.proofs.Steps.{Turn, turn}
-use Rattle.cutting.proofs.Written.{left, left-long, written-on, turn-clean, left-none}
+use Rattle.cutting.proofs.Steps.{Turn, turn, ended-tail}
+use Rattle.cutting.proofs.Written.{left, left-long, written-on, left-none}
 use Rattle.cutting.proofs.writing.write_all.Statement.{statement}
 use Rattle.cutting.proofs.writing.write_all.Tie as tie
 
@@ -35,6 +35,11 @@ turned c =
     let a = c .before .before .before .before .before .before .args in
     turn (a .limit) (now (a .text)) (c .before .before .before .loop .at) (c .piece-length .result) (omega arith) (omega arith) (c .piece-length .ensures)
 
+piece-length-requires : tie.Need-piece-length-requires Inv-loop μ-loop
+piece-length-requires c κs =
+    let s = c .before .before .before .before .before in
+    (omega arith, ended-tail (now (s .args .text)) (c .before .before .loop .at) (s .pre .2) (omega arith))
+
 write-piece-requires : tie.Need-write-piece-requires Inv-loop μ-loop
 write-piece-requires c κs =
     let s = c .before .before .before .before .before .before .before in
@@ -44,7 +49,7 @@ write-piece-requires c κs =
     let n = c .before .piece-length .result in
     let long : length (tailAt text (l .at)) ≡ length text - l .at = rw (rest-part, length-drop) in
     let ahead = left-long (s .args .limit) text (l .at) n (l .number) t in
-    (t .some, omega (arith, t .within, long), t .short, l .inv .1, turn-clean (s .args .limit) text (l .at) n (l .number) t (s .pre .1), omega (arith, ahead, l .inv .2, l .inv .4, s .pre .2))
+    (t .some, omega (arith, t .within, long), l .inv .1, omega (arith, ahead, l .inv .2, l .inv .4, s .pre .1))
 
 add-done : tie.Need-add-done Inv-loop μ-loop
 add-done c = let t = turned (c .before .before .before .before) in omega (arith, t .short)
@@ -55,7 +60,7 @@ add-done-2 c =
     let l = c .before .before .before .before .before .before .before .loop in
     let p = c .before .before .before .before in
     let ahead = left-long (s .args .limit) (now (s .args .text)) (l .at) (p .piece-length .result) (l .number) (turned p) in
-    omega (arith, ahead, l .inv .4, s .pre .2)
+    omega (arith, ahead, l .inv .4, s .pre .1)
 
 add-at : tie.Need-add-at Inv-loop μ-loop
 add-at c = let t = turned (c .before .before .before .before) in omega (arith, t .within)
@@ -70,7 +75,7 @@ loop-again c =
     let l = c .before .before .before .before .before .before .before .before .loop in
     let p = c .before .before .before .before .before in
     written-on (a .limit) (now (a .text)) (l .at) (p .piece-length .result) (l .number) (turned p) (l .out) (now (a .out)) (l .done)
-    (l .inv .2) (s .pre .2) (l .inv .4) (l .inv .3) (c .before .before .before .write-piece .ensures) (c .next-number .ensures)
+    (l .inv .2) (s .pre .1) (l .inv .4) (l .inv .3) (c .before .before .before .write-piece .ensures) (c .next-number .ensures)
 
 same-length : tie.Need-same-length Inv-loop μ-loop
 same-length c = c .before .loop .inv .2
@@ -93,7 +98,7 @@ write-all-spec =
     (λ c. search needs)
     (λ c. search needs)
     (λ c. search needs)
-    (λ c κs. search needs)
+    piece-length-requires
     write-piece-requires
     add-done
     add-done-2

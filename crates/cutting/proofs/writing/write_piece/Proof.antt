@@ -13,8 +13,8 @@ use Rattle.cutting.proofs.Written.{frame-back}
 use Rattle.cutting.proofs.writing.write_piece.Statement.{statement}
 use Rattle.cutting.proofs.writing.write_piece.Tie as tie
 
-slice-aggregate-write-frame : tie.Need-slice-aggregate-write-frame
-slice-aggregate-write-frame c =
+slice-aggregate-put-frame : tie.Need-slice-aggregate-put-frame
+slice-aggregate-put-frame c =
     let a = c .before .before .before .before .before .args in
     sym (length-take-le (a .n) (now (a .text)) (c .before .before .before .before .before .pre .1))
 
@@ -25,8 +25,8 @@ returns c =
     let text = take (a .n) (now (a .text)) in
     let long : length text ≡ a .n = length-take-le (a .n) (now (a .text)) (s .pre .1) in
     let ended = c .before .before .before .before .before .end-after in
-    frame-back (a .limit) (a .number) (ended .result) text (now (a .out)) _ _ (a .done) _ (s .pre .3) (omega (arith, s .pre .2)) (s .pre .4) (omega (arith, s .pre .5)) refl
-    (c .before .before .write-frame .ensures)
+    frame-back (a .number) (ended .result) text (now (a .out)) _ _ (a .done) _ (s .pre .2) (omega (arith, s .pre .3)) refl
+    (c .before .before .put-frame .ensures)
     ∙ ap (λ (end : End). splice (now (a .out)) (a .done) (frameOf (a .number) end text)) (ended .ensures)
 
 pub write-piece-spec : {M : Type 1} → statement M
@@ -36,7 +36,7 @@ write-piece-spec =
     (λ c. search needs)
     (λ c. search needs)
     (λ c κs. search needs)
-    slice-aggregate-write-frame
+    slice-aggregate-put-frame
     (λ c. search needs)
     (λ c. search needs)
     (λ c. search needs)
