@@ -21,11 +21,10 @@ use Rattle.line.specs.declared.Last.the-variants.{NoneYet}
 use Rattle.line.specs.declared.Answer.{Answer}
 use Rattle.line.specs.declared.Answer.the-variants.{Taken, NoLine, WrongSize, Broken, NothingWaiting, BufferShort}
 use Rattle.gateway.specs.Views.{framesOf, textsOf, joinedText}
-use Rattle.gateway.specs.Verdicts.{workOf, verdictOf, answerOf}
+use Rattle.gateway.specs.Verdicts.{verdictOf, answerOf}
 use Rattle.gateway.specs.Settled.{lineAfter, framesAfter, textsAfter, ledgerAfter, journalAfter}
 use Rattle.gateway.specs.declared.Event.{Event}
 use Rattle.gateway.specs.declared.Gateway.{Gateway}
-use Rattle.gateway.specs.declared.Kind.{Kind}
 use Rattle.gateway.specs.declared.Handled.{Handled}
 use Rattle.gateway.specs.declared.Stepped.{Stepped}
 use Rattle.gateway.specs.declared.Verdict.{Verdict}
@@ -67,18 +66,9 @@ pub record Leaves (s : AfterStep) (r : Stepped) (j u f : List ℕ) : Type 0 wher
 abbrev pub memoryOf : List ℕ → List ℕ → List ℕ → Memory
 memoryOf j u f = record { journal = j; unfinished = u; frames = f }
 
--- what a step says, and the work of one past 40 to 42
+-- what a step says
 abbrev pub Stepping : Line → Ledger → Event → List ℕ → List ℕ → List ℕ → Stepped → List ℕ → List ℕ → List ℕ → Type 0
 Stepping l d e j u f r j′ u′ f′ = Leaves (stepOf todaysShares l d e (memoryOf j u f)) r j′ u′ f′
-
-abbrev pub Working : Line → Ledger → Event → List ℕ → List ℕ → List ℕ → Stepped → List ℕ → List ℕ → List ℕ → Type 0
-Working l d e j u f r j′ u′ f′ = Leaves (settle (workOf todaysShares l d e j u f) l d e (memoryOf j u f)) r j′ u′ f′
-
--- the end of a step: what the verdict leaves of line and lent bytes, its answer, and the ledger as it is handed on
-pub record Finished (v : Verdict) (k : Kind) (l : Line) (d : Ledger) (i : ℕ) (u f : List ℕ) (r : Stepped) (u′ f′ : List ℕ) : Type 0 where
-  pub result : r ≡ record { line = lineAfter v l; ledger = d; answer = answerOf v }
-  pub unfinished : u′ ≡ textsAfter v l i u f
-  pub frames : f′ ≡ framesAfter v k l i f
 
 -- every line fresh, the journal empty
 abbrev pub freshGateway : Gateway

@@ -4,3 +4,4 @@ pub mod Verdicts
 pub mod Settled
 pub mod Decided
 pub mod Events
+pub mod Alone

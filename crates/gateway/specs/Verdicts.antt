@@ -52,8 +52,12 @@ abbrev pub workOf : List ℕ → Line → Ledger → Event → List ℕ → List
 workOf shares l d e journal unfinished frames =
     ownWork shares l d (e .line) (e .kind) journal (textsOf (e .line) unfinished) (framesOf (e .line) frames)
 
+-- the sizes of the three memories
+abbrev pub rightLengths : ℕ → ℕ → ℕ → Bool
+rightLengths journal unfinished frames = eqb journal journalSize && (eqb unfinished unfinishedSize && eqb frames framesSize)
+
 abbrev pub rightSizes : List ℕ → List ℕ → List ℕ → Bool
-rightSizes journal unfinished frames = eqb (length journal) journalSize && (eqb (length unfinished) unfinishedSize && eqb (length frames) framesSize)
+rightSizes journal unfinished frames = rightLengths (length journal) (length unfinished) (length frames)
 
 unfoldable pub verdictOf : List ℕ → Line → Ledger → Event → List ℕ → List ℕ → List ℕ → Verdict
 verdictOf shares l d e journal unfinished frames =

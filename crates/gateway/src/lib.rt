@@ -1,7 +1,8 @@
 // Events and takings on eight lines: look, then act.
 ghost use mathlib.Core.Path.{_≡_};
 ghost use Rattle.gateway.specs.Events.{freshGateway, Stepping, Handling, Taking, tookAnswer};
-ghost use Rattle.gateway.specs.Verdicts.{answerOf};
+ghost use Rattle.gateway.specs.Alone.{SteppingAlone, Deciding};
+ghost use Rattle.gateway.specs.Verdicts.{rightLengths, answerOf};
 use journal::Ledger;
 use journal::Took;
 use line::Answer;
@@ -57,6 +58,12 @@ pub struct Stepped {
     pub answer: Answer,
 }
 
+// What an event comes to on its line alone: the record after it and its answer; or, with nothing changed, the length of the frame's text that completes a message.
+pub enum Alone {
+    After(Line, Answer),
+    Asks(usize),
+}
+
 // The gateway after an event or a taking, with its answer.
 pub struct Handled {
     pub gateway: Gateway,
@@ -105,22 +112,72 @@ pub fn step(
 ) -> Stepped
     ensures { λ r. ⌜ Stepping line ledger e (now (journal .entry)) (now (unfinished .entry)) (now (frames .entry)) r (now (journal .exit)) (now (unfinished .exit)) (now (frames .exit)) ⌝ }
 {
+    match step_alone(line, e, journal.len(), unfinished, frames) {
+        Alone::After(after, answer) => left(after, ledger, answer),
+        Alone::Asks(n) => decide(line, ledger, e, n, journal, unfinished, frames),
+    }
+}
+
+// The same on the line alone: of the journal only its length is asked. An event that completes a message is left to `decide`.
+pub fn step_alone(
+    line: Line,
+    e: Event,
+    journal: usize,
+    unfinished: &mut [u8],
+    frames: &mut [u8],
+) -> Alone
+    ensures { λ r. ⌜ SteppingAlone line e journal (now (unfinished .entry)) (now (frames .entry)) r (now (unfinished .exit)) (now (frames .exit)) ⌝ }
+{
+    if memory::LINES <= e.line as usize {
+        return Alone::After(line, Answer::NoLine);
+    }
+    if !are_right(journal, unfinished.len(), frames.len()) {
+        return Alone::After(line, Answer::WrongSize);
+    }
+    if !line.is_within_limits() {
+        return Alone::After(line, Answer::BeyondLimits);
+    }
+    working::by_look(line, e, unfinished, frames)
+}
+
+// An event that completes a message, with n bytes of its frame's text: the message is decided. More bytes than the line has of it, or has room for, are beyond its limits.
+pub fn decide(
+    line: Line,
+    ledger: Ledger,
+    e: Event,
+    n: usize,
+    journal: &mut [u8],
+    unfinished: &mut [u8],
+    frames: &mut [u8],
+) -> Stepped
+    ensures { λ r. ⌜ Deciding line ledger e n (now (journal .entry)) (now (unfinished .entry)) (now (frames .entry)) r (now (journal .exit)) (now (unfinished .exit)) (now (frames .exit)) ⌝ }
+{
     if memory::LINES <= e.line as usize {
         return left(line, ledger, Answer::NoLine);
     }
-    if journal.len() != memory::JOURNAL_SIZE {
-        return left(line, ledger, Answer::WrongSize);
-    }
-    if unfinished.len() != memory::UNFINISHED_SIZE {
-        return left(line, ledger, Answer::WrongSize);
-    }
-    if frames.len() != memory::FRAMES_SIZE {
+    if !are_right(journal.len(), unfinished.len(), frames.len()) {
         return left(line, ledger, Answer::WrongSize);
     }
     if !line.is_within_limits() {
         return left(line, ledger, Answer::BeyondLimits);
     }
-    working::work(line, ledger, e, journal, unfinished, frames)
+    if !working::fits(line, n) {
+        return left(line, ledger, Answer::BeyondLimits);
+    }
+    working::by_decision(line, ledger, e, n, journal, unfinished, frames)
+}
+
+// Whether the three memories have the sizes of document 01.
+fn are_right(journal: usize, unfinished: usize, frames: usize) -> bool
+    ensures { λ r. ⌜ r ≡ rightLengths journal unfinished frames ⌝ }
+{
+    if journal != memory::JOURNAL_SIZE {
+        return false;
+    }
+    if unfinished != memory::UNFINISHED_SIZE {
+        return false;
+    }
+    frames == memory::FRAMES_SIZE
 }
 
 // The same where the line's record and the ledger lie: the step by value, and its outcome stored.

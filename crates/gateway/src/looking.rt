@@ -75,13 +75,12 @@ fn look_inside(line: Line, i: usize, b: u8, unfinished: &[u8], frames: &[u8]) ->
     requires { ⌜ Ready line i (now unfinished) (now frames) ⌝ }
     ensures { λ r. ⌜ r ≡ insideLook line b (textsOf i (now (unfinished .entry))) (framesOf i (now (frames .entry))) ⌝ }
 {
-    if b == LF {
-        return look_frame(line, i, b, unfinished, frames);
+    if b != LF {
+        if line.collected != Line::MOST_COLLECTED {
+            return Look::Done(Verdict::Collects);
+        }
     }
-    if line.collected == Line::MOST_COLLECTED {
-        return look_frame(line, i, b, unfinished, frames);
-    }
-    Look::Done(Verdict::Collects)
+    look_frame(line, i, b, unfinished, frames)
 }
 
 fn look_seconds(line: Line, s: u8) -> Look

@@ -1,60 +1,78 @@
-// The work of an event past 40 to 42: the look, the decision where it comes to one, and what is left.
-ghost use Rattle.gateway.specs.Views.{Ready};
-ghost use Rattle.gateway.specs.Settled.{Fitting};
-ghost use Rattle.gateway.specs.Events.{Working, Finished};
+// The work of an event past 40 to 42: the look and what is left after it, or the decision that it comes to and what is left after that.
+ghost use mathlib.Core.Path.{_≡_};
+ghost use mathlib.Core.Bool.{true};
+ghost use Rattle.line.specs.Line.{withinLimits};
+ghost use Rattle.gateway.specs.Views.{Ready, textsOf, framesOf};
+ghost use Rattle.gateway.specs.Looks.{lookOf};
+ghost use Rattle.gateway.specs.Settled.{TextFits};
+ghost use Rattle.gateway.specs.Alone.{LeavesAlone, textFits, Completing};
+use super::Alone;
 use super::Event;
-use super::Kind;
 use super::Look;
 use super::Stepped;
-use super::Verdict;
 use super::deciding;
 use super::looking;
 use super::settling;
 use journal::Ledger;
 use line::Line;
 
-pub fn work(
-    line: Line,
-    ledger: Ledger,
-    e: Event,
-    journal: &mut [u8],
-    unfinished: &mut [u8],
-    frames: &mut [u8],
-) -> Stepped
+// The look and what is left after it, where no message is complete.
+pub fn by_look(line: Line, e: Event, unfinished: &mut [u8], frames: &mut [u8]) -> Alone
     requires { ⌜ Ready line (e .line) (now unfinished) (now frames) ⌝ }
-    ensures { λ r. ⌜ Working line ledger e (now (journal .entry)) (now (unfinished .entry)) (now (frames .entry)) r (now (journal .exit)) (now (unfinished .exit)) (now (frames .exit)) ⌝ }
+    ensures { λ r. ⌜ LeavesAlone (lookOf line (e .kind) (textsOf (e .line) (now (unfinished .entry))) (framesOf (e .line) (now (frames .entry)))) line e (now (unfinished .entry)) (now (frames .entry)) r (now (unfinished .exit)) (now (frames .exit)) ⌝ }
 {
     let i = e.line as usize;
     let kind = e.kind;
     match looking::look(line, i, kind, unfinished, frames) {
-        Look::Done(v) => finish(line, ledger, i, kind, v, unfinished, frames),
-        Look::Decides(n) => {
-            let decided = deciding::complete(line, ledger, i, n, journal, unfinished, frames);
-            let v = decided.verdict;
-            let after = decided.ledger;
-            finish(line, after, i, kind, v, unfinished, frames)
+        Look::Done(v) => {
+            let after = settling::settle(line, i, kind, v, unfinished, frames);
+            let answer = v.answer();
+            Alone::After(after, answer)
         }
+        Look::Decides(n) => Alone::Asks(n),
     }
 }
 
-// The record and the bytes that the verdict leaves, and its answer.
-fn finish(
+// The decision of a complete message, and what is left after it.
+pub fn by_decision(
     line: Line,
     ledger: Ledger,
-    i: usize,
-    kind: Kind,
-    v: Verdict,
+    e: Event,
+    n: usize,
+    journal: &mut [u8],
     unfinished: &mut [u8],
     frames: &mut [u8],
 ) -> Stepped
-    requires { ⌜ Ready line i (now unfinished) (now frames) × Fitting v line ⌝ }
-    ensures { λ r. ⌜ Finished v kind line ledger i (now (unfinished .entry)) (now (frames .entry)) r (now (unfinished .exit)) (now (frames .exit)) ⌝ }
+    requires { ⌜ Ready line (e .line) (now unfinished) (now frames) × TextFits line n ⌝ }
+    ensures { λ r. ⌜ Completing line ledger e n (now (journal .entry)) (now (unfinished .entry)) (now (frames .entry)) r (now (journal .exit)) (now (unfinished .exit)) (now (frames .exit)) ⌝ }
 {
+    let i = e.line as usize;
+    let kind = e.kind;
+    let decided = deciding::complete(line, ledger, i, n, journal, unfinished, frames);
+    let v = decided.verdict;
+    let booked = decided.ledger;
     let after = settling::settle(line, i, kind, v, unfinished, frames);
     let answer = v.answer();
     Stepped {
         line: after,
-        ledger,
+        ledger: booked,
         answer,
     }
+}
+
+// Whether n bytes of a frame's text lie in what the line has collected, and fit behind its joined text.
+pub fn fits(line: Line, n: usize) -> bool
+    requires { ⌜ withinLimits line ≡ true ⌝ }
+    ensures { λ r. ⌜ r ≡ textFits line n ⌝ }
+{
+    if (line.collected as usize) < 5 {
+        return false;
+    }
+    if line.collected as usize - 5 < n {
+        return false;
+    }
+    if memory::MESSAGE_LIMIT - (line.joined as usize) < n {
+        return false;
+    }
+    true
 }

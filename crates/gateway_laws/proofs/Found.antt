@@ -1,15 +1,14 @@
 -- What a verdict was found on: a refusal of 40 to 42, or a line within its limits, memory of the right sizes, and a verdict that fits it.
 -- Assumes nothing.
 use mathlib.Core.Path.{_≡_, refl}
-use mathlib.Core.Bool.{Bool, true, false, _&&_}
+use mathlib.Core.Bool.{Bool, true, false}
 use mathlib.Core.List.{List}
 use Prim.Native.Nat.{ℕ, _<_}
-use borrow.Author.Tests.{ltb-true, eqb-true}
+use borrow.Author.Tests.{ltb-true}
 use lib.ListN.{length}
-use lib.Dec.{ltb, eqb}
-use Rattle.memory.specs.Sizes.{lines, journalSize, unfinishedSize, framesSize}
+use lib.Dec.{ltb}
+use Rattle.memory.specs.Sizes.{lines, journalSize}
 use Rattle.memory.specs.Tests.{unless}
-use Rattle.memory.proofs.Tests.{and-left, and-right}
 use Rattle.journal.specs.declared.Ledger.{Ledger}
 use Rattle.line.specs.Line.{withinLimits}
 use Rattle.line.specs.declared.Line.{Line}
@@ -27,15 +26,7 @@ use Rattle.gateway.specs.declared.Verdict.the-variants.{Left}
 use Rattle.gateway_laws.specs.Classes.{classOf, quiet}
 use Rattle.gateway.proofs.Views.{own-parts}
 use Rattle.gateway.proofs.Fits.{LookFits, look-fits, decision-fits}
-
--- the sizes, as facts
-pub sizes-facts : (j u f : List ℕ) → rightSizes j u f ≡ true → (length j ≡ journalSize) × (length u ≡ unfinishedSize) × (length f ≡ framesSize)
-sizes-facts j u f h =
-    let rest = and-right (eqb (length j) journalSize) (eqb (length u) unfinishedSize && eqb (length f) framesSize) h in (
-      eqb-true (length j) journalSize (and-left (eqb (length j) journalSize) (eqb (length u) unfinishedSize && eqb (length f) framesSize) h),
-      eqb-true (length u) unfinishedSize (and-left (eqb (length u) unfinishedSize) (eqb (length f) framesSize) rest),
-      eqb-true (length f) framesSize (and-right (eqb (length u) unfinishedSize) (eqb (length f) framesSize) rest),
-    )
+use Rattle.gateway.proofs.Steps.{lengths-facts}
 
 module _ (shares : List ℕ) (l : Line) (d : Ledger) (e : Event) (j u f : List ℕ) where
   -- past 40 to 42
@@ -63,7 +54,7 @@ module _ (shares : List ℕ) (l : Line) (d : Ledger) (e : Event) (j u f : List �
     where
       by-limits : (b : Bool) → e .line < lines → rightSizes j u f ≡ true → withinLimits l ≡ b → Found (unless b (Left BeyondLimits) (workOf shares l d e j u f))
       by-limits true h s w =
-          let (size, texts, bytes) = sizes-facts j u f s in
+          let (size, texts, bytes) = lengths-facts (length j) (length u) (length f) s in
           let r : Ready l (e .line) u f = record { line = h; within = w; texts = texts; bytes = bytes } in
           worked (record { ready = r; size = size; fits = work-fits r; work = refl })
       by-limits false h s w = refused BeyondLimits refl

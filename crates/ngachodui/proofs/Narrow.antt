@@ -1,7 +1,7 @@
 -- How many bytes are in use stays a number of 32 bits.
 -- Assumes nothing.
-use mathlib.Core.Path.{_≡_, refl, sym, ap, subst}
-use mathlib.Core.Bool.{Bool, true, false}
+use mathlib.Core.Path.{_≡_, refl, ap}
+use mathlib.Core.Bool.{Bool, true, false, _&&_}
 use mathlib.Core.List.{List, [], _∷_}
 use mathlib.Core.Option.{Option, none, some}
 use Prim.Native.Nat.{ℕ, _^_, _<_}
@@ -25,21 +25,16 @@ use Rattle.journal.specs.declared.Verdict.{Verdict as Judgement}
 use Rattle.journal.specs.declared.Verdict.the-variants.{Fits, NoRoom as Full, Broken as Damaged, NoLine as Nowhere, OtherSize, NoText}
 use Rattle.journal.proofs.Judged.{fits-facts}
 use Rattle.journal.proofs.Wholes.{kept}
+use Rattle.line.specs.Line.{withinLimits}
 use Rattle.line.specs.declared.Line.{Line}
-use Rattle.gateway.specs.Views.{framesOf, textsOf, joinedText, Ready}
-use Rattle.gateway.specs.Looks.{lookOf}
-use Rattle.gateway.specs.Verdicts.{roomVerdict, decisionOf, decided, ownWork, workOf, verdictOf}
+use Rattle.gateway.specs.Views.{framesOf, textsOf, joinedText}
+use Rattle.gateway.specs.Verdicts.{roomVerdict, decisionOf, rightSizes}
 use Rattle.gateway.specs.Settled.{ledgerAfter}
-use Rattle.gateway.specs.Events.{Memory, stepOf}
+use Rattle.gateway.specs.Events.{Memory}
+use Rattle.gateway.specs.Alone.{textFits, completed, completionOf, decideOf}
 use Rattle.gateway.specs.declared.Event.{Event}
-use Rattle.gateway.specs.declared.Look.{Look}
-use Rattle.gateway.specs.declared.Look.the-variants.{Done, Decides}
-use Rattle.gateway.specs.declared.Verdict.{Verdict}
 use Rattle.gateway.specs.declared.Verdict.the-variants.{Left, Against}
-use Rattle.line.specs.declared.Answer.the-variants.{NoMessage}
-use Rattle.gateway.proofs.Views.{own-parts}
-use Rattle.gateway.proofs.Fits.{LookFits, look-fits, quiet-keeps}
-use Rattle.gateway_laws.proofs.Found.{Found, refused, worked, verdict-found}
+use Rattle.line.specs.declared.Answer.the-variants.{NoMessage, NoLine, WrongSize, BeyondLimits}
 
 -- d's bytes in use fit into 32 bits
 abbrev pub Narrow : Ledger → Type 0
@@ -79,24 +74,17 @@ module _ (l : Line) (d : Ledger) (e : Event) (m : Memory) (w : Narrow d) where
   abbrev own-text : ℕ → List ℕ
   own-text n = joinedText l n (textsOf (e .line) (m .unfinished)) (framesOf (e .line) (m .frames))
 
-  work-narrow : Ready l (e .line) (m .unfinished) (m .frames) → Narrow (ledgerAfter (workOf todaysShares l d e (m .journal) (m .unfinished) (m .frames)) d (e .line) own-text)
-  unfolding ownWork
-  work-narrow r =
-      by-look (lookOf l (e .kind) (textsOf (e .line) (m .unfinished)) (framesOf (e .line) (m .frames))) (look-fits l _ _ (own-parts l (e .line) (m .unfinished) (m .frames) r) (e .kind))
+  -- a deciding
+  pub decide-narrow : (n : ℕ) → Narrow (decideOf todaysShares l d e n m .stepped .ledger)
+  unfolding decideOf completionOf
+  decide-narrow n = by-tests (ltb (e .line) lines) (rightSizes (m .journal) (m .unfinished) (m .frames)) (withinLimits l && textFits l n)
     where
-      by-look : (k : Look) → LookFits k l
-          → Narrow (ledgerAfter (decided k todaysShares l d (e .line) (m .journal) (textsOf (e .line) (m .unfinished)) (framesOf (e .line) (m .frames))) d (e .line) own-text)
-      by-look (Done v) h = subst Narrow (sym (quiet-keeps v d (e .line) own-text (m .journal) (h .1) .0)) w
-      by-look (Decides n) h = decision-narrow d (e .line) (m .journal) w own-text n
-
-  -- an event
-  pub step-narrow : Narrow (stepOf todaysShares l d e m .stepped .ledger)
-  unfolding stepOf
-  step-narrow = by-found (verdictOf todaysShares l d e (m .journal) (m .unfinished) (m .frames)) (verdict-found todaysShares l d e (m .journal) (m .unfinished) (m .frames))
-    where
-      by-found : (v : Verdict) → Found todaysShares l d e (m .journal) (m .unfinished) (m .frames) v → Narrow (ledgerAfter v d (e .line) own-text)
-      by-found (Left a) (refused b q) = w
-      by-found v (worked k) = subst (λ (x : Verdict). Narrow (ledgerAfter x d (e .line) own-text)) (sym (k .work)) (work-narrow (k .ready))
+      by-tests : (a b c : Bool)
+          → Narrow (ledgerAfter (unless a (Left NoLine) (unless b (Left WrongSize) (unless c (Left BeyondLimits) (completed todaysShares l d e n m)))) d (e .line) own-text)
+      by-tests true true true = decision-narrow d (e .line) (m .journal) w own-text n
+      by-tests true true false = w
+      by-tests true false c = w
+      by-tests false b c = w
 
 -- a taking
 module _ (d : Ledger) (i : ℕ) (j b : List ℕ) (w : Narrow d) where

@@ -121,6 +121,27 @@ in-use-at ns us = refl
 pub used-back : (ns us : List ℕ) (i : ℕ) → i < lines → withUsed us i (ledgerOf ns us) ≡ us
 used-back ns us i h = rw (again us i (getD (ledgerOf ns us .used) i 0) (used-at ns us i h)) (again us lines (ledgerOf ns us .in_use) (in-use-at ns us))
 
+-- with any record of the line
+serial-kept : (ns : List ℕ) (i : ℕ) (l : Line) → getD (withLine ns i l) (start i + 7) 0 ≡ numberAt ns i 7
+unfolding withLine
+serial-kept ns i l =
+    let ns₁ : List ℕ = set ns (start i) (stateNumber (l .state)) in
+    let ns₂ : List ℕ = set ns₁ (start i + 1) (l .collected) in
+    let ns₃ : List ℕ = set ns₂ (start i + 2) (l .joined) in
+    let ns₄ : List ℕ = set ns₃ (start i + 3) (l .seconds) in
+    let ns₅ : List ℕ = set ns₄ (start i + 4) (l .next) in
+    let ns₆ : List ℕ = set ns₅ (start i + 5) (lastNumber (l .last)) in
+    getD-set-other ns₆ (start i + 6) (start i + 7) (flag (l .refusing)) 0 (λ q. absurd (omega arith))
+    ∙ getD-set-other ns₅ (start i + 5) (start i + 7) (lastNumber (l .last)) 0 (λ q. absurd (omega arith))
+    ∙ getD-set-other ns₄ (start i + 4) (start i + 7) (l .next) 0 (λ q. absurd (omega arith))
+    ∙ getD-set-other ns₃ (start i + 3) (start i + 7) (l .seconds) 0 (λ q. absurd (omega arith))
+    ∙ getD-set-other ns₂ (start i + 2) (start i + 7) (l .joined) 0 (λ q. absurd (omega arith))
+    ∙ getD-set-other ns₁ (start i + 1) (start i + 7) (l .collected) 0 (λ q. absurd (omega arith))
+    ∙ getD-set-other ns (start i) (start i + 7) (stateNumber (l .state)) 0 (λ q. absurd (omega arith))
+
+pub serial-back : (ns us : List ℕ) (i : ℕ) (l : Line) → i < lines → withSerial (withLine ns i l) i (ledgerOf ns us) ≡ withLine ns i l
+serial-back ns us i l h = again (withLine ns i l) (start i + 7) (getD (ledgerOf ns us .serials) i 0) (serial-at ns us i h ∙ sym (serial-kept ns i l))
+
 -- the record and the ledger that the numbers tell, put back with another count of collected bytes: the other numbers of the line stay
 module _ (ns us : List ℕ) (i : ℕ) (h : i < lines) (e : withinNumbers ns i ≡ true) (count : ℕ) where
   abbrev counted : List ℕ

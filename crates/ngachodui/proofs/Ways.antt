@@ -20,6 +20,8 @@ use Rattle.gateway.specs.Views.{frameStart}
 use Rattle.gateway.specs.Looks.{byteLook, insideLook}
 use Rattle.gateway.specs.Verdicts.{ownWork, verdictOf}
 use Rattle.gateway.specs.Events.{Memory, AfterStep, Leaves, memoryOf, settle, stepOf}
+use Rattle.gateway.specs.Alone.{SteppingAlone, decideOf}
+use Rattle.gateway.specs.declared.Alone.the-variants.{After, Asks}
 use Rattle.gateway.specs.declared.Stepped.{Stepped}
 use Rattle.journal.specs.declared.Ledger.{Ledger}
 use Rattle.journal.specs.declared.Taking.{Taking}
@@ -30,10 +32,11 @@ use Rattle.gateway.specs.declared.Kind.the-variants.{Byte}
 use Rattle.gateway.specs.declared.Verdict.{Verdict}
 use Rattle.gateway.specs.declared.Verdict.the-variants.{Collects}
 use Rattle.ngachodui.specs.Plain.{inside, firstAt, numberAt, stateOf, withLine, withSerial, withUsed, withinNumbers, onlyCollects, oneMore, rightLengths, quick, lineOf, ledgerOf, told, toldTaking}
-use Rattle.ngachodui.specs.Calls.{AfterCall, refused, putBack, callOf, Called, Calling, Stepping, Taken}
+use Rattle.ngachodui.specs.Calls.{AfterCall, refused, putBack, callOf, Called, Calling, Stepping, Deciding, Taken}
 use Rattle.ngachodui.specs.declared.Answered.{Answered}
-use Rattle.ngachodui.proofs.Numbers.{told-within, used-back, count-back}
-use Rattle.ngachodui.proofs.Narrow.{Narrow, step-narrow, taking-narrow}
+use Rattle.ngachodui.proofs.Numbers.{told-within, used-back, serial-back, count-back}
+use Rattle.gateway.proofs.Steps.{step-after, alone-asks, step-decides}
+use Rattle.ngachodui.proofs.Narrow.{Narrow, decide-narrow, taking-narrow}
 
 as-called : {s t : AfterCall} {r : Answered} {ns us j u f : List ℕ} → s ≡ t → Called t r ns us j u f → Called s r ns us j u f
 as-called {s} {t} {r} {ns} {us} {j} {u} {f} q c = subst (λ (x : AfterCall). Called x r ns us j u f) (sym q) c
@@ -61,24 +64,42 @@ module _ (ns us : List ℕ) (e : Event) (j u f : List ℕ) where
   unfolding callOf rightLengths
   by-step h s w c = as-called (rw (lt-ltb (e .line) lines h, s, w)) c
 
-  -- the step's outcome, put back
-  pub put-back : {l : Line} {d : Ledger} {s : Stepped} {ns₁ ns₂ us′ j′ u′ f′ : List ℕ} {r : Answered} → l ≡ lineOf ns (e .line) → d ≡ ledgerOf ns us
-      → Leaves (stepOf todaysShares l d e (memoryOf j u f)) s j′ u′ f′ → ns₁ ≡ withLine ns (e .line) (s .line) → ns₂ ≡ withSerial ns₁ (e .line) (s .ledger)
-      → us′ ≡ withUsed us (e .line) (s .ledger) → r ≡ told (s .answer) → Stepping ns us e j u f r ns₂ us′ j′ u′ f′
-  put-back {l} {d} {s} {ns₁} {ns₂} {us′} {j′} {u′} {f′} {r} p q x m n o t =
-      let y : Leaves (stepOf todaysShares (lineOf ns (e .line)) (ledgerOf ns us) e (memoryOf j u f)) s j′ u′ f′ = rw (← p, ← q) x in
-      record {
-        result = t ∙ ap (λ (z : Stepped). told (z .answer)) (y .result);
-        numbers = n ∙ ap (λ (z : List ℕ). withSerial z (e .line) (s .ledger)) m ∙ ap (λ (z : Stepped). withSerial (withLine ns (e .line) (z .line)) (e .line) (z .ledger)) (y .result);
-        used = o ∙ ap (λ (z : Stepped). withUsed us (e .line) (z .ledger)) (y .result);
-        journal = y .journal;
-        unfinished = y .unfinished;
-        frames = y .frames;
-      }
+  -- an outcome of the gateway, put back
+  put-back : {x : AfterStep} {s : Stepped} {ns₁ ns₂ us′ j′ u′ f′ : List ℕ} {r : Answered} → Leaves x s j′ u′ f′ → ns₁ ≡ withLine ns (e .line) (s .line) → ns₂ ≡ withSerial ns₁ (e .line) (s .ledger)
+      → us′ ≡ withUsed us (e .line) (s .ledger) → r ≡ told (s .answer) → Called (putBack ns us (e .line) x) r ns₂ us′ j′ u′ f′
+  put-back {x} {s} y m n o t = record {
+    result = t ∙ ap (λ (z : Stepped). told (z .answer)) (y .result);
+    numbers = n ∙ ap (λ (z : List ℕ). withSerial z (e .line) (s .ledger)) m ∙ ap (λ (z : Stepped). withSerial (withLine ns (e .line) (z .line)) (e .line) (z .ledger)) (y .result);
+    used = o ∙ ap (λ (z : Stepped). withUsed us (e .line) (z .ledger)) (y .result);
+    journal = y .journal;
+    unfinished = y .unfinished;
+    frames = y .frames;
+  }
 
--- the ledger after an event still fits
-pub narrow-after : (l : Line) (d : Ledger) (e : Event) (m : Memory) {s : Stepped} → s ≡ stepOf todaysShares l d e m .stepped → Narrow d → Narrow (s .ledger)
-narrow-after l d e m q w = subst (λ (z : Stepped). Narrow (z .ledger)) (sym q) (step-narrow l d e m w)
+  -- a step that is done on the line alone: the ledger stays
+  pub put-after : {l l′ : Line} {a : Answer} {ns′ u′ f′ : List ℕ} {r : Answered} → e .line < lines → l ≡ lineOf ns (e .line) → SteppingAlone l e (length j) u f (After l′ a) u′ f′
+      → ns′ ≡ withLine ns (e .line) l′ → r ≡ told a → Stepping ns us e j u f r ns′ us j u′ f′
+  put-after {l} {l′} {a} {ns′} {u′} {f′} {r} h p s m t =
+      let q : SteppingAlone (lineOf ns (e .line)) e (length j) u f (After l′ a) u′ f′ = rw (← p) s in
+      put-back (step-after (lineOf ns (e .line)) (ledgerOf ns us) e j u f l′ a u′ f′ q) refl (m ∙ sym (serial-back ns us (e .line) l′ h)) (sym (used-back ns us (e .line) h)) t
+
+  -- a message that is decided
+  pub put-decided : (l : Line) (n : ℕ) {d : Ledger} {s : Stepped} {ns₁ ns₂ us′ j′ u′ f′ : List ℕ} {r : Answered} → d ≡ ledgerOf ns us → Leaves (decideOf todaysShares l d e n (memoryOf j u f)) s j′ u′ f′
+      → ns₁ ≡ withLine ns (e .line) (s .line) → ns₂ ≡ withSerial ns₁ (e .line) (s .ledger) → us′ ≡ withUsed us (e .line) (s .ledger) → r ≡ told (s .answer) → Deciding ns us l e n j u f r ns₂ us′ j′ u′ f′
+  put-decided l n {d} {s} {ns₁} {ns₂} {us′} {j′} {u′} {f′} {r} q x m o p t =
+      let y : Leaves (decideOf todaysShares l (ledgerOf ns us) e n (memoryOf j u f)) s j′ u′ f′ = rw (← q) x in
+      put-back y m o p t
+
+  pub by-decide : {l : Line} {n : ℕ} {u₁ f₁ ns′ us′ j′ u′ f′ : List ℕ} {r : Answered} → l ≡ lineOf ns (e .line) → SteppingAlone l e (length j) u f (Asks n) u₁ f₁
+      → Deciding ns us l e n j u₁ f₁ r ns′ us′ j′ u′ f′ → Stepping ns us e j u f r ns′ us′ j′ u′ f′
+  by-decide {l} {n} {u₁} {f₁} {ns′} {us′} {j′} {u′} {f′} {r} p s c =
+      let (h, x, y) = alone-asks l (ledgerOf ns us) e j u f n u₁ f₁ s in
+      let z : Deciding ns us l e n j u f r ns′ us′ j′ u′ f′ = rw (← x, ← y) c in
+      rw (← p) (as-called (ap (λ (t : AfterStep). putBack ns us (e .line) t) (step-decides l (ledgerOf ns us) e j u f n h)) z)
+
+-- the ledger after a deciding still fits
+pub narrow-after : (l : Line) (d : Ledger) (e : Event) (n : ℕ) (m : Memory) {s : Stepped} → s ≡ decideOf todaysShares l d e n m .stepped → Narrow d → Narrow (s .ledger)
+narrow-after l d e n m q w = subst (λ (z : Stepped). Narrow (z .ledger)) (sym q) (decide-narrow l d e m w n)
 
 -- where the sizes are right, that of the frames is
 pub frames-right : (journal unfinished frames : ℕ) → rightLengths journal unfinished frames ≡ true → frames ≡ framesSize

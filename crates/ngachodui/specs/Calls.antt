@@ -9,10 +9,12 @@ use Rattle.memory.specs.Sizes.{lines}
 use Rattle.memory.specs.Tests.{unless}
 use Rattle.journal.specs.Room.{todaysShares}
 use Rattle.journal.specs.Removal.{AfterTaking, takeOf}
+use Rattle.line.specs.declared.Line.{Line}
 use Rattle.line.specs.declared.Answer.{Answer}
 use Rattle.line.specs.declared.Answer.the-variants.{NoLine, WrongSize, BeyondLimits}
 use Rattle.gateway.specs.Verdicts.{rightSizes}
 use Rattle.gateway.specs.Events.{Memory, memoryOf, AfterStep, stepOf}
+use Rattle.gateway.specs.Alone.{decideOf}
 use Rattle.gateway.specs.declared.Event.{Event}
 use Rattle.ngachodui.specs.Plain.{withinNumbers, lineOf, withLine, ledgerOf, withSerial, withUsed, told, toldTaking, freshNumbers}
 use Rattle.ngachodui.specs.declared.Answered.{Answered}
@@ -60,6 +62,10 @@ Calling ns us e j u f r ns′ us′ j′ u′ f′ = Called (callOf ns us e (mem
 -- the step alone, past 40 to 42
 abbrev pub Stepping : List ℕ → List ℕ → Event → List ℕ → List ℕ → List ℕ → Answered → List ℕ → List ℕ → List ℕ → List ℕ → List ℕ → Type 0
 Stepping ns us e j u f r ns′ us′ j′ u′ f′ = Called (putBack ns us (e .line) (stepOf todaysShares (lineOf ns (e .line)) (ledgerOf ns us) e (memoryOf j u f))) r ns′ us′ j′ u′ f′
+
+-- the deciding of a message that n bytes of its frame complete
+abbrev pub Deciding : List ℕ → List ℕ → Line → Event → ℕ → List ℕ → List ℕ → List ℕ → Answered → List ℕ → List ℕ → List ℕ → List ℕ → List ℕ → Type 0
+Deciding ns us l e n j u f r ns′ us′ j′ u′ f′ = Called (putBack ns us (e .line) (decideOf todaysShares l (ledgerOf ns us) e n (memoryOf j u f))) r ns′ us′ j′ u′ f′
 
 -- a taking: the journal's, of the ledger that the numbers tell; on no line (40) nothing is written
 abbrev pub usedAfter : List ℕ → ℕ → AfterTaking → List ℕ

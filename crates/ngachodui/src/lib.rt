@@ -9,10 +9,12 @@ ghost use lib.ListN.{length};
 ghost use Rattle.gateway.specs.declared.Kind.the-variants.{Byte, Seconds};
 ghost use Rattle.memory.specs.Sizes.{lines};
 ghost use Rattle.ngachodui.specs.Plain.{withinNumbers, rightLengths};
-ghost use Rattle.ngachodui.specs.Calls.{Calling, Stepping, Taken, Fresh};
+ghost use Rattle.ngachodui.specs.Calls.{Calling, Stepping, Deciding, Taken, Fresh};
+use gateway::Alone;
 use gateway::Event;
 use gateway::Kind;
 use line::Answer;
+use line::Line;
 
 mod plain; // plain.rt: records, ledger and answers in plain numbers
 pub mod texts; // texts.rt: texts cut, read, escaped and unescaped
@@ -106,7 +108,7 @@ fn event(
     step(e, numbers, used, journal, unfinished, frames)
 }
 
-// The step by value, and its outcome put back into the numbers.
+// The step on the line alone, its record told from the numbers and put back into them; a message that is complete is decided.
 fn step(
     e: Event,
     numbers: &mut [u16; plain::NUMBERS],
@@ -121,8 +123,33 @@ fn step(
 {
     let i = e.line as usize;
     let record = plain::record_of(numbers, i);
+    match gateway::step_alone(record, e, journal.len(), unfinished, frames) {
+        Alone::After(after, answer) => {
+            plain::put_record(numbers, i, after);
+            plain::told(answer)
+        }
+        Alone::Asks(n) => decide(record, e, n, numbers, used, journal, unfinished, frames),
+    }
+}
+
+// A message that is complete: the ledger told from the numbers, the decision, and its outcome put back into the numbers.
+fn decide(
+    line: Line,
+    e: Event,
+    n: usize,
+    numbers: &mut [u16; plain::NUMBERS],
+    used: &mut [u32; plain::COUNTS],
+    journal: &mut [u8],
+    unfinished: &mut [u8],
+    frames: &mut [u8],
+) -> Answered
+    requires { ⌜ e .line < lines ⌝ }
+    ensures { λ r. ⌜ Deciding (now (numbers .entry)) (now (used .entry)) line e n (now (journal .entry)) (now (unfinished .entry)) (now (frames .entry))
+        r (now (numbers .exit)) (now (used .exit)) (now (journal .exit)) (now (unfinished .exit)) (now (frames .exit)) ⌝ }
+{
+    let i = e.line as usize;
     let ledger = plain::ledger_of(numbers, used);
-    let s = gateway::step(record, ledger, e, journal, unfinished, frames);
+    let s = gateway::decide(line, ledger, e, n, journal, unfinished, frames);
     let after = s.line;
     let booked = s.ledger;
     let answer = s.answer;

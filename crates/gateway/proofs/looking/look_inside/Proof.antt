@@ -2,22 +2,18 @@
 -- Assumes nothing.
 use borrow.Author.Needs.{needs}
 use borrow.Author.Tests.{eq-eqb, ne-eqb}
+use mathlib.Core.Logic.{⊎-elim}
 use Rattle.gateway.specs.Looks.{insideLook}
 use Rattle.gateway.proofs.looking.look_inside.Statement.{statement}
 use Rattle.gateway.proofs.looking.look_inside.Tie as tie
 
 returns : tie.Need-returns
 unfolding insideLook
-returns c = rw (eq-eqb _ _ (c .before .if1 .taken)) (c .look-frame .ensures)
+returns c = rw (ne-eqb _ _ (c .before .before .if1 .taken), ne-eqb _ _ (c .if2 .taken))
 
 returns-2 : tie.Need-returns-2
 unfolding insideLook
-returns-2 c = rw (ne-eqb _ _ (c .before .before .before .if1 .left), eq-eqb _ _ (c .before .if2 .taken)) (c .look-frame2 .ensures)
-
-returns-3 : tie.Need-returns-3
-unfolding insideLook
-returns-3 c = rw (ne-eqb _ _ (c .before .before .if1 .left), ne-eqb _ _ (c .if2 .left))
+returns-2 c = ⊎-elim (λ w. rw (ne-eqb _ _ (w .0 .taken), eq-eqb _ _ (w .2 .left)) (c .look-frame .ensures)) (λ w. rw (eq-eqb _ _ (w .left)) (c .look-frame .ensures)) (c .before .if1 .came)
 
 pub look-inside-spec : {M : Type 1} → statement M
-look-inside-spec =
-    tie.close (tie.spec (λ c κs. search needs) returns (λ c κs. search needs) returns-2 returns-3)
+look-inside-spec = tie.close (tie.spec returns (λ c κs. search needs) returns-2)
