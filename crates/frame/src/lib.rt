@@ -1,9 +1,10 @@
 // E1381 frames: the bytes that a text may have, the check, the numbers, the shape of a frame that has come, and the writing of one.
 ghost use mathlib.Core.Path.{_≡_};
+ghost use mathlib.Core.Bool.{not};
 ghost use mathlib.Core.List.{List, [], _∷_, _++_};
 ghost use lib.ListN.{getD};
 ghost use Rattle.memory.specs.Tests.{is, all};
-ghost use Rattle.frame.specs.Allowed.{allowed, plus, classTable};
+ghost use Rattle.frame.specs.Allowed.{allowed, ordinary, plus, dash, classTable};
 ghost use Rattle.frame.specs.Check.{checkOf, digitsOf};
 ghost use Rattle.frame.specs.Number.{nextNumber};
 ghost use Rattle.frame.specs.Shape.{shapeOf};
@@ -59,9 +60,10 @@ pub enum Written {
     Length(usize),
 }
 
-// A class for each of the 256 byte values, sixteen to a row: '+' where E1394 allows the byte in a text, '-' where it does not.
+// A class for each of the 256 byte values, sixteen to a row: '+' where E1394 allows the byte in a text, '.' for CR, which is allowed too
+// and ends a record, '-' where the byte is not allowed.
 const CLASSES: [u8; 256] = *b"\
-    -------+-+-+++--\
+    -------+-+-++.--\
     ----------------\
     ++++++++++++++++\
     ++++++++++++++++\
@@ -79,14 +81,6 @@ const CLASSES: [u8; 256] = *b"\
     +++++++++++++++-\
 ";
 
-// Whether E1394 allows the byte in a text.
-pub fn is_allowed(b: u8) -> bool
-    ensures { λ r. ⌜ r ≡ allowed b ⌝ }
-{
-    let table = classes();
-    is_marked(&table, b)
-}
-
 // The classes as a value: a loop that looks bytes up takes it once, as a constant is laid out anew wherever it is named.
 pub fn classes() -> [u8; 256]
     ensures { λ r. ⌜ r ≡ classTable ⌝ }
@@ -94,9 +88,16 @@ pub fn classes() -> [u8; 256]
     CLASSES
 }
 
-// Whether b is marked '+' in a table of classes: in the one above, whether it is allowed.
+// Whether b is not marked '-' in a table of classes: in the one above, whether it is allowed.
 pub fn is_marked(classes: &[u8; 256], b: u8) -> bool
-    ensures { λ r. ⌜ (r ≡ is plus (getD (now (classes .entry)) b 0)) × (now (classes .entry) ≡ classTable → r ≡ allowed b) ⌝ }
+    ensures { λ r. ⌜ (r ≡ not (is dash (getD (now (classes .entry)) b 0))) × (now (classes .entry) ≡ classTable → r ≡ allowed b) ⌝ }
+{
+    classes[b as usize] != b'-'
+}
+
+// Whether b is marked '+': in the table above, whether it is allowed and not CR.
+pub fn is_ordinary(classes: &[u8; 256], b: u8) -> bool
+    ensures { λ r. ⌜ (r ≡ is plus (getD (now (classes .entry)) b 0)) × (now (classes .entry) ≡ classTable → r ≡ ordinary b) ⌝ }
 {
     classes[b as usize] == b'+'
 }

@@ -1,6 +1,7 @@
 pub mod Rows
 pub mod Scans
 pub mod Decimal
+pub mod Breaks
 pub mod Front
 pub mod RecordCount
 pub mod LastRecord
@@ -10,4 +11,7 @@ pub mod Chain
 pub mod Head
 pub mod FirstRecord
 pub mod Walked
+pub mod Remaining
+pub mod Starting
+pub mod Telling
 pub mod OneOutcome

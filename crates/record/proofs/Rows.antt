@@ -1,16 +1,11 @@
 -- The rows of a table of eight record types.
 -- Assumes nothing.
 use mathlib.Core.Path.{_≡_, refl}
-use mathlib.Core.List.{[], _∷_}
-use Prim.Native.Nat.{ℕ, _<_}
+use Prim.Native.Nat.{_<_}
 use lib.Dec.{lit<}
-use lib.ListN.{getD}
-use Rattle.record.specs.Kinds.{rowOf}
+use Rattle.record.specs.Kinds.{rowOf, kindAt}
 use Rattle.record.specs.declared.Kind.{Kind}
 use Rattle.record.specs.declared.Kind.the-variants.{Header, Patient, Order, Result, Query, Terminator, Comment, Manufacturer}
-
-abbrev pub kindAt : ℕ → Kind
-kindAt i = getD (Header ∷ Patient ∷ Order ∷ Result ∷ Query ∷ Terminator ∷ Comment ∷ Manufacturer ∷ []) i Header
 
 pub kind-at : (k : Kind) → kindAt (rowOf k) ≡ k
 kind-at Header = refl

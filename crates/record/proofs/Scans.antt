@@ -3,16 +3,45 @@
 use mathlib.Core.Path.{_≡_, refl, ap, sym}
 use mathlib.Core.Bool.{Bool, true, false, cond}
 use mathlib.Core.List.{List, [], _∷_}
-use Prim.Native.Nat.{ℕ, suc, _+_, _-_, _<_, _≤_}
+use Prim.Native.Nat.{ℕ, zero, suc, _+_, _-_, _<_, _≤_}
 use native.Mathlib.Omega.{arith}
+use native.Mathlib.Decide.{decLt}
 use native.Mathlib.Numerals.{add-one}
 use lib.ListN.{length, getD, take, drop, length-drop}
 use lib.Seq.{take-all, length-take-le, getD-take}
 use Rattle.memory.specs.Tests.{is, find}
-use Rattle.memory.proofs.Tests.{find-le}
+use Rattle.memory.proofs.Tests.{find-le, never-both}
 use Rattle.frame.specs.Control.{cr}
 use Rattle.record.specs.Fields.{before, behind}
 use Rattle.record.specs.Records.{onto, records}
+
+-- what a scan finds passes the test, and what stands before that does not
+pub find-hit : (p : ℕ → Bool) (s : List ℕ) → find p s < length s → p (getD s (find p s) 0) ≡ true
+find-hit p [] h = absurd (omega arith)
+find-hit p (x ∷ xs) h = by-first (p x) refl h (find-hit p xs)
+  where
+    by-first : (b : Bool) → p x ≡ b → cond b 0 (suc (find p xs)) < suc (length xs) → (find p xs < length xs → p (getD xs (find p xs) 0) ≡ true)
+        → p (getD (x ∷ xs) (cond b 0 (suc (find p xs))) 0) ≡ true
+    by-first true e k go = e
+    by-first false e k go = go (omega arith)
+
+pub find-before : (p : ℕ → Bool) (s : List ℕ) (k : ℕ) → k < find p s → p (getD s k 0) ≡ false
+find-before p [] k h = absurd (omega arith)
+find-before p (x ∷ xs) k h = by-first (p x) k refl h (find-before p xs)
+  where
+    by-first : (b : Bool) (k : ℕ) → p x ≡ b → k < cond b 0 (suc (find p xs)) → ((k : ℕ) → k < find p xs → p (getD xs k 0) ≡ false)
+        → p (getD (x ∷ xs) k 0) ≡ false
+    by-first true k e h go = absurd (omega arith)
+    by-first false zero e h go = e
+    by-first false (suc k) e h go = go k (omega arith)
+
+-- so where one passes, the scan has ended
+pub find-upto : (p : ℕ → Bool) (s : List ℕ) (k : ℕ) → p (getD s k 0) ≡ true → find p s ≤ k
+find-upto p s k h =
+    elim (decLt k (find p s)) [
+      | yes lt ↦ never-both (p (getD s k 0)) h (find-before p s k lt)
+      | no ge ↦ omega arith
+    ]
 
 -- the part of a text from a place on, as code lends it, is the rest of the text
 abbrev pub tailAt : List ℕ → ℕ → List ℕ

@@ -1,9 +1,9 @@
 -- A check that stands between two records: what is known of those passed, and that what is left decides.
 -- Assumes nothing.
 use mathlib.Core.Path.{_≡_, refl, ap, sym, _∙_}
-use mathlib.Core.Bool.{Bool, true, false, cond, _&&_}
+use mathlib.Core.Bool.{true, false, _&&_}
 use mathlib.Core.List.{List, [], _∷_}
-use Prim.Native.Nat.{ℕ, zero, suc, _+_, _-_, _<_, _≤_}
+use Prim.Native.Nat.{ℕ, _+_, _-_, _<_, _≤_}
 use native.Mathlib.Omega.{arith}
 use native.Mathlib.Decide.{decLt}
 use lib.Dec.{leb}
@@ -27,7 +27,7 @@ use Rattle.record.specs.declared.Progress.{Progress}
 use Rattle.record.specs.declared.Progress.the-variants.{Start, Going, Stopped}
 use Rattle.record.specs.declared.Checked.{Checked}
 use Rattle.record.specs.declared.Checked.the-variants.{NotText, Faulty}
-use Rattle.record.proofs.Scans.{tailAt, rest-part}
+use Rattle.record.proofs.Scans.{tailAt, rest-part, find-hit, find-before}
 use Rattle.record.proofs.Front.{none-left, front, count-front}
 use Rattle.record.proofs.FirstRecord.{all-parts}
 
@@ -79,26 +79,6 @@ walk-start d s = record {
   unclosed = λ h. absurd (omega arith);
 }
 
--- what a scan finds, and what stands where it finds nothing
-find-hit : (p : ℕ → Bool) (s : List ℕ) → find p s < length s → p (getD s (find p s) 0) ≡ true
-find-hit p [] h = absurd (omega arith)
-find-hit p (x ∷ xs) h = by-first (p x) refl h (find-hit p xs)
-  where
-    by-first : (b : Bool) → p x ≡ b → cond b 0 (suc (find p xs)) < suc (length xs) → (find p xs < length xs → p (getD xs (find p xs) 0) ≡ true)
-        → p (getD (x ∷ xs) (cond b 0 (suc (find p xs))) 0) ≡ true
-    by-first true e k go = e
-    by-first false e k go = go (omega arith)
-
-find-miss : (p : ℕ → Bool) (s : List ℕ) (k : ℕ) → length s ≤ find p s → k < length s → p (getD s k 0) ≡ false
-find-miss p [] k h l = absurd (omega arith)
-find-miss p (x ∷ xs) k h l = by-first (p x) k refl h l (find-miss p xs)
-  where
-    by-first : (b : Bool) (k : ℕ) → p x ≡ b → suc (length xs) ≤ cond b 0 (suc (find p xs)) → k < suc (length xs)
-        → ((k : ℕ) → length xs ≤ find p xs → k < length xs → p (getD xs k 0) ≡ false) → p (getD (x ∷ xs) k 0) ≡ false
-    by-first true k e h l go = absurd (omega arith)
-    by-first false zero e h l go = e
-    by-first false (suc k) e h l go = go k (omega arith) (omega arith)
-
 -- one record more: e is where its scan ended
 module _ (d : Delimiters) (s : List ℕ) (p : Progress) (at place e : ℕ) (w : Walked d s p at place) (lt : at < length s) (k : e ≡ find (is cr) (tailAt s at)) where
   left : length (drop at s) ≡ length s - at
@@ -133,7 +113,7 @@ module _ (d : Delimiters) (s : List ℕ) (p : Progress) (at place e : ℕ) (w : 
       let le : length (drop at s) ≤ find (is cr) (drop at s) = omega (arith, left, found) in
       let lt₂ : length s - 1 - at < length (drop at s) = omega (arith, left) in
       let same : at + (length s - 1 - at) ≡ length s - 1 = omega arith in
-      (omega arith, ap (λ (n : ℕ). is cr (getD s n 0)) (sym same) ∙ ap (is cr) (sym (getD-drop at s (length s - 1 - at) 0)) ∙ find-miss (is cr) (drop at s) (length s - 1 - at) le lt₂)
+      (omega arith, ap (λ (n : ℕ). is cr (getD s n 0)) (sym same) ∙ ap (is cr) (sym (getD-drop at s (length s - 1 - at) 0)) ∙ find-before (is cr) (drop at s) (length s - 1 - at) (omega arith))
 
   pub walk-on : all allowed (before cr (tailAt s at)) ≡ true
       → Walked d s (further d p (place + 1) (leb (length (tailAt s at)) (e + 1)) (take e (tailAt s at))) (at + (e + 1)) (place + 1)

@@ -69,6 +69,15 @@ rowOf Terminator = 5
 rowOf Comment = 6
 rowOf Manufacturer = 7
 
+-- and the type of a row
+abbrev pub kindAt : ℕ → Kind
+kindAt i = getD (Header ∷ Patient ∷ Order ∷ Result ∷ Query ∷ Terminator ∷ Comment ∷ Manufacturer ∷ []) i Header
+
+-- the row of what a letter names; 8 where it names no type
+abbrev pub letterRow : Letter → ℕ
+letterRow (Known k) = rowOf k
+letterRow Unknown = 8
+
 abbrev pub isTerminator : Kind → Bool
 isTerminator Header = false
 isTerminator Patient = false

@@ -5,3 +5,4 @@ pub mod Records
 pub mod Numbers
 pub mod Faults
 pub mod Progress
+pub mod Rest

@@ -102,7 +102,7 @@ pub fn check_record(d: Delimiters, s: Counts, last: bool, rec: &[u8]) -> Step
 }
 
 // Whether the record begins with H and the four delimiters.
-fn is_header(d: Delimiters, rec: &[u8]) -> bool
+pub fn is_header(d: Delimiters, rec: &[u8]) -> bool
     ensures { λ r. ⌜ r ≡ isHeader d (now (rec .entry)) ⌝ }
 {
     if rec.len() < 5 {

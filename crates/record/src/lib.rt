@@ -6,12 +6,13 @@ ghost use Rattle.memory.specs.Tests.{is, find};
 ghost use Rattle.record.specs.Delimiters.{standard};
 ghost use Rattle.record.specs.Kinds.{kindOf, mayFollow, rowOf};
 ghost use Rattle.record.specs.Records.{records, lastStart, endsWithL};
-ghost use Rattle.record.specs.Faults.{fault, isFaultless, isMessage};
+ghost use Rattle.record.specs.Faults.{fault, isMessage};
 
 mod counting; // counting.rt: sequence numbers
 mod ends; // ends.rt: how many records of a text are ended
 mod judging; // judging.rt: one record
 mod walk; // walk.rt: one record of a text, and what the records up to it have led to
+mod whole; // whole.rt: whether a text is a message, to its first fault
 
 // The byte that ends a record.
 pub const CR: u8 = 0x0d;
@@ -218,22 +219,29 @@ pub fn check(d: Delimiters, text: &[u8]) -> Checked
     walk::ended(progress)
 }
 
-fn is_faultless(c: Checked) -> bool
-    ensures { λ r. ⌜ r ≡ isFaultless c ⌝ }
-{
-    match c {
-        Checked::Message => true,
-        Checked::NotText => false,
-        Checked::Faulty(_, _) => false,
-    }
-}
-
-// Whether a text is a message by these delimiters.
+// Whether a text is a message by these delimiters: the walk ends at the first fault, whatever it is.
 pub fn is_message_by(d: Delimiters, text: &[u8]) -> bool
     ensures { λ r. ⌜ r ≡ isMessage d (now (text .entry)) ⌝ }
 {
-    let found = check(d, text);
-    is_faultless(found)
+    let n = text.len();
+    if n == 0 {
+        return false;
+    }
+    if memory::MESSAGE_LIMIT < n {
+        return false;
+    }
+    if text[n - 1] != CR {
+        return false;
+    }
+    let classes = frame::classes();
+    let e = whole::end_of(&classes, text);
+    if text[e] != CR {
+        return false;
+    }
+    if !judging::is_header(d, &text[..e]) {
+        return false;
+    }
+    whole::is_right(d, &classes, &text[e + 1..])
 }
 
 // Whether a text is a message, by the delimiters | \ ^ &.

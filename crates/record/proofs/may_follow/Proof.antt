@@ -5,8 +5,8 @@ use native.Mathlib.Omega.{arith}
 use mathlib.Core.Path.{_∙_}
 use mathlib.Core.Bool.{false}
 use Rattle.memory.proofs.Table.{entry-of-row}
-use Rattle.record.specs.Kinds.{mayFollow, rowOf}
-use Rattle.record.proofs.Rows.{kindAt, kind-at, row-lt}
+use Rattle.record.specs.Kinds.{mayFollow, rowOf, kindAt}
+use Rattle.record.proofs.Rows.{kind-at, row-lt}
 use Rattle.record.proofs.may_follow.Statement.{statement}
 use Rattle.record.proofs.may_follow.Tie as tie
 

@@ -1,0 +1,163 @@
+-- `record::whole::is_right` meets its contract: the records passed are counted, and what is left of the text decides.
+-- Assumes nothing.
+use borrow.Author.Needs.{needs}
+use mathlib.Core.Path.{_≡_, refl, sym, ap, _∙_}
+use mathlib.Core.Bool.{true, false}
+use Prim.Native.Nat.{ℕ, _+_, _-_, _<_, _≤_}
+use native.Mathlib.Omega.{arith}
+use lib.ListN.{length, getD, drop, drop-of-length-le, length-drop}
+use lib.Seq.{drop-drop}
+use borrow.Author.Tests.{eq-eqb, ne-eqb}
+use Rattle.memory.specs.Tests.{is, find}
+use Rattle.memory.proofs.Table.{entry-of-row}
+use Rattle.frame.specs.Control.{cr}
+use Rattle.record.specs.Kinds.{mayFollow, kindAt}
+use Rattle.record.specs.Fields.{before, behind}
+use Rattle.record.specs.Records.{endsWithCr}
+use Rattle.record.specs.Numbers.{started}
+use Rattle.record.specs.Faults.{recordStep}
+use Rattle.record.specs.Rest.{breaks, rightRest, countsOf, Telling}
+use Rattle.record.proofs.Scans.{tailAt, rest-part}
+use Rattle.record.proofs.Breaks.{cr-some, break-within, ends-behind, broken-by-cr, broken-by-other}
+use Rattle.record.proofs.Remaining.{left-bad, left-wrong, left-fine}
+use Rattle.record.proofs.Telling.{led-none, led-some, l-row}
+use Rattle.record.proofs.whole.is_right.Statement.{statement}
+use Rattle.record.proofs.whole.is_right.Tie as tie
+
+abbrev Inv-loop : tie.InvT-loop
+Inv-loop d classes rest followers counts₀ other₀ at₀ counts other at =
+    (at ≤ length rest) × Telling other counts × (rightRest d (countsOf other counts) (drop at rest) ≡ rightRest d started rest)
+
+abbrev μ-loop : tie.MeasureT-loop
+μ-loop d classes rest followers counts₀ other₀ at₀ counts other at = length rest - at
+
+-- what is left ends with CR
+ends : (c : tie.In-loop Inv-loop μ-loop) → endsWithCr (tailAt (c .before .before .before .args .rest .now) (c .before .loop .at)) ≡ true
+ends c =
+    let a = c .before .before .before in
+    rw (rest-part (a .args .rest .now) (c .before .loop .at)) (ends-behind (a .args .rest .now) (a .pre .2 (omega arith)) (c .before .loop .at) (omega arith))
+
+-- its first record is broken off within it
+within : (c : tie.After-end-of Inv-loop μ-loop)
+    → let l = c .before .before .before .before .before .before .before in
+    c .end-of .result < length (tailAt (l .before .before .args .rest .now) (l .loop .at))
+within c =
+    let i = c .before .before .before .before .before .before in
+    let l = i .before in
+    rw (c .end-of .ensures) (break-within (tailAt (l .before .before .args .rest .now) (l .loop .at)) (ends i))
+
+short : (c : tie.After-end-of Inv-loop μ-loop)
+    → let l = c .before .before .before .before .before .before .before in
+    l .loop .at + c .end-of .result < length (l .before .before .args .rest .now)
+short c =
+    let l = c .before .before .before .before .before .before .before in
+    let rest = l .before .before .args .rest .now in
+    omega (arith, within c, ap length (rest-part rest (l .loop .at)), length-drop (l .loop .at) rest)
+
+loop-holds : tie.Need-loop-holds Inv-loop μ-loop
+loop-holds c = (omega arith, (omega arith, refl, λ n. refl), refl)
+
+sub-tail : tie.Need-sub-tail Inv-loop μ-loop
+sub-tail c = search needs
+
+part-tail-start : tie.Need-part-tail-start Inv-loop μ-loop
+part-tail-start c = search needs
+
+part-tail-end : tie.Need-part-tail-end Inv-loop μ-loop
+part-tail-end c = search needs
+
+lead-requires : tie.Need-lead-requires Inv-loop μ-loop
+unfolding mayFollow
+lead-requires c κs =
+    let i = c .before .before .before in
+    let l = i .before in
+    (l .before .before .pre .0, λ j k p q. entry-of-row (λ j k. mayFollow (kindAt j) (kindAt k)) false 8 8 j k p q, l .loop .inv .1, ends i)
+
+returns : tie.Need-returns Inv-loop μ-loop
+returns c =
+    let i = c .before .before .before .before .before in
+    let l = i .before in
+    let a = l .before .before .args in
+    let s = countsOf (l .loop .other) (l .loop .counts) in
+    let tail = tailAt (a .rest .now) (l .loop .at) in
+    let (f, wrong) = led-none (recordStep (a .d) s false (before cr tail)) _ _ (c .before .lead .ensures) (c .if1 .taken) in
+    sym (left-wrong (a .d) s tail (cr-some tail (ends i)) f wrong) ∙ ap (rightRest (a .d) s) (rest-part (a .rest .now) (l .loop .at)) ∙ l .loop .inv .2
+
+end-of-requires : tie.Need-end-of-requires Inv-loop μ-loop
+end-of-requires c κs = let i = c .before .before .before .before .before in (i .before .before .before .pre .1, ends i)
+
+shared-slice-read-if2 : tie.Need-shared-slice-read-if2 Inv-loop μ-loop
+shared-slice-read-if2 c = within (c .before)
+
+returns-2 : tie.Need-returns-2 Inv-loop μ-loop
+returns-2 c =
+    let o = c .before .before in
+    let i = o .before .before .before .before .before .before in
+    let l = i .before in
+    let a = l .before .before .args in
+    let s = countsOf (l .loop .other) (l .loop .counts) in
+    let tail = tailAt (a .rest .now) (l .loop .at) in
+    let other : is cr (getD tail (find breaks tail) 0) ≡ false = rw (← o .end-of .ensures) (ne-eqb _ _ (c .if2 .taken)) in
+    sym (left-bad (a .d) s tail (cr-some tail (ends i)) (broken-by-other tail (break-within tail (ends i)) other))
+    ∙ ap (rightRest (a .d) s) (rest-part (a .rest .now) (l .loop .at)) ∙ l .loop .inv .2
+
+add-at : tie.Need-add-at Inv-loop μ-loop
+add-at c = omega (arith, short (c .before .before), c .before .before .before .before .before .before .before .before .before .before .before .good)
+
+add-at-2 : tie.Need-add-at-2 Inv-loop μ-loop
+add-at-2 c = omega (arith, short (c .before .before), c .before .before .before .before .before .before .before .before .before .before .before .good)
+
+loop-less : tie.Need-loop-less Inv-loop μ-loop
+loop-less c = omega (arith, short (c .before .before))
+
+loop-again : tie.Need-loop-again Inv-loop μ-loop
+loop-again c =
+    let o = c .before .before in
+    let i = o .before .before .before .before .before .before in
+    let l = i .before in
+    let a = l .before .before .args in
+    let s = countsOf (l .loop .other) (l .loop .counts) in
+    let at = l .loop .at in
+    let tail = tailAt (a .rest .now) at in
+    let e = o .end-of .result in
+    let other = o .before .before .lead .result in
+    let ns = o .before .before .lead .last .1 .1 .1 .0 in
+    let by-cr : is cr (getD tail (find breaks tail) 0) ≡ true = rw (← o .end-of .ensures) (eq-eqb _ _ (c .if2 .left)) in
+    let (same, clean) = broken-by-cr tail (break-within tail (ends i)) by-cr in
+    let (fine, told) = led-some (recordStep (a .d) s false (before cr tail)) other ns (o .before .before .lead .ensures) (o .before .if1 .left) in
+    let behind-is : behind cr tail ≡ drop (at + (e + 1)) (a .rest .now) =
+    ap (λ (n : ℕ). drop (n + 1) tail) (sym (o .end-of .ensures ∙ same)) ∙ ap (drop (e + 1)) (rest-part (a .rest .now) at) ∙ drop-drop (e + 1) at (a .rest .now) in
+    let on = left-fine (a .d) s tail (cr-some tail (ends i)) (countsOf other ns) fine clean in (
+      omega (arith, short o),
+      told,
+      ap (rightRest (a .d) (countsOf other ns)) (sym behind-is) ∙ on ∙ ap (rightRest (a .d) s) (rest-part (a .rest .now) at) ∙ l .loop .inv .2,
+    )
+
+returns-3 : tie.Need-returns-3 Inv-loop μ-loop
+unfolding rightRest
+returns-3 c =
+    let l = c .before in
+    let rest = l .before .before .args .rest .now in
+    let le : length rest ≤ l .loop .at = omega arith in
+    l-row (l .loop .other) (l .loop .inv .1 .0) ∙ rw (drop-of-length-le rest le) at (l .loop .inv .2)
+
+pub is-right-spec : {M : Type 1} → statement M
+is-right-spec =
+    tie.close
+    (tie.spec
+    Inv-loop
+    μ-loop
+    loop-holds
+    sub-tail
+    part-tail-start
+    part-tail-end
+    lead-requires
+    returns
+    end-of-requires
+    shared-slice-read-if2
+    returns-2
+    add-at
+    add-at-2
+    loop-less
+    loop-again
+    returns-3)
