@@ -7,7 +7,7 @@ use Prim.Native.Nat.{ℕ, _+_, _≤_, _<_}
 use borrow.Author.Tests.{lt-ltb, le-ltb, eqb-true, not-true}
 use lib.Dec.{eqb}
 use lib.ListN.{length, set}
-use Rattle.memory.specs.Sizes.{lines, journalSize, unfinishedSize, framesSize}
+use Rattle.memory.specs.Sizes.{lines}
 use Rattle.memory.specs.Tests.{is}
 use Rattle.memory.proofs.Tests.{and-left, and-right}
 use Rattle.frame.specs.Control.{lf}
@@ -18,7 +18,7 @@ use Rattle.line.specs.declared.Answer.the-variants.{Nothing, NoLine, WrongSize,
 use Rattle.line.specs.declared.Line.{Line}
 use Rattle.gateway.specs.Views.{frameStart}
 use Rattle.gateway.specs.Looks.{byteLook, insideLook}
-use Rattle.gateway.specs.Verdicts.{ownWork, verdictOf}
+use Rattle.gateway.specs.Verdicts.{ownWork, rightLengths, verdictOf}
 use Rattle.gateway.specs.Events.{Memory, AfterStep, Leaves, memoryOf, settle, stepOf}
 use Rattle.gateway.specs.Alone.{SteppingAlone, decideOf}
 use Rattle.gateway.specs.declared.Alone.the-variants.{After, Asks}
@@ -31,7 +31,7 @@ use Rattle.gateway.specs.declared.Event.{Event}
 use Rattle.gateway.specs.declared.Kind.the-variants.{Byte}
 use Rattle.gateway.specs.declared.Verdict.{Verdict}
 use Rattle.gateway.specs.declared.Verdict.the-variants.{Collects}
-use Rattle.ngachodui.specs.Plain.{inside, firstAt, numberAt, stateOf, withLine, withSerial, withUsed, withinNumbers, onlyCollects, oneMore, rightLengths, quick, lineOf, ledgerOf, told, toldTaking}
+use Rattle.ngachodui.specs.Plain.{inside, firstAt, numberAt, stateOf, withLine, withSerial, withUsed, withinNumbers, onlyCollects, oneMore, quick, lineOf, ledgerOf, told, toldTaking}
 use Rattle.ngachodui.specs.Calls.{AfterCall, refused, putBack, callOf, Called, Calling, Stepping, Deciding, Taken}
 use Rattle.ngachodui.specs.declared.Answered.{Answered}
 use Rattle.ngachodui.proofs.Numbers.{told-within, used-back, serial-back, count-back}
@@ -51,17 +51,17 @@ module _ (ns us : List ℕ) (e : Event) (j u f : List ℕ) where
   no-line r h q = as-called (rw (le-ltb (e .line) lines h)) (same NoLine r q)
 
   pub wrong-size : (r : Answered) → e .line < lines → rightLengths (length j) (length u) (length f) ≡ false → r ≡ told WrongSize → Calling ns us e j u f r ns us j u f
-  unfolding callOf rightLengths
+  unfolding callOf
   wrong-size r h s q = as-called (rw (lt-ltb (e .line) lines h, s)) (same WrongSize r q)
 
   pub beyond : (r : Answered) → e .line < lines → rightLengths (length j) (length u) (length f) ≡ true → withinNumbers ns (e .line) ≡ false → r ≡ told BeyondLimits → Calling ns us e j u f r ns us j u f
-  unfolding callOf rightLengths
+  unfolding callOf
   beyond r h s w q = as-called (rw (lt-ltb (e .line) lines h, s, w)) (same BeyondLimits r q)
 
   -- and past them
   pub by-step : {r : Answered} {ns′ us′ j′ u′ f′ : List ℕ} → e .line < lines → rightLengths (length j) (length u) (length f) ≡ true → withinNumbers ns (e .line) ≡ true
       → Stepping ns us e j u f r ns′ us′ j′ u′ f′ → Calling ns us e j u f r ns′ us′ j′ u′ f′
-  unfolding callOf rightLengths
+  unfolding callOf
   by-step h s w c = as-called (rw (lt-ltb (e .line) lines h, s, w)) c
 
   -- an outcome of the gateway, put back
@@ -101,13 +101,6 @@ module _ (ns us : List ℕ) (e : Event) (j u f : List ℕ) where
 pub narrow-after : (l : Line) (d : Ledger) (e : Event) (n : ℕ) (m : Memory) {s : Stepped} → s ≡ decideOf todaysShares l d e n m .stepped → Narrow d → Narrow (s .ledger)
 narrow-after l d e n m q w = subst (λ (z : Stepped). Narrow (z .ledger)) (sym q) (decide-narrow l d e m w n)
 
--- where the sizes are right, that of the frames is
-pub frames-right : (journal unfinished frames : ℕ) → rightLengths journal unfinished frames ≡ true → frames ≡ framesSize
-unfolding rightLengths
-frames-right journal unfinished frames e =
-    let rest = and-right (eqb journal journalSize) (eqb unfinished unfinishedSize && eqb frames framesSize) e in
-    eqb-true frames framesSize (and-right (eqb unfinished unfinishedSize) (eqb frames framesSize) rest)
-
 -- a byte that is only collected
 module _ (ns : List ℕ) (i b : ℕ) (q : quick ns i b ≡ true) where
   pub quick-within : withinNumbers ns i ≡ true
@@ -134,7 +127,7 @@ module _ (ns us : List ℕ) (i b : ℕ) (j u f : List ℕ) (h : i < lines) (s : 
   within = quick-within ns i b q
 
   verdict : verdictOf todaysShares (lineOf ns i) (ledgerOf ns us) here j u f ≡ Collects
-  unfolding verdictOf ownWork byteLook insideLook rightLengths
+  unfolding verdictOf ownWork byteLook insideLook
   verdict = rw (lt-ltb i lines h, s, told-within ns i within, is-inside ns i b q, no-end ns i b q .0, no-end ns i b q .1)
 
   collects : stepOf todaysShares (lineOf ns i) (ledgerOf ns us) here (memoryOf j u f) ≡ settle Collects (lineOf ns i) (ledgerOf ns us) here (memoryOf j u f)

@@ -5,7 +5,7 @@ use mathlib.Core.Bool.{Bool, cond, not, _&&_}
 use mathlib.Core.List.{List, [], _∷_}
 use lib.ListN.{getD, set}
 use lib.Dec.{leb, eqb}
-use Rattle.memory.specs.Sizes.{lines, messageLimit, journalSize, unfinishedSize, framesSize}
+use Rattle.memory.specs.Sizes.{lines, messageLimit}
 use Rattle.memory.specs.Tests.{is}
 use Rattle.frame.specs.Control.{lf}
 use Rattle.frame.specs.Number.{mostNumber}
@@ -80,10 +80,6 @@ quick ns i b = onlyCollects ns i b && withinNumbers ns i
 -- then it has one more collected
 abbrev pub oneMore : List ℕ → ℕ → List ℕ
 oneMore ns i = set ns (start i + 1) (numberAt ns i 1 + 1)
-
--- the lengths of the three memories
-unfoldable pub rightLengths : ℕ → ℕ → ℕ → Bool
-rightLengths journal unfinished frames = eqb journal journalSize && (eqb unfinished unfinishedSize && eqb frames framesSize)
 
 -- the record that they tell
 abbrev pub lineOf : List ℕ → ℕ → Line

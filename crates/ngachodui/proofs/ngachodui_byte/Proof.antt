@@ -6,8 +6,9 @@ use mathlib.Core.Path.{sym, _∙_}
 use denote.Ref.{now}
 use borrow.Author.Tests.{not-true, not-false}
 use Rattle.gateway.specs.declared.Kind.the-variants.{Byte}
+use Rattle.gateway.proofs.Steps.{lengths-facts}
 use Rattle.ngachodui.proofs.Numbers.{numbers-facts}
-use Rattle.ngachodui.proofs.Ways.{no-line, wrong-size, frames-right, quick-within, by-quick}
+use Rattle.ngachodui.proofs.Ways.{no-line, wrong-size, quick-within, by-quick}
 use Rattle.ngachodui.proofs.ngachodui_byte.Statement.{statement}
 use Rattle.ngachodui.proofs.ngachodui_byte.Tie as tie
 
@@ -29,7 +30,7 @@ collect-requires c κs =
     let a = right .before .before .before .before .before .args in (
       omega arith,
       numbers-facts _ _ (quick-within (now (a .numbers)) (a .line) (a .byte) (sym (quick .is-quick .ensures) ∙ c .before .before .if3 .taken)) .collected,
-      frames-right _ _ _ (sym (right .is-right .ensures) ∙ not-false _ (quick .before .before .if2 .left)),
+      lengths-facts _ _ _ (sym (right .is-right .ensures) ∙ not-false _ (quick .before .before .if2 .left)) .2,
     )
 
 returns-3 : tie.Need-returns-3

@@ -1,20 +1,16 @@
 -- `ngachodui::plain::is_right` meets its contract.
 -- Assumes nothing.
 use Rattle.memory.proofs.Told.{told}
-use Rattle.ngachodui.specs.Plain.{rightLengths}
 use Rattle.ngachodui.proofs.plain.is_right.Statement.{statement}
 use Rattle.ngachodui.proofs.plain.is_right.Tie as tie
 
 returns : tie.Need-returns
-unfolding rightLengths
 returns c = search told
 
 returns-2 : tie.Need-returns-2
-unfolding rightLengths
 returns-2 c = search told
 
 returns-3 : tie.Need-returns-3
-unfolding rightLengths
 returns-3 c = search told
 
 pub is-right-spec : {M : Type 1} → statement M
