@@ -8,7 +8,7 @@ use native.Mathlib.Omega.{arith}
 use native.Mathlib.Decide.{decLt}
 use lib.ListN.{length, getD, drop, length-drop}
 use lib.Seq.{getD-drop}
-use borrow.Author.Tests.{eqb-true}
+use borrow.Author.Tests.{eqb-true, eq-eqb}
 use Rattle.memory.specs.Tests.{is, find, all}
 use Rattle.memory.proofs.Tests.{never-both}
 use Rattle.frame.specs.Control.{cr}
@@ -35,6 +35,9 @@ unbroken b e = by-tests (allowed b) (is cr b) e
     by-tests true false h = (refl, refl)
     by-tests true true h = never-both true refl h
     by-tests false c h = never-both true refl h
+
+pub ordinary-plain : (b : ℕ) → ordinary b ≡ true → b ≡ cr → ⊥
+ordinary-plain b o e = never-both (is cr b) (eq-eqb b cr e) (unbroken b (ap not o) .1)
 
 pub broken : (b : ℕ) → breaks b ≡ true → is cr b ≡ false → allowed b ≡ false
 unfolding ordinary

@@ -8,18 +8,18 @@ use native.Mathlib.Omega.{arith}
 use lib.Dec.{leb, eqb}
 use lib.ListN.{length, getD}
 use lib.Seq.{getD-take}
-use borrow.Author.Tests.{leb-true, le-leb, eqb-true, eq-eqb, ne-eqb}
+use borrow.Author.Tests.{leb-true, le-leb, eqb-true, ne-eqb, not-false}
 use Rattle.memory.specs.Sizes.{messageLimit}
 use Rattle.memory.specs.Tests.{unless, is, find, all}
 use Rattle.memory.proofs.Tests.{and-left, and-right, and-not-right, never-both}
 use Rattle.frame.specs.Control.{cr}
-use Rattle.frame.specs.Allowed.{allowed}
+use Rattle.frame.specs.Allowed.{allowed, ordinary}
 use Rattle.record.specs.Kinds.{letterOf, typeOf, mayFollow, isTerminator}
 use Rattle.record.specs.Fields.{before, behind, fieldOf}
 use Rattle.record.specs.Records.{records, endsWithCr}
 use Rattle.record.specs.Numbers.{numberOf, started, countOf, counted}
 use Rattle.record.specs.Faults.{kindStep, recordStep, isHeader, headerStep, after, restFault, recordsFault, fault, isFaultless, isMessage}
-use Rattle.record.specs.Rest.{fineAnd, goOn, rightRest}
+use Rattle.record.specs.Rest.{breaks, fineAnd, goOn, rightRest}
 use Rattle.record.specs.declared.Delimiters.{Delimiters}
 use Rattle.record.specs.declared.Counts.{Counts}
 use Rattle.record.specs.declared.Kind.{Kind}
@@ -124,17 +124,17 @@ records-right d r (q ∷ rs) = by-header (isHeader d r) (rest-right d started 2 
     by-header true e = e
     by-header false e = refl
 
--- the delimiter between fields is not CR where it stands in a record
-pub header-plain : (d : Delimiters) (text : List ℕ) → isHeader d (before cr text) ≡ true → d .field ≡ cr → ⊥
+-- the delimiter between fields is ordinary where it stands in a header that CR breaks off
+pub header-ordinary : (d : Delimiters) (text : List ℕ) → isHeader d (before cr text) ≡ true → find breaks text ≡ find (is cr) text → ordinary (d .field) ≡ true
 unfolding isHeader
-header-plain d text h e =
+header-ordinary d text h e =
     let r = before cr text in
     let three = and-left _ _ (and-left _ _ (and-left _ _ h)) in
     let long : 5 ≤ length r = leb-true 5 (length r) (and-left _ _ (and-left _ _ three)) in
     let lt : 1 < find (is cr) text = omega (arith, before-length cr text) in
     let second : getD r 1 0 ≡ d .field = eqb-true (getD r 1 0) (d .field) (and-right (leb 5 (length r) && is (letterOf Header) (getD r 0 0)) (is (d .field) (getD r 1 0)) three) in
-    let at : getD text 1 0 ≡ cr = sym (getD-take (find (is cr) text) text 1 0 lt) ∙ second ∙ e in
-    never-both (is cr (getD text 1 0)) (eq-eqb (getD text 1 0) cr at) (find-before (is cr) text 1 lt)
+    let at : getD text 1 0 ≡ d .field = sym (getD-take (find (is cr) text) text 1 0 lt) ∙ second in
+    ap ordinary (sym at) ∙ not-false _ (find-before breaks text 1 (omega arith))
 
 -- a text within the limit that ends with CR, cut at its first CR
 module _ (d : Delimiters) (text : List ℕ) (short : length text ≤ messageLimit) (some : 0 < length text) (ends : endsWithCr text ≡ true) where

@@ -1,7 +1,7 @@
 -- What the bytes at the start of a text that ends with CR tell of its first record, before the end of that is known.
 -- Assumes nothing.
 use mathlib.Core.Path.{_≡_, refl, ap, sym, _∙_}
-use mathlib.Core.Bool.{Bool, true, false, cond, _&&_}
+use mathlib.Core.Bool.{Bool, true, false, not, cond, _&&_}
 use mathlib.Core.List.{List, [], _∷_}
 use Prim.Native.Nat.{ℕ, suc, _+_, _<_, _≤_, min}
 use native.Mathlib.Omega.{arith}
@@ -11,16 +11,19 @@ use lib.ListN.{length, getD, take, drop, drop-of-length-le}
 use lib.Seq.{take-take, getD-take}
 use borrow.Author.Tests.{eqb-true, ne-eqb}
 use Rattle.memory.specs.Tests.{unless, is, find}
-use Rattle.memory.proofs.Tests.{find-le, never-both}
+use Rattle.memory.proofs.Tests.{find-le, find-next, never-both}
 use Rattle.frame.specs.Control.{cr}
-use Rattle.record.specs.Kinds.{kindOf, typeOf, mayFollow}
+use Rattle.frame.specs.Allowed.{allowed, ordinary}
+use Rattle.record.specs.Kinds.{letterOf, kindOf, typeOf, mayFollow}
 use Rattle.record.specs.Fields.{before, behind}
 use Rattle.record.specs.Records.{endsWithCr}
 use Rattle.record.specs.Numbers.{numberOf, countOf, counted}
 use Rattle.record.specs.Faults.{kindStep, recordStep}
+use Rattle.record.specs.Rest.{breaks}
 use Rattle.record.specs.declared.Delimiters.{Delimiters}
 use Rattle.record.specs.declared.Counts.{Counts}
 use Rattle.record.specs.declared.Kind.{Kind}
+use Rattle.record.specs.declared.Kind.the-variants.{Header, Patient, Order, Result, Query, Terminator, Comment, Manufacturer}
 use Rattle.record.specs.declared.Letter.{Letter}
 use Rattle.record.specs.declared.Letter.the-variants.{Known, Unknown}
 use Rattle.record.specs.declared.Step.the-variants.{Fine, Wrong}
@@ -30,12 +33,39 @@ use Rattle.record.proofs.Decimal.{number-none}
 use Rattle.record.proofs.Scans.{find-hit, find-upto, before-length, before-first}
 use Rattle.record.proofs.Messages.{letter}
 use Rattle.record.proofs.Head.{find-window, known-second}
-use Rattle.record.proofs.Breaks.{cr-within}
+use Rattle.record.proofs.Breaks.{cr-within, ordinary-plain}
 
 -- CR names no type
 pub cr-names-none : (b : ℕ) → is cr b ≡ true → kindOf b ≡ Unknown
 unfolding kindOf
 cr-names-none b e = rw (eqb-true b cr e)
+
+-- and a byte that names one is ordinary
+letters-ordinary : (k : Kind) → ordinary (letterOf k) ≡ true
+unfolding ordinary allowed
+letters-ordinary Header = refl
+letters-ordinary Patient = refl
+letters-ordinary Order = refl
+letters-ordinary Result = refl
+letters-ordinary Query = refl
+letters-ordinary Terminator = refl
+letters-ordinary Comment = refl
+letters-ordinary Manufacturer = refl
+
+names-ordinary : (b : ℕ) (k : Kind) → kindOf b ≡ Known k → ordinary b ≡ true
+unfolding kindOf
+names-ordinary b k h =
+    or Header _ (or Patient _ (or Order _ (or Result _ (or Query _ (or Terminator _ (or Comment _ (or Manufacturer _ none))))))) h
+  where
+    none : Unknown ≡ Known k → ordinary b ≡ true
+    none e = let z : _≡_ {A = ℕ} 0 1 = cc in absurd (omega arith)
+
+    or : (j : Kind) (l : Letter) → (l ≡ Known k → ordinary b ≡ true) → cond (is (letterOf j) b) (Known j) l ≡ Known k → ordinary b ≡ true
+    or j l go = by-test (is (letterOf j) b) refl
+      where
+        by-test : (t : Bool) → is (letterOf j) b ≡ t → cond t (Known j) l ≡ Known k → ordinary b ≡ true
+        by-test true e g = ap ordinary (eqb-true b (letterOf j) e) ∙ letters-ordinary j
+        by-test false e g = go g
 
 -- what is before the first b names a type exactly if b stands at index 1 and the first byte names it
 module _ (b : ℕ) (s : List ℕ) where
@@ -168,24 +198,29 @@ module _ (d : Delimiters) (text : List ℕ) (ends : endsWithCr text ≡ true) wh
     at-one : find (is (d .field)) text ≡ 1
     at-one = sym (before-length (d .field) text) ∙ letter (before (d .field) text) k h .0
 
+    first-names : kindOf (getD text 0 0) ≡ Known k
+    first-names = sym (type-named (d .field) text at-one) ∙ h
+
+    second-is : 1 < length text → getD text 1 0 ≡ d .field
+    second-is l =
+        let lt : find (is (d .field)) text < length text = omega (arith, at-one) in
+        eqb-true (getD text 1 0) (d .field) (rw at-one at (find-hit (is (d .field)) text lt))
+
     cr-later : 1 < find (is cr) text
     cr-later =
-        let b = d .field in
         let hit : is cr (getD text (find (is cr) text) 0) ≡ true = find-hit (is cr) text (cr-within text ends) in
-        let named : kindOf (getD text 0 0) ≡ Known k = sym (type-named b text at-one) ∙ h in
         elim (decLt 1 (find (is cr) text)) [
           | yes lt ↦ lt
           | no ge ↦
               elim (decLt 0 (find (is cr) text)) [
                 | yes some ↦
                     let same : find (is cr) text ≡ 1 = omega arith in
-                    let lt : find (is b) text < length text = omega (arith, at-one, cr-within text ends) in
-                    let second : is b (getD text 1 0) ≡ true = rw at-one at (find-hit (is b) text lt) in
-                    let third : is cr (getD text 1 0) ≡ true = rw same at hit in
-                    absurd (plain (sym (eqb-true (getD text 1 0) b second) ∙ eqb-true (getD text 1 0) cr third))
+                    let second : is cr (getD text 1 0) ≡ true = rw same at hit in
+                    absurd (plain (sym (second-is (omega (arith, cr-within text ends))) ∙ eqb-true (getD text 1 0) cr second))
                 | no none ↦
                     let same : find (is cr) text ≡ 0 = omega arith in
                     let unnamed : kindOf (getD text 0 0) ≡ Unknown = cr-names-none (getD text 0 0) (rw same at hit) in
+                    let named = first-names in
                     let z : _≡_ {A = ℕ} 0 1 = cc in
                     absurd (omega arith)
               ]
@@ -194,6 +229,13 @@ module _ (d : Delimiters) (text : List ℕ) (ends : endsWithCr text ≡ true) wh
     pub three-bytes : 2 < length text
     three-bytes = omega (arith, cr-later, cr-within text ends)
 
+    -- neither its type nor the delimiter breaks the record off
+    two-passed : ordinary (d .field) ≡ true → 2 + find breaks (drop 2 text) ≡ find breaks text
+    two-passed o =
+        let first : breaks (getD text 0 0) ≡ false = ap not (names-ordinary (getD text 0 0) k first-names) in
+        let second : breaks (getD text 1 0) ≡ false = ap breaks (second-is (omega (arith, three-bytes))) ∙ ap not o in
+        find-next breaks text 1 (omega (arith, three-bytes)) second (find-next breaks text 0 (omega (arith, three-bytes)) first (omega arith))
+
     pub typed-step : (s : Counts) → recordStep d s false (before cr text) ≡ kindStep s false (Known k) (numberOf (fieldAt (d .field) (drop 2 text)))
     unfolding recordStep
     typed-step s =
@@ -201,3 +243,14 @@ module _ (d : Delimiters) (text : List ℕ) (ends : endsWithCr text ≡ true) wh
         let lt : find (is b) text < find (is cr) text = omega (arith, at-one, cr-later) in
         let known : typeOf (before b (before cr text)) ≡ Known k = rw (first-field b text lt) h in
         rw (known, known-second b (before cr text) k known, two-behind (is cr) text cr-later)
+
+-- so a record without a fault is broken off behind them
+pub fine-passes : (d : Delimiters) (text : List ℕ) → endsWithCr text ≡ true → ordinary (d .field) ≡ true → (s t : Counts) → recordStep d s false (before cr text) ≡ Fine t
+    → (2 < length text) × (2 + find breaks (drop 2 text) ≡ find breaks text)
+fine-passes d text ends o s t fine = by-type (typeOf (before (d .field) text)) refl
+  where
+    by-type : (l : Letter) → typeOf (before (d .field) text) ≡ l → (2 < length text) × (2 + find breaks (drop 2 text) ≡ find breaks text)
+    by-type Unknown e = let (f, wrong) = untyped d text ends s e in let z : _≡_ {A = ℕ} 0 1 = cc in absurd (omega arith)
+    by-type (Known k) e =
+        let plain = ordinary-plain (d .field) o in
+        (three-bytes d text ends plain k e, two-passed d text ends plain k e o)

@@ -5,7 +5,7 @@ ghost use mathlib.Core.Bool.{true, false};
 ghost use lib.ListN.{length};
 ghost use Rattle.memory.specs.Tests.{find};
 ghost use Rattle.frame.specs.Control.{cr};
-ghost use Rattle.frame.specs.Allowed.{classTable};
+ghost use Rattle.frame.specs.Allowed.{ordinary, classTable};
 ghost use Rattle.record.specs.Kinds.{kindOf, typeOf, kindAt, letterRow};
 ghost use Rattle.record.specs.Fields.{before};
 ghost use Rattle.record.specs.Records.{endsWithCr};
@@ -167,7 +167,7 @@ fn lead(
 
 // Whether the records behind a proper header, the rest of a text, make a message of it.
 pub fn is_right(d: Delimiters, classes: &[u8; 256], rest: &[u8]) -> bool
-    requires { ⌜ (d .field ≡ cr → ⊥) × (now classes ≡ classTable) × (0 < length (now rest) → endsWithCr (now rest) ≡ true) ⌝ }
+    requires { ⌜ (ordinary (d .field) ≡ true) × (now classes ≡ classTable) × (0 < length (now rest) → endsWithCr (now rest) ≡ true) ⌝ }
     ensures { λ r. ⌜ r ≡ rightRest d started (now (rest .entry)) ⌝ }
 {
     // A constant is laid out anew wherever it is named, so the table is taken once.
@@ -181,11 +181,13 @@ pub fn is_right(d: Delimiters, classes: &[u8; 256], rest: &[u8]) -> bool
         if other == NO_ROW {
             return false;
         }
-        let e = end_of(classes, tail);
-        if tail[e] != crate::CR {
+        // Its type and a delimiter were read: its end is behind them.
+        let behind = &tail[2..];
+        let e = end_of(classes, behind);
+        if behind[e] != crate::CR {
             return false;
         }
-        at = at + (e + 1);
+        at = at + (e + 3);
     }
     other == TERMINATOR
 }

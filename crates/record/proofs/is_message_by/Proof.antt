@@ -20,7 +20,7 @@ use Rattle.record.specs.Rest.{breaks, rightRest}
 use Rattle.record.proofs.Scans.{rest-part}
 use Rattle.record.proofs.Messages.{sound}
 use Rattle.record.proofs.Breaks.{cr-some, break-within, ends-behind, broken-by-cr, broken-by-other}
-use Rattle.record.proofs.Remaining.{header-plain, headless, header-passed}
+use Rattle.record.proofs.Remaining.{header-ordinary, headless, header-passed}
 use Rattle.record.proofs.is_message_by.Statement.{statement}
 use Rattle.record.proofs.is_message_by.Tie as tie
 
@@ -130,11 +130,12 @@ part-is-right-end c = search needs
 is-right-requires : tie.Need-is-right-requires
 is-right-requires c κs =
     let h = c .before .before in
-    let e = h .before .before .before .before .before in
+    let f = h .before .before .before in
+    let e = f .before .before in
     let o = e .before .before .before in
     let a = o .before .before .before .before .before .args in
     let at = e .end-of .result + 1 in (
-      header-plain (a .d) (a .text .now) (proper h),
+      header-ordinary (a .d) (a .text .now) (proper h) (sym (e .end-of .ensures) ∙ first f .0),
       e .before .before .classes .ensures,
       λ some.
           let left : 0 < length (drop at (a .text .now)) = rw (rest-part (a .text .now) at) at some in
