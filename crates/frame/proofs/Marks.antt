@@ -15,7 +15,7 @@ by-rule : (i n : ℕ) → classesFrom i n ≡ values classOf i n
 by-rule i zero = refl
 by-rule i (suc n) = ap (λ (l : List ℕ). classOf i ∷ l) (by-rule (suc i) n)
 
-pub class-at : (b : ℕ) → b < 256 → getD classTable b 0 ≡ classOf b
+class-at : (b : ℕ) → b < 256 → getD classTable b 0 ≡ classOf b
 unfolding classTable
 class-at b h = ap (λ (l : List ℕ). getD l b 0) (by-rule 0 256) ∙ entry classOf 0 256 b h
 

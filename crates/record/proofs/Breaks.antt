@@ -19,7 +19,7 @@ use Rattle.record.specs.Rest.{breaks}
 use Rattle.record.proofs.Scans.{find-upto}
 
 -- CR breaks a record off; a byte that does not is allowed and no CR
-pub cr-breaks : (b : ℕ) → is cr b ≡ true → breaks b ≡ true
+cr-breaks : (b : ℕ) → is cr b ≡ true → breaks b ≡ true
 unfolding ordinary
 cr-breaks b e = rw e (by-allowed (allowed b))
   where

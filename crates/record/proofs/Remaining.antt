@@ -51,7 +51,7 @@ h-first Comment = refl
 h-first Manufacturer = refl
 
 -- so the last other record is not L where k may follow
-pub not-behind-l : (other k : Kind) → mayFollow other k ≡ true → isTerminator other ≡ false
+not-behind-l : (other k : Kind) → mayFollow other k ≡ true → isTerminator other ≡ false
 not-behind-l Terminator k e = never-both (mayFollow Terminator k) e (l-last k)
 not-behind-l Header k e = refl
 not-behind-l Patient k e = refl

@@ -168,7 +168,7 @@ module _ (d : Delimiters) (text : List ℕ) (ends : endsWithCr text ≡ true) wh
     at-one : find (is (d .field)) text ≡ 1
     at-one = sym (before-length (d .field) text) ∙ letter (before (d .field) text) k h .0
 
-    pub cr-later : 1 < find (is cr) text
+    cr-later : 1 < find (is cr) text
     cr-later =
         let b = d .field in
         let hit : is cr (getD text (find (is cr) text) 0) ≡ true = find-hit (is cr) text (cr-within text ends) in

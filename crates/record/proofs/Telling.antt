@@ -46,7 +46,7 @@ module _ (other : ℕ) (ns : List ℕ) (told : Telling other ns) where
   pub not-l : (k : Kind) → mayFollow (kindAt other) k ≡ true → other ≡ 5 → ⊥
   not-l k f e = let g : mayFollow Terminator k ≡ true = rw e at f in never-both (mayFollow Terminator k) g (l-last k)
 
-  pub no-l-yet : (k : Kind) → mayFollow (kindAt other) k ≡ true → getD ns 5 0 ≡ 0
+  no-l-yet : (k : Kind) → mayFollow (kindAt other) k ≡ true → getD ns 5 0 ≡ 0
   no-l-yet k f = told .2 (not-l k f)
 
   pub count-told : (k : Kind) → mayFollow (kindAt other) k ≡ true → countOf (countsOf other ns) k ≡ getD ns (rowOf k) 0
