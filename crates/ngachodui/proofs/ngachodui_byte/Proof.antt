@@ -4,6 +4,7 @@ use borrow.Author.Needs.{needs}
 use native.Mathlib.Omega.{arith}
 use mathlib.Core.Path.{sym, _∙_}
 use denote.Ref.{now}
+use lib.ListN.{length}
 use borrow.Author.Tests.{not-true, not-false}
 use Rattle.gateway.specs.declared.Kind.the-variants.{Byte}
 use Rattle.gateway.proofs.Steps.{lengths-facts}
@@ -30,7 +31,7 @@ collect-requires c κs =
     let a = right .before .before .before .before .before .args in (
       omega arith,
       numbers-facts _ _ (quick-within (now (a .numbers)) (a .line) (a .byte) (sym (quick .is-quick .ensures) ∙ c .before .before .if3 .taken)) .collected,
-      lengths-facts _ _ _ (sym (right .is-right .ensures) ∙ not-false _ (quick .before .before .if2 .left)) .2,
+      lengths-facts (length (now (a .journal))) (length (now (a .unfinished))) (length (now (a .frames))) (sym (right .is-right .ensures) ∙ not-false _ (quick .before .before .if2 .left)) .2,
     )
 
 returns-3 : tie.Need-returns-3
