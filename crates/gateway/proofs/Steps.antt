@@ -123,7 +123,7 @@ module _ (l : Line) (e : Event) (n : ℕ) (u f : List ℕ) where
   abbrev own-look : Look
   own-look = lookOf l (e .kind) (textsOf (e .line) u) (framesOf (e .line) f)
 
-  pub alone-fits : LookFits (lookAlone l e n u f) l
+  alone-fits : LookFits (lookAlone l e n u f) l
   unfolding lookAlone
   alone-fits = by-line (ltb (e .line) lines) refl
     where
@@ -150,7 +150,7 @@ module _ (l : Line) (e : Event) (u f : List ℕ) where
   look-decides h = alone-as h (record { result = refl; unfinished = refl; frames = refl })
 
 -- that a text fits is two tests
-pub fits-test : (l : Line) (n : ℕ) → TextFits l n → textFits l n ≡ true
+fits-test : (l : Line) (n : ℕ) → TextFits l n → textFits l n ≡ true
 fits-test l n t = rw (le-leb (n + 5) (l .collected) (t .0), le-leb (l .joined + n) messageLimit (t .1))
 
 pub test-fits : (l : Line) (n : ℕ) → textFits l n ≡ true → TextFits l n

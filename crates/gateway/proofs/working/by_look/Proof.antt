@@ -1,9 +1,8 @@
 -- `gateway::working::by_look` meets its contract: the look, and the row of its verdict.
 -- Assumes nothing.
 use borrow.Author.Needs.{needs}
-use mathlib.Core.Path.{_≡_, sym, subst, _∙_}
+use mathlib.Core.Path.{sym, subst, _∙_}
 use denote.Ref.{now}
-use Rattle.line.specs.declared.Line.{Line}
 use Rattle.gateway.specs.declared.Look.{Look}
 use Rattle.gateway.proofs.Views.{own-parts}
 use Rattle.gateway.proofs.Fits.{LookFits, look-fits}
