@@ -252,26 +252,55 @@ static size_t text_of_frame(size_t size)
     return size ? size : MOST;
 }
 
-/* The LF of a frame with so many bytes of text and ETB, right in all or with a wrong check digit. */
-FOR_EACH_SIDE void judged(enum side side, uint64_t count, size_t size, bool right)
+/* A frame with so many bytes of text and ETB, right in all or with a wrong check digit; its end is where its LF stands. */
+static uint8_t *make_frame(uint8_t frame[FRAME], size_t size, bool right)
 {
-    uint8_t frame[FRAME] = { STX, '1' };
     uint8_t *end = frame + 2 + size;
     unsigned sum = '1' + ETB;
+    frame[0] = STX;
+    frame[1] = '1';
     for (size_t i = 0; i < size; i++)
         sum += frame[2 + i] = (uint8_t)('!' + i % 90);
     end[0] = ETB;
     end[1] = (uint8_t)"0123456789ABCDEF"[sum >> 4 & 15];
     end[2] = right ? (uint8_t)"0123456789ABCDEF"[sum & 15] : '?';
     end[3] = CR;
+    end[4] = LF;
+    return end + 4;
+}
+
+/* The LF of a frame. */
+FOR_EACH_SIDE void judged(enum side side, uint64_t count, size_t size, bool right)
+{
+    uint8_t frame[FRAME];
+    const uint8_t *end = make_frame(frame, size, right);
     fresh(side);
     byte_in(side, 3, ENQ);
-    for (const uint8_t *at = frame; at < end + 4; at++)
+    for (const uint8_t *at = frame; at < end; at++)
         byte_in(side, 3, *at);
     saved = now;
     for (uint64_t i = 0; i < count; i++) {
         unsigned number = byte_in(side, 3, LF);
         if (side != NONE && number != (right ? NGACHODUI_ACCEPTED : NGACHODUI_WRONG_CHECK))
+            stop("the frame is not judged as it should be");
+        put_back();
+    }
+    done = count;
+}
+
+/* A whole frame, from STX to LF. */
+FOR_EACH_SIDE void framed(enum side side, uint64_t count, size_t size)
+{
+    uint8_t frame[FRAME];
+    const uint8_t *end = make_frame(frame, size, true);
+    fresh(side);
+    byte_in(side, 3, ENQ);
+    saved = now;
+    for (uint64_t i = 0; i < count; i++) {
+        unsigned number = 0;
+        for (const uint8_t *at = frame; at <= end; at++)
+            number = byte_in(side, 3, *at);
+        if (side != NONE && number != NGACHODUI_ACCEPTED)
             stop("the frame is not judged as it should be");
         put_back();
     }
@@ -462,6 +491,8 @@ static void run(const char *operation, enum side side, uint64_t count, size_t si
         RUN(judged, count, text_of_frame(size), true);
     } else if (IS("refused")) {
         RUN(judged, count, text_of_frame(size), false);
+    } else if (IS("framed")) {
+        RUN(framed, count, text_of_frame(size));
     } else if (IS("decided-few") || IS("decided-many")) {
         make_message(size ? size : TEXT, many);
         cut_message();
