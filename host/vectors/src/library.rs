@@ -1,0 +1,105 @@
+//! The library with the memory that a host lends it.
+
+use crate::boundary::{self, Answered, Numbers, Used};
+use crate::layout::{COUNTS, FIELDS, IN_USE, LINES, NUMBERS, SERIAL};
+
+/// A memory, of which the first bytes are lent.
+pub struct Memory {
+    pub bytes: Vec<u8>,
+    pub lent: usize,
+}
+
+impl Memory {
+    fn lend(&mut self) -> &mut [u8] {
+        &mut self.bytes[..self.lent]
+    }
+}
+
+impl From<Vec<u8>> for Memory {
+    /// All of it is lent.
+    fn from(bytes: Vec<u8>) -> Memory {
+        let lent = bytes.len();
+        Memory { bytes, lent }
+    }
+}
+
+pub struct Gateway {
+    pub numbers: Numbers,
+    pub used: Used,
+    pub journal: Memory,
+    pub unfinished: Memory,
+    pub frames: Memory,
+}
+
+impl Gateway {
+    pub fn fresh(journal: Memory, unfinished: Memory, frames: Memory) -> Gateway {
+        let mut gateway = Gateway {
+            // Whatever stood there, it is fresh afterwards.
+            numbers: [0xABCD; NUMBERS],
+            used: [0xABCD_ABCD; COUNTS],
+            journal,
+            unfinished,
+            frames,
+        };
+        gateway.renew();
+        gateway
+    }
+
+    /// Fresh again; the memories keep what they hold.
+    pub fn renew(&mut self) {
+        boundary::fresh(&mut self.numbers, &mut self.used);
+    }
+
+    pub fn byte(&mut self, line: u8, byte: u8) -> Answered {
+        boundary::byte(
+            line,
+            byte,
+            &mut self.numbers,
+            &mut self.used,
+            self.journal.lend(),
+            self.unfinished.lend(),
+            self.frames.lend(),
+        )
+    }
+
+    pub fn seconds(&mut self, line: u8, seconds: u8) -> Answered {
+        boundary::seconds(
+            line,
+            seconds,
+            &mut self.numbers,
+            &mut self.used,
+            self.journal.lend(),
+            self.unfinished.lend(),
+            self.frames.lend(),
+        )
+    }
+
+    pub fn take(&mut self, line: u8, buffer: &mut [u8]) -> Answered {
+        boundary::take(
+            line,
+            &self.numbers,
+            &mut self.used,
+            self.journal.lend(),
+            buffer,
+        )
+    }
+
+    /// A line's numbers: its record, and its next serial as the last.
+    pub fn line(&self, line: usize) -> &[u16] {
+        &self.numbers[FIELDS * line..][..FIELDS]
+    }
+
+    pub fn number(&mut self, line: usize, field: usize) -> &mut u16 {
+        &mut self.numbers[FIELDS * line + field]
+    }
+
+    /// The used count and the next serial of a line, where it is one of the eight.
+    pub fn count(&self, line: u8) -> Option<(u32, u16)> {
+        let line = usize::from(line);
+        (line < LINES).then(|| (self.used[line], self.line(line)[SERIAL]))
+    }
+
+    pub fn in_use(&self) -> u32 {
+        self.used[IN_USE]
+    }
+}

@@ -1,0 +1,48 @@
+//! Runs a script of bytes, seconds, takings and cuttings through the library, and shows what each
+//! step comes to.
+//!
+//!     vectors gateway < SCRIPT       steps one by one, with every record and memory they leave
+//!     vectors cutting < SCRIPT       messages cut into frames, sent and taken again
+//!     vectors stretches < SCRIPT     whole traces, run and told again stretch by stretch
+//!
+//! Status 1: a trace was told by the rule and came to something else, or wrongly and was not found.
+//! Status 2: the script asks for what is no step.
+
+#[path = "../../rust/src/boundary.rs"]
+#[allow(dead_code)] // No script reads, escapes or unescapes.
+mod boundary;
+mod cutting;
+mod frames;
+mod gateway;
+mod layout;
+mod library;
+mod script;
+mod stretches;
+
+use std::env::args;
+use std::io::{stdin, Read};
+use std::process::exit;
+
+fn main() {
+    let mut arguments = args().skip(1);
+    let run: fn(&str) -> Result<bool, String> =
+        match (arguments.next().as_deref(), arguments.next()) {
+            (Some("gateway"), None) => gateway::run,
+            (Some("cutting"), None) => cutting::run,
+            (Some("stretches"), None) => stretches::run,
+            _ => refuse("usage: vectors gateway|cutting|stretches < SCRIPT"),
+        };
+    let mut script = String::new();
+    if let Err(error) = stdin().read_to_string(&mut script) {
+        refuse(&format!("script: {}", error));
+    }
+    match run(&script) {
+        Ok(good) => exit(i32::from(!good)),
+        Err(message) => refuse(&message),
+    }
+}
+
+fn refuse(message: &str) -> ! {
+    eprintln!("{}", message);
+    exit(2)
+}
