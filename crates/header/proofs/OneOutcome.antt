@@ -1,12 +1,9 @@
 -- Any two outcomes that a contract of this crate allows are equal.
 -- Assumes nothing.
 use mathlib.Core.Path.{_≡_, sym, _∙_}
-use mathlib.Core.List.{List}
 use Prim.Native.Nat.{ℕ, _+_, _≤_, _<_}
 use Rattle.memory.specs.Fields.{longestField}
 use Rattle.header.specs.Header.{serialCount, headSize, entrySize, headNumber}
-use Rattle.header.specs.Entry.{firstHead}
-use Rattle.header.specs.declared.Header.{Header}
 
 -- `head_size`
 pub head-size-once : (n : ℕ) {r q : ℕ} → (r ≡ headSize n) × (r ≤ longestField) → (q ≡ headSize n) × (q ≤ longestField) → r ≡ q
@@ -19,7 +16,3 @@ entry-size-once n a b = a .0 ∙ sym (b .0)
 -- `number`
 pub number-once : (l n s : ℕ) {r q : ℕ} → (r ≡ headNumber l n s) × (s < serialCount) → (q ≡ headNumber l n s) × (s < serialCount) → r ≡ q
 number-once l n s a b = a .0 ∙ sym (b .0)
-
--- `entry_at`
-pub entry-at-once : (bs : List ℕ) {r q : Header} → r ≡ firstHead bs → q ≡ firstHead bs → r ≡ q
-entry-at-once bs a b = a ∙ sym b
