@@ -12,10 +12,11 @@ use Rattle.memory.specs.Sizes.{lines, journalSize}
 use Rattle.memory.specs.Tests.{unless}
 use Rattle.record.specs.Delimiters.{standard}
 use Rattle.record.specs.Faults.{isMessage}
-use Rattle.journal.specs.Header.{headSize}
-use Rattle.journal.specs.Entries.{Entry, sizes, before, from}
+use Rattle.header.specs.Header.{headSize}
+use Rattle.header.specs.Entry.{Entry}
+use Rattle.journal.specs.Entries.{sizes, before, from}
 use Rattle.journal.specs.Chain.{chain}
-use Rattle.journal.specs.Room.{todaysShares}
+use Rattle.room.specs.Room.{todaysShares}
 use Rattle.journal.specs.Storage.{grown}
 use Rattle.journal.specs.Removal.{AfterTaking, shrunk, takeAt, takeOldest, takeFrom, takeOf}
 use Rattle.journal.specs.Answers.{isFits}

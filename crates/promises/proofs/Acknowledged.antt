@@ -6,8 +6,8 @@ use mathlib.Core.Bool.{true, false, true≢false}
 use mathlib.Core.List.{List}
 use Prim.Native.Nat.{ℕ, _<_}
 use Rattle.memory.specs.Sizes.{lines}
-use Rattle.journal.specs.Room.{todaysShares}
-use Rattle.journal.specs.Runs.{State as Store}
+use Rattle.room.specs.Room.{todaysShares}
+use Rattle.journal_laws.specs.Runs.{State as Store}
 use Rattle.line.specs.Paper.{ack, numberOf, replyOf}
 use Rattle.line.specs.declared.Line.{Line}
 use Rattle.line.specs.declared.Reply.the-variants.{Byte}

@@ -12,15 +12,15 @@ use Rattle.memory.specs.Tests.{unless}
 use Rattle.memory.proofs.Tests.{and-left, and-right}
 use Rattle.record.specs.Delimiters.{standard}
 use Rattle.record.specs.Faults.{isMessage}
-use Rattle.journal.specs.Header.{entrySize}
-use Rattle.journal.specs.Entries.{Entry, isText}
-use Rattle.journal.specs.Room.{todaysShares, fits, raised}
+use Rattle.header.specs.Header.{entrySize}
+use Rattle.header.specs.Entry.{Entry, isText}
+use Rattle.room.specs.Room.{todaysShares, fits, raised}
 use Rattle.journal.specs.Verdicts.{judgeOf}
-use Rattle.journal.specs.Held.{Held}
+use Rattle.journal_laws.specs.Held.{Held}
 use Rattle.journal.specs.declared.Ledger.{Ledger}
 use Rattle.journal.specs.declared.Verdict.{Verdict as Judgement}
 use Rattle.journal.specs.declared.Verdict.the-variants.{Fits, NoRoom as Full, NoText}
-use Rattle.journal.proofs.Keeps.{store-held}
+use Rattle.journal_laws.proofs.Keeps.{store-held}
 use Rattle.line.specs.Paper.{numberOf}
 use Rattle.line.specs.declared.Line.{Line}
 use Rattle.line.specs.declared.Answer.the-variants.{NoMessage, NoRoom}

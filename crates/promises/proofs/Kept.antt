@@ -10,10 +10,10 @@ use native.Mathlib.Omega.{arith}
 use lib.ListN.{length-set, length-replicate, getD-replicate}
 use lib.Seq.{getD-set-other, getD-set-same}
 use Rattle.memory.specs.Sizes.{lines}
-use Rattle.journal.specs.Room.{todaysShares}
+use Rattle.room.specs.Room.{todaysShares}
 use Rattle.journal.specs.Removal.{AfterTaking, takeOf as takeEntry}
-use Rattle.journal.proofs.Cases.{Gives, Keeps, take-cases}
-use Rattle.journal.proofs.Guarantees.{fresh-today}
+use Rattle.journal_laws.proofs.Cases.{Gives, Keeps, take-cases}
+use Rattle.journal_laws.proofs.Guarantees.{fresh-today}
 use Rattle.line.specs.Line.{withinLimits, freshLine}
 use Rattle.line.proofs.Limits.{within-facts, within-of, fresh-within}
 use Rattle.gateway.specs.Views.{framesOf, textsOf}

@@ -13,17 +13,17 @@ use Rattle.memory.specs.Tests.{unless}
 use Rattle.record.specs.Delimiters.{standard}
 use Rattle.record.specs.Faults.{isMessage}
 use Rattle.journal.specs.Answers.{isFits}
-use Rattle.journal.specs.Room.{todaysShares}
+use Rattle.room.specs.Room.{todaysShares}
 use Rattle.journal.specs.Verdicts.{judgeOf}
 use Rattle.journal.specs.Storage.{storeBy, storeOf as storeEntry}
 use Rattle.journal.specs.Removal.{takeOf as takeEntry}
-use Rattle.journal.specs.Held.{Held}
-use Rattle.journal.specs.Runs.{Operation, put, get, State as Store, Numbered, numbered, waiting, given, next, after, goesIn, comesOut, allIn, allOut}
+use Rattle.journal_laws.specs.Held.{Held}
+use Rattle.journal_laws.specs.Runs.{Operation, put, get, State as Store, Numbered, numbered, waiting, given, next, after, goesIn, comesOut, allIn, allOut}
 use Rattle.journal.specs.declared.Took.{Took}
 use Rattle.journal.specs.declared.Took.the-variants.{Taken, NothingWaiting, BufferShort, BrokenJournal, NoSuchLine, WrongSize}
 use Rattle.journal.specs.declared.Verdict.{Verdict as Judgement}
 use Rattle.journal.specs.declared.Verdict.the-variants.{Fits, NoRoom as Full, Broken as Damaged, NoLine as Nowhere, OtherSize, NoText}
-use Rattle.journal.proofs.Queue.{fresh-runs}
+use Rattle.journal_laws.proofs.Queue.{fresh-runs}
 use Rattle.line.specs.Paper.{numberOf}
 use Rattle.line.specs.declared.Line.{Line}
 use Rattle.line.specs.declared.Answer.the-variants.{NoMessage}

@@ -11,14 +11,14 @@ use borrow.Author.Tests.{eq-eqb, le-leb}
 use lib.Dec.{eqb}
 use lib.ListN.{length, getD, getD-replicate}
 use Rattle.memory.specs.Sizes.{lines, journalSize}
-use Rattle.journal.specs.Header.{entrySize}
-use Rattle.journal.specs.Room.{share, todaysShares, claims, fits, raised}
+use Rattle.header.specs.Header.{entrySize}
+use Rattle.room.specs.Room.{share, todaysShares, claims, fits, raised}
 use Rattle.journal.specs.Removal.{AfterTaking, takeOf as takeEntry}
 use Rattle.journal.specs.Answers.{tookPaper}
 use Rattle.journal.specs.declared.Took.{Took}
 use Rattle.journal.specs.declared.Took.the-variants.{Taken, NothingWaiting, BufferShort, BrokenJournal, NoSuchLine, WrongSize}
-use Rattle.journal.proofs.Cases.{Gives, Keeps, take-cases}
-use Rattle.journal.proofs.Totals.{claims-own-share}
+use Rattle.journal_laws.proofs.Cases.{Gives, Keeps, take-cases}
+use Rattle.room.proofs.Totals.{claims-own-share}
 use Rattle.line.specs.Paper.{numberOf}
 use Rattle.line.specs.declared.Line.{Line}
 use Rattle.gateway.specs.Views.{framesOf, textsOf, joinedText}

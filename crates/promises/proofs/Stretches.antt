@@ -7,8 +7,8 @@ use Prim.Native.Nat.{ℕ, _<_}
 use lib.Seq.{ext-getD}
 use Rattle.memory.specs.Sizes.{lines, messageLimit, framePart}
 use Rattle.memory.proofs.Lines.{equal-parts}
-use Rattle.journal.specs.Room.{todaysShares}
-use Rattle.journal.specs.Runs.{State as Store}
+use Rattle.room.specs.Room.{todaysShares}
+use Rattle.journal_laws.specs.Runs.{State as Store}
 use Rattle.gateway.specs.Views.{joinedText}
 use Rattle.gateway.specs.Looks.{lookOf}
 use Rattle.gateway.specs.Verdicts.{decided, ownWork}

@@ -7,10 +7,10 @@ use mathlib.Core.List.{List, [], _∷_, _++_}
 use lib.Dec.{eqb}
 use lib.ListN.{getD, take}
 use Rattle.memory.specs.Sizes.{lines}
-use Rattle.journal.specs.Entries.{Entry}
-use Rattle.journal.specs.Room.{todaysShares}
-use Rattle.journal.specs.Held.{Held}
-use Rattle.journal.specs.Runs.{Numbered, numbered, waiting}
+use Rattle.header.specs.Entry.{Entry}
+use Rattle.room.specs.Room.{todaysShares}
+use Rattle.journal_laws.specs.Held.{Held}
+use Rattle.journal_laws.specs.Runs.{Numbered, numbered, waiting}
 use Rattle.line.specs.Paper.{valuesOf}
 use Rattle.gateway.specs.Views.{framesOf, textsOf}
 use Rattle.gateway.specs.Looks.{lookOf}
