@@ -3,7 +3,7 @@
 use Prim.Native.Nat.{ℕ}
 use mathlib.Core.Path.{_≡_}
 use mathlib.Core.List.{List}
-use Rattle.journal.specs.Room.{todaysShares}
+use Rattle.room.specs.Room.{todaysShares}
 use Rattle.journal.specs.declared.Ledger.{Ledger}
 use Rattle.gateway.specs.Verdicts.{decisionOf}
 use Rattle.gateway.specs.Settled.{ledgerAfter, journalAfter}

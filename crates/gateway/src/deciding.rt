@@ -52,7 +52,7 @@ fn decide(ledger: Ledger, i: usize, n: usize, text: &[u8], journal: &mut [u8]) -
             ledger,
         };
     }
-    let stored = journal::store(ledger, journal::shares(), i as u8, text, journal);
+    let stored = journal::store(ledger, room::shares(), i as u8, text, journal);
     let after = stored.ledger;
     let answer = stored.answer;
     Decided {

@@ -10,7 +10,8 @@ use lib.Dec.{leb, ltb, eqb}
 use lib.ListN.{length}
 use Rattle.memory.specs.Sizes.{lines, journalSize}
 use Rattle.memory.proofs.Tests.{clash}
-use Rattle.journal.specs.Entries.{Entry, sizes, before, from}
+use Rattle.header.specs.Entry.{Entry}
+use Rattle.journal.specs.Entries.{sizes, before, from}
 use Rattle.journal.specs.Chain.{chain}
 use Rattle.journal.specs.Removal.{AfterTaking, afterTaking, takeAt, takeOldest, takeFrom, takeOf as takeEntry}
 use Rattle.journal.specs.declared.Ledger.{Ledger}

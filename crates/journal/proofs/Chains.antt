@@ -11,15 +11,16 @@ use native.Mathlib.Decide.{ℕ-discrete}
 use lib.ListN.{length, take, drop, getD, length-drop, drop-of-length-le}
 use lib.Dec.{eqb}
 use lib.Seq.{take-all, drop-drop, getD-set-same, getD-set-other}
-use borrow.Author.Tests.{lt-leb, eq-eqb, ne-eqb}
+use borrow.Author.Tests.{eq-eqb, ne-eqb}
 use Rattle.memory.specs.Sizes.{lines, messageLimit}
-use Rattle.memory.proofs.Parts.{length-part}
-use Rattle.journal.specs.Header.{leastHead, headSize, entrySize, headOf}
-use Rattle.journal.specs.Entries.{Entry, size, sizes, total, starts, first, firstHead, behind, chainIn, entries}
-use Rattle.journal.specs.Room.{raised}
-use Rattle.journal.specs.declared.header.Header.{Header}
-use Rattle.journal.proofs.Heads.{head-size-low, line-below}
-use Rattle.journal.proofs.Starts.{Starts, starts-facts}
+use Rattle.header.specs.Header.{leastHead, entrySize, headOf}
+use Rattle.header.specs.Entry.{Entry, size, starts, first, firstHead}
+use Rattle.journal.specs.Entries.{sizes, total, behind, chainIn, entries}
+use Rattle.room.specs.Room.{raised}
+use Rattle.header.specs.declared.Header.{Header}
+use Rattle.header.proofs.Heads.{head-size-low, line-below}
+use Rattle.header.proofs.Starts.{starts-facts}
+use Rattle.header.proofs.Single.{size-pos, size-first, first-some, first-none, too-few}
 
 pub some-inj : {A : Type 0} (a b : A) → some a ≡ some b → a ≡ b
 some-inj a b e = cc
@@ -28,18 +29,6 @@ pub no-some : {A : Type 0} (a : A) (o : Option A) → o ≡ none → o ≡ some 
 no-some a o p q = let z : _≡_ {A = ℕ} 0 1 = cc in omega arith
 
 -- ---- sizes
-
-pub size-pos : (e : Entry) → leastHead ≤ size e
-unfolding size
-size-pos e = omega (arith, head-size-low (length (e .text)))
-
-pub text-first : (bs : List ℕ) → Starts bs → length (first bs .text) ≡ headOf bs .count
-unfolding first
-text-first bs s = length-part bs (headSize (headOf bs .count)) (headOf bs .count) (s .room)
-
-pub size-first : (bs : List ℕ) → Starts bs → size (first bs) ≡ entrySize (headOf bs .count)
-unfolding size
-size-first bs s = rw (text-first bs s)
 
 pub sizes-append : (ds es : List Entry) → sizes (ds ++ es) ≡ sizes ds + sizes es
 sizes-append [] es = omega arith
@@ -138,30 +127,10 @@ walk-end bs at done w h = w .rest ∙ rw (drop-of-length-le bs h, entries-nil) (
 
 -- bytes that are too few for a header are no entry
 pub walk-short : (bs : List ℕ) (at : ℕ) (done : List Entry) → Passed bs at done → at < length bs → length bs - at < leastHead → entries bs ≡ none
-unfolding starts
 walk-short bs at done w more h =
     let some-left : 0 < length (drop at bs) = rw length-drop (omega arith) in
     let few : length (drop at bs) < leastHead = rw length-drop h in
-    w .rest ∙ ap (prepend done) (entries-stop (drop at bs) some-left (rw (lt-leb leastHead (length (drop at bs)) few)))
-
--- what a header that was read says of the bytes
-first-some : (cs : List ℕ) (b : Bool) → starts cs ≡ b → (firstHead cs .count ≡ 0 → ⊥) → (starts cs ≡ true) × (firstHead cs ≡ headOf cs)
-unfolding firstHead
-first-some cs true e n = (e, rw e)
-first-some cs false e n = absurd (n (rw e))
-
-first-none : (cs : List ℕ) (b : Bool) → starts cs ≡ b → firstHead cs .count ≡ 0 → starts cs ≡ false
-unfolding firstHead
-first-none cs true e n =
-    let s = starts-facts cs e in
-    let z : headOf cs .count ≡ 0 = rw e at n in
-    absurd (omega (arith, s .low))
-first-none cs false e n = e
-
--- bytes that start with a whole entry have its header
-pub first-is : (cs : List ℕ) → starts cs ≡ true → firstHead cs ≡ headOf cs
-unfolding firstHead
-first-is cs t = rw t
+    w .rest ∙ ap (prepend done) (entries-stop (drop at bs) some-left (too-few (drop at bs) few))
 
 pub record Stepped (bs : List ℕ) (at : ℕ) (done : List Entry) (h : Header) : Type 0 where
   pub long : size (first (drop at bs)) ≡ entrySize (h .count)

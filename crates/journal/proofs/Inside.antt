@@ -4,20 +4,20 @@ use mathlib.Core.Path.{_≡_, refl, sym, ap, _∙_}
 use mathlib.Core.List.{List, [], _∷_, _++_}
 use mathlib.Core.Bool.{Bool, true, false}
 use mathlib.Core.Option.{Option, none, some}
-use Prim.Native.Nat.{ℕ, _+_, _<_, _≤_}
+use Prim.Native.Nat.{ℕ, _+_, _≤_}
 use native.Mathlib.Omega.{arith}
 use lib.ListN.{length, drop, length-drop}
 use lib.Seq.{drop-drop}
 use borrow.Author.Tests.{eq-eqb, ne-eqb}
-use Rattle.memory.specs.Sizes.{lines, messageLimit}
-use Rattle.journal.specs.Header.{serialCount}
-use Rattle.journal.specs.Entries.{Entry, size, sizes, total, starts, first, behind, entries}
-use Rattle.journal.specs.Room.{sumTo}
-use Rattle.journal.proofs.Heads.{line-below, serial-below}
-use Rattle.journal.proofs.Starts.{starts-facts}
-use Rattle.journal.proofs.Chains.{some-inj, no-some, size-first, text-first, entries-nil, entries-go, entries-stop}
+use Rattle.memory.specs.Sizes.{lines}
+use Rattle.header.specs.Entry.{Entry, size, starts, first}
+use Rattle.journal.specs.Entries.{sizes, total, behind, entries}
+use Rattle.room.specs.Room.{sumTo}
+use Rattle.header.proofs.Starts.{starts-facts}
+use Rattle.header.proofs.Single.{Sound, sound-first, size-first}
+use Rattle.journal.proofs.Chains.{some-inj, no-some, entries-nil, entries-go, entries-stop}
 use Rattle.journal.proofs.Oldest.{cons-inj, nil-cons}
-use Rattle.journal.proofs.Totals.{sum-swap}
+use Rattle.room.proofs.Totals.{sum-swap}
 
 -- ---- the first entry
 
@@ -63,23 +63,10 @@ sizes-length (e ∷ es) bs q =
     let o = entries-cons bs e es q in
     omega (arith, sizes-length es (drop (size e) bs) (o .more), length-drop (size e) bs, o .fits)
 
--- an entry that a chain can hold
-pub record Sound (e : Entry) : Type 0 where
-  pub line : e .line < lines
-  pub serial : e .serial < serialCount
-  pub low : 1 ≤ length (e .text)
-  pub high : length (e .text) ≤ messageLimit
-
+-- entries that a chain can hold
 abbrev pub All : List Entry → Type 0
 All [] = Unit {0}
 All (e ∷ es) = Sound e × All es
-
-sound-first : (bs : List ℕ) → starts bs ≡ true → Sound (first bs)
-unfolding first
-sound-first bs t =
-    let s = starts-facts bs t in
-    let n = text-first bs s in
-    record { line = line-below bs; serial = serial-below bs; low = rw n (s .low); high = rw n (s .high) }
 
 pub all-sound : (es : List Entry) (bs : List ℕ) → entries bs ≡ some es → All es
 all-sound [] bs q = tt

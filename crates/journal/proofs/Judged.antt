@@ -10,18 +10,19 @@ use lib.Dec.{ltb, eqb}
 use borrow.Author.Tests.{lt-ltb, le-ltb, eq-eqb, ne-eqb, leb-true, ltb-true, eqb-true}
 use Rattle.memory.specs.Sizes.{lines, messageLimit, journalSize}
 use Rattle.memory.specs.Tests.{unless}
-use Rattle.journal.specs.Header.{entrySize}
-use Rattle.journal.specs.Entries.{total, isText}
+use Rattle.header.specs.Header.{entrySize}
+use Rattle.header.specs.Entry.{isText}
+use Rattle.journal.specs.Entries.{total}
 use Rattle.journal.specs.Chain.{chain, isSome}
-use Rattle.journal.specs.Room.{sumTo, claims, fits, raised}
+use Rattle.room.specs.Room.{sumTo, claims, fits, raised}
 use Rattle.journal.specs.Answers.{isFits}
 use Rattle.journal.specs.Verdicts.{judgeOf}
 use Rattle.journal.specs.declared.Ledger.{Ledger}
 use Rattle.journal.specs.declared.Verdict.the-variants.{Fits, NoRoom, Broken, NoLine, OtherSize, NoText}
-use Rattle.journal.proofs.Starts.{text-facts, text-of, no-text}
+use Rattle.header.proofs.Starts.{text-facts, text-of, no-text}
 use Rattle.journal.proofs.Wholes.{Kept}
 use Rattle.journal.proofs.Inside.{sum-totals}
-use Rattle.journal.proofs.Totals.{sum-same, sum-swap, raised-own, raised-other, used-le-claims}
+use Rattle.room.proofs.Totals.{sum-same, sum-swap, raised-own, raised-other, used-le-claims}
 
 module _ (d : Ledger) (sh : List ℕ) (l n : ℕ) (j : List ℕ) where
   pub judged-line : lines ≤ l → NoLine ≡ judgeOf d sh l n j

@@ -7,8 +7,10 @@ use Prim.Native.Nat.{ℕ, _+_, _≤_}
 use native.Mathlib.Omega.{arith}
 use lib.Dec.{eqb}
 use borrow.Author.Tests.{eq-eqb, eqb-true}
-use Rattle.journal.specs.Entries.{Entry, size, total, before, from}
-use Rattle.journal.proofs.Chains.{size-pos, total-append}
+use Rattle.header.specs.Entry.{Entry, size}
+use Rattle.journal.specs.Entries.{total, before, from}
+use Rattle.header.proofs.Single.{size-pos}
+use Rattle.journal.proofs.Chains.{total-append}
 
 pub cons-inj : (e f : Entry) (es fs : List Entry) → e ∷ es ≡ f ∷ fs → (e ≡ f) × (es ≡ fs)
 cons-inj e f es fs q = (cc, cc)

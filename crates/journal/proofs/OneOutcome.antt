@@ -4,7 +4,6 @@ use mathlib.Core.Path.{_≡_, sym, _∙_}
 use mathlib.Core.List.{List}
 use Prim.Native.Nat.{ℕ}
 use Rattle.journal.specs.Chain.{freshLedger}
-use Rattle.journal.specs.Room.{todaysShares}
 use Rattle.journal.specs.Verdicts.{judgeOf}
 use Rattle.journal.specs.Storage.{Stored}
 use Rattle.journal.specs.Removal.{TakenFrom}
@@ -13,12 +12,9 @@ use Rattle.journal.specs.declared.Verdict.{Verdict}
 use Rattle.journal.specs.declared.Storing.{Storing}
 use Rattle.journal.specs.declared.Taking.{Taking}
 
--- `Ledger::fresh` and `shares`
+-- `Ledger::fresh`
 pub fresh-once : {r q : Ledger} → r ≡ freshLedger → q ≡ freshLedger → r ≡ q
 fresh-once a b = a ∙ sym b
-
-pub shares-once : {r q : List ℕ} → r ≡ todaysShares → q ≡ todaysShares → r ≡ q
-shares-once a b = a ∙ sym b
 
 -- `judge`
 pub judged-once : (d : Ledger) (sh : List ℕ) (l n : ℕ) (j : List ℕ) {r q : Verdict} → r ≡ judgeOf d sh l n j → q ≡ judgeOf d sh l n j → r ≡ q

@@ -1,6 +1,6 @@
 -- Storing: what the code did is what the definition says.
 -- Assumes nothing.
-use mathlib.Core.Path.{_≡_, refl, ap, _∙_}
+use mathlib.Core.Path.{_≡_, refl, sym, ap, _∙_}
 use mathlib.Core.List.{List}
 use mathlib.Core.Bool.{Bool, true, false, cond}
 use Prim.Native.Nat.{ℕ, _+_, _%_, _<_, _≤_}
@@ -9,18 +9,18 @@ use lib.ListN.{length, getD, set}
 use Rattle.memory.specs.Sizes.{lines}
 use Rattle.memory.specs.Parts.{splice}
 use Rattle.memory.specs.Moves.{Copied}
-use Rattle.memory.specs.Fields.{unpack, octets, longestField, FieldWritten}
+use Rattle.memory.specs.Fields.{FieldWritten}
 use Rattle.memory.proofs.Parts.{length-splice, splice-join}
 use Rattle.memory.proofs.Moves.{copied-fits}
-use Rattle.memory.proofs.Octets.{written-fits}
-use Rattle.journal.specs.Header.{serialCount, headSize, entrySize, headNumber, header}
-use Rattle.journal.specs.Entries.{encode}
+use Rattle.header.specs.Header.{serialCount, headSize, entrySize, headNumber, header}
+use Rattle.header.specs.Entry.{encode}
 use Rattle.journal.specs.Answers.{isFits}
 use Rattle.journal.specs.Verdicts.{judgeOf}
 use Rattle.journal.specs.Storage.{grown, appended, afterStoring, storeOf, Stored, Ready, Appended}
 use Rattle.journal.specs.declared.Ledger.{Ledger}
 use Rattle.journal.specs.declared.Verdict.{Verdict}
-use Rattle.journal.proofs.Heads.{head-size-high, head-number-below, length-header}
+use Rattle.header.proofs.Heads.{length-header}
+use Rattle.header.proofs.Single.{head-written}
 use Rattle.journal.proofs.Wholes.{kept, used-below}
 use Rattle.journal.proofs.Judged.{fits-facts, fits-journal}
 
@@ -35,19 +35,17 @@ grown-is d l n m k s e f q = rw (e, f, q)
 pub two-writes : (d : Ledger) (l : ℕ) (t j : List ℕ) (at h n : ℕ) (r₁ r₂ : Bool) (j₁ j₂ : List ℕ) → Ready d l t j → getD (d .serials) l 0 < serialCount
     → h ≡ headSize (length t) → n ≡ headNumber l (length t) (getD (d .serials) l 0) → at ≡ d .in_use + h
     → FieldWritten j (d .in_use) h n r₁ j₁ → Copied j₁ at t r₂ j₂ → j₂ ≡ appended d l t j
-unfolding appended encode header
-two-writes d l t j at h n r₁ r₂ j₁ j₂ y s hs ns bs w₁ w₂ =
+unfolding appended encode
+two-writes d l t j at h n r₁ r₂ j₁ j₂ y q hs ns bs w₁ w₂ =
     let k = length t in
-    let head = unpack (octets h) n in
-    let long : length (unpack (octets h) n) ≡ h = rw (hs, ns) (length-header l k (getD (d .serials) l 0)) in
-    let high : h ≤ longestField = rw hs (head-size-high k) in
-    let below = rw (← hs, ← ns) at (head-number-below l k (getD (d .serials) l 0) (y .line) (y .most) s) in
+    let s = getD (d .serials) l 0 in
+    let long : length (header l k s) ≡ h = length-header l k s ∙ sym hs in
     let room : d .in_use + h + k ≤ length j = omega (arith, y .room) in
-    let is₁ : j₁ ≡ splice j (d .in_use) (unpack (octets h) n) = written-fits j (d .in_use) h n w₁ high (omega arith) below .1 in
-    let long₁ : length j₁ ≡ length j = ap length is₁ ∙ length-splice j (d .in_use) (unpack (octets h) n) (omega arith) in
+    let is₁ : j₁ ≡ splice j (d .in_use) (header l k s) = head-written l k s (y .line) (y .most) q j (d .in_use) h n hs ns (omega arith) w₁ in
+    let long₁ : length j₁ ≡ length j = ap length is₁ ∙ length-splice j (d .in_use) (header l k s) (omega arith) in
     let is₂ : j₂ ≡ splice j₁ at t = copied-fits j₁ at t w₂ (omega arith) .1 in
-    let behind : at ≡ d .in_use + length (unpack (octets h) n) = omega arith in
-    is₂ ∙ rw (is₁, behind, splice-join j (d .in_use) (unpack (octets h) n) t (omega arith), hs, ns)
+    let behind : at ≡ d .in_use + length (header l k s) = omega arith in
+    is₂ ∙ rw (is₁, behind, splice-join j (d .in_use) (header l k s) t (omega arith))
 
 -- ---- the verdict and what follows it
 

@@ -15,16 +15,18 @@ use Rattle.memory.specs.Parts.{part, splice}
 use Rattle.memory.specs.Moves.{Copied, ClosedUp}
 use Rattle.memory.proofs.Parts.{drop-take}
 use Rattle.memory.proofs.Moves.{copied-fits, closed-fits}
-use Rattle.journal.specs.Header.{headSize, entrySize, headOf}
-use Rattle.journal.specs.Entries.{Entry, size, sizes, first, firstHead, entries, before, from}
+use Rattle.header.specs.Header.{headSize, entrySize, headOf}
+use Rattle.header.specs.Entry.{Entry, size, first, firstHead}
+use Rattle.journal.specs.Entries.{sizes, entries, before, from}
 use Rattle.journal.specs.Chain.{chain, isSome}
 use Rattle.journal.specs.Removal.{shrunk, without, takeAt, takeOf, rest, Stands, TakenAt, TakenFrom}
-use Rattle.journal.specs.declared.header.Header.{Header}
+use Rattle.header.specs.declared.Header.{Header}
 use Rattle.journal.specs.declared.Ledger.{Ledger}
 use Rattle.journal.specs.declared.Taking.{Taking}
 use Rattle.journal.specs.declared.Took.the-variants.{Taken, NothingWaiting, BufferShort, BrokenJournal, NoSuchLine, WrongSize}
-use Rattle.journal.proofs.Starts.{starts-facts}
-use Rattle.journal.proofs.Chains.{size-pos, size-first, text-first, first-is, sizes-append}
+use Rattle.header.proofs.Starts.{starts-facts}
+use Rattle.header.proofs.Single.{size-pos, size-first, text-first, first-is}
+use Rattle.journal.proofs.Chains.{sizes-append}
 use Rattle.journal.proofs.Oldest.{before-from, total-oldest}
 use Rattle.journal.proofs.Inside.{entries-cons, entries-drop}
 use Rattle.journal.proofs.Wholes.{Kept}

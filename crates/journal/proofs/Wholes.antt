@@ -13,7 +13,8 @@ use lib.Seq.{length-take-le}
 use borrow.Author.Tests.{le-leb, lt-leb, leb-true, eq-eqb, eqb-true}
 use Rattle.memory.specs.Sizes.{lines}
 use Rattle.memory.proofs.Tests.{and-left, and-right}
-use Rattle.journal.specs.Entries.{Entry, entries, sizes, total}
+use Rattle.header.specs.Entry.{Entry}
+use Rattle.journal.specs.Entries.{entries, sizes, total}
 use Rattle.journal.specs.Chain.{every, agree, counted, chain, isSome, Walked, Seen}
 use Rattle.journal.specs.declared.Ledger.{Ledger}
 use Rattle.journal.proofs.Chains.{some-inj, no-some, total-le}

@@ -8,7 +8,8 @@ use mathlib.Core.Option.{Option, none, some}
 use lib.ListN.{length, take, getD, replicate}
 use lib.Dec.{leb, eqb}
 use Rattle.memory.specs.Sizes.{lines}
-use Rattle.journal.specs.Entries.{Entry, entries, sizes, total, before}
+use Rattle.header.specs.Entry.{Entry}
+use Rattle.journal.specs.Entries.{entries, sizes, total, before}
 use Rattle.journal.specs.declared.Ledger.{Ledger}
 
 -- no entries, and every line's next serial is 0

@@ -1,10 +1,6 @@
-pub mod Header
 pub mod Entries
 pub mod Chain
-pub mod Room
 pub mod Answers
 pub mod Verdicts
 pub mod Storage
 pub mod Removal
-pub mod Held
-pub mod Runs

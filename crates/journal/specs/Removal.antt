@@ -11,7 +11,8 @@ use Rattle.memory.specs.Sizes.{lines, journalSize}
 use Rattle.memory.specs.Parts.{splice}
 use Rattle.memory.specs.Moves.{later}
 use Rattle.memory.specs.Tests.{unless}
-use Rattle.journal.specs.Entries.{Entry, starts, first, size, sizes, before, from}
+use Rattle.header.specs.Entry.{Entry, starts, first, size}
+use Rattle.journal.specs.Entries.{sizes, before, from}
 use Rattle.journal.specs.Chain.{chain}
 use Rattle.journal.specs.declared.Ledger.{Ledger}
 use Rattle.journal.specs.declared.Taking.{Taking}

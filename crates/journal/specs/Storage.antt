@@ -7,9 +7,9 @@ use mathlib.Core.List.{List}
 use lib.ListN.{length, getD, set}
 use Rattle.memory.specs.Sizes.{lines, messageLimit, journalSize}
 use Rattle.memory.specs.Parts.{splice}
-use Rattle.journal.specs.Header.{serialCount, entrySize}
-use Rattle.journal.specs.Entries.{Entry, encode}
-use Rattle.journal.specs.Room.{raised}
+use Rattle.header.specs.Header.{serialCount, entrySize}
+use Rattle.header.specs.Entry.{Entry, encode}
+use Rattle.room.specs.Room.{raised}
 use Rattle.journal.specs.Answers.{isFits}
 use Rattle.journal.specs.Verdicts.{judgeOf}
 use Rattle.journal.specs.declared.Ledger.{Ledger}

@@ -6,10 +6,10 @@ use lib.ListN.{length}
 use lib.Dec.{ltb, eqb}
 use Rattle.memory.specs.Sizes.{lines, journalSize}
 use Rattle.memory.specs.Tests.{unless}
-use Rattle.journal.specs.Header.{entrySize}
-use Rattle.journal.specs.Entries.{isText}
+use Rattle.header.specs.Header.{entrySize}
+use Rattle.header.specs.Entry.{isText}
 use Rattle.journal.specs.Chain.{chain, isSome}
-use Rattle.journal.specs.Room.{fits, raised}
+use Rattle.room.specs.Room.{fits, raised}
 use Rattle.journal.specs.declared.Ledger.{Ledger}
 use Rattle.journal.specs.declared.Verdict.{Verdict}
 use Rattle.journal.specs.declared.Verdict.the-variants.{Fits, NoRoom, Broken, NoLine, OtherSize, NoText}

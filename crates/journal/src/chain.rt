@@ -21,8 +21,8 @@ fn walk(s: &[u8], line: usize) -> Sums
     let mut sums = [0u32; 8];
     let mut oldest = 0;
     let mut at = 0;
-    while crate::header::LEAST_HEAD <= s.len() - at {
-        let h = crate::header::entry_at(&s[at..]);
+    while header::LEAST_HEAD <= s.len() - at {
+        let h = header::entry_at(&s[at..]);
         let count = h.count;
         if count == 0 {
             return Sums {
@@ -32,7 +32,7 @@ fn walk(s: &[u8], line: usize) -> Sums
             };
         }
         let owner = h.line;
-        let size = crate::header::entry_size(count);
+        let size = header::entry_size(count);
         sums[owner] += size as u32;
         at += size;
         if sums[line] == 0 {

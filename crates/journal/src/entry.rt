@@ -8,21 +8,16 @@ pub fn append(ledger: crate::Ledger, line: usize, text: &[u8], journal: &mut [u8
     requires { ⌜ Ready ledger line (now text) (now journal) ⌝ }
     ensures { λ r. ⌜ Appended ledger line (now (text .entry)) (now (journal .entry)) r (now (journal .exit)) ⌝ }
 {
-    let count = text.len();
-    let size = crate::header::entry_size(count);
-    let head = crate::header::head_size(count);
+    let count = text.len() as u16;
+    let size = header::entry_size(count);
+    let head = header::head_size(count);
     let at = ledger.in_use;
     let mut used = ledger.used;
     used[line] += size as u32;
     let mut serials = ledger.serials;
     let serial = serials[line];
     serials[line] = std::num::wrapping_add_u16(serial, 1);
-    memory::write_field(
-        journal,
-        at,
-        head,
-        crate::header::number(line, count, serial),
-    );
+    memory::write_field(journal, at, head, header::number(line as u8, count, serial));
     memory::copy_at(journal, at + head, text);
     crate::Ledger {
         in_use: at + size,
@@ -43,20 +38,20 @@ pub fn take_at(
     ensures { λ r. ⌜ TakenAt ledger line at (now (journal .entry)) (now (buffer .entry)) r (now (journal .exit)) (now (buffer .exit)) ⌝ }
 {
     let in_use = ledger.in_use;
-    let h = crate::header::entry_at(&journal[at..in_use]);
-    let count = h.count;
+    let h = header::entry_at(&journal[at..in_use]);
+    let count = h.count as usize;
     if buffer.len() < count {
         return crate::Taking {
             ledger,
             answer: crate::Took::BufferShort,
         };
     }
-    let head = crate::header::head_size(count);
+    let head = header::head_size(h.count);
     let start = at + head;
     let end = start + count;
     memory::copy(buffer, &journal[start..end]);
     memory::close_up(journal, at, head + count, in_use); // the header goes with its text
-    let size = crate::header::entry_size(count);
+    let size = header::entry_size(h.count);
     let mut used = ledger.used;
     used[line] -= size as u32;
     let serials = ledger.serials;

@@ -2,7 +2,6 @@
 // Every public function is total: what it cannot do it answers, and then it changes nothing.
 ghost use mathlib.Core.Path.{_≡_};
 ghost use Rattle.journal.specs.Chain.{freshLedger};
-ghost use Rattle.journal.specs.Room.{todaysShares};
 ghost use Rattle.journal.specs.Answers.{isFits};
 ghost use Rattle.journal.specs.Verdicts.{judgeOf};
 ghost use Rattle.journal.specs.Storage.{Stored};
@@ -10,8 +9,6 @@ ghost use Rattle.journal.specs.Removal.{TakenFrom};
 
 mod chain;
 mod entry;
-mod header;
-mod room;
 
 // What is known of the journal's bytes: how many are in use, and each line's used count and next serial.
 pub struct Ledger {
@@ -30,15 +27,6 @@ impl Ledger {
             serials: [0u16; 8],
         }
     }
-}
-
-// The bytes that are guaranteed to a line today.
-pub const SHARE: u16 = 2048;
-
-pub fn shares() -> [u16; 8]
-    ensures { λ r. ⌜ r ≡ todaysShares ⌝ }
-{
-    [SHARE; 8]
 }
 
 // Document 01's 4, 31, 43, 40, 41 and 46.
@@ -93,7 +81,7 @@ pub fn judge(ledger: Ledger, shares: [u16; 8], line: u8, length: usize, journal:
         return Verdict::Broken;
     }
     let mut used = ledger.used;
-    used[l] += header::entry_size(length) as u32;
+    used[l] += header::entry_size(length as u16) as u32;
     if !room::has_room(used, shares) {
         return Verdict::NoRoom;
     }

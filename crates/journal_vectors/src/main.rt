@@ -94,7 +94,7 @@ fn store(state: State, line: u8, n: usize, at: usize, bytes: &mut [u8], text: &[
     let end_at = at + n;
     let stored = journal::store(
         ledger,
-        journal::shares(),
+        room::shares(),
         line,
         &text[at..end_at],
         &mut bytes[..lent],
@@ -117,7 +117,7 @@ fn judge(state: State, line: u8, n: usize, bytes: &[u8]) -> State {
     if bytes.len() < lent {
         return state;
     }
-    let verdict = journal::judge(ledger, journal::shares(), line, n, &bytes[..lent]);
+    let verdict = journal::judge(ledger, room::shares(), line, n, &bytes[..lent]);
     heading(b'J', line as u64, n as u64);
     word(number(verdict));
     ledger_left(ledger, line, bytes);

@@ -12,10 +12,10 @@ use Rattle.memory.specs.Sizes.{lines, journalSize}
 use Rattle.memory.specs.Tests.{unless}
 use Rattle.record.specs.Delimiters.{standard}
 use Rattle.record.specs.Faults.{isMessage}
-use Rattle.journal.specs.Header.{headSize}
-use Rattle.journal.specs.Entries.{Entry, sizes, before, from}
+use Rattle.header.specs.Entry.{Entry}
+use Rattle.journal.specs.Entries.{sizes, before, from}
 use Rattle.journal.specs.Chain.{chain}
-use Rattle.journal.specs.Room.{todaysShares}
+use Rattle.room.specs.Room.{todaysShares}
 use Rattle.journal.specs.Storage.{grown}
 use Rattle.journal.specs.Removal.{AfterTaking, shrunk, takeAt, takeOldest, takeFrom, takeOf}
 use Rattle.journal.specs.Answers.{isFits}
@@ -23,6 +23,7 @@ use Rattle.journal.specs.Verdicts.{judgeOf}
 use Rattle.journal.specs.declared.Ledger.{Ledger}
 use Rattle.journal.specs.declared.Verdict.{Verdict as Judgement}
 use Rattle.journal.specs.declared.Verdict.the-variants.{Fits, NoRoom as Full, Broken as Damaged, NoLine as Nowhere, OtherSize, NoText}
+use Rattle.header.proofs.Heads.{head-size-high}
 use Rattle.journal.proofs.Judged.{fits-facts}
 use Rattle.journal.proofs.Wholes.{kept}
 use Rattle.line.specs.Line.{withinLimits}
@@ -47,11 +48,11 @@ either false a b p q = p
 module _ (d : Ledger) (i : ℕ) (j : List ℕ) (w : Narrow d) where
   -- an entry that fits leaves fewer bytes in use than the journal and one entry have
   grown-narrow : (n : ℕ) → isFits (judgeOf d todaysShares i n j) ≡ true → Narrow (grown d i n)
-  unfolding grown headSize
+  unfolding grown
   grown-narrow n q =
       let f = fits-facts d todaysShares i n j q in
       let k = kept d j (f .whole) in
-      omega (arith, k .whole .room, f .long, f .high)
+      omega (arith, k .whole .room, f .long, f .high, head-size-high n)
 
   module _ (text : ℕ → List ℕ) (n : ℕ) where
     room-narrow : (q : Judgement) → judgeOf d todaysShares i (length (text n)) j ≡ q → Narrow (ledgerAfter (roomVerdict q n) d i text)

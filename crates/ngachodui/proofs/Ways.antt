@@ -11,7 +11,7 @@ use Rattle.memory.specs.Sizes.{lines}
 use Rattle.memory.specs.Tests.{is}
 use Rattle.memory.proofs.Tests.{and-left, and-right}
 use Rattle.frame.specs.Control.{lf}
-use Rattle.journal.specs.Room.{todaysShares}
+use Rattle.room.specs.Room.{todaysShares}
 use Rattle.line.specs.Line.{mostCollected}
 use Rattle.line.specs.declared.Answer.{Answer}
 use Rattle.line.specs.declared.Answer.the-variants.{Nothing, NoLine, WrongSize, BeyondLimits}

@@ -7,7 +7,7 @@ use lib.ListN.{replicate}
 use lib.Dec.{ltb}
 use Rattle.memory.specs.Sizes.{lines}
 use Rattle.memory.specs.Tests.{unless}
-use Rattle.journal.specs.Room.{todaysShares}
+use Rattle.room.specs.Room.{todaysShares}
 use Rattle.journal.specs.Removal.{AfterTaking, takeOf}
 use Rattle.line.specs.declared.Line.{Line}
 use Rattle.line.specs.declared.Answer.{Answer}

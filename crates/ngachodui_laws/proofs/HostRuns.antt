@@ -8,7 +8,7 @@ use lib.Dec.{ltb, eqb}
 use Rattle.memory.specs.Sizes.{lines}
 use Rattle.memory.specs.Tests.{unless}
 use Rattle.memory.proofs.Tests.{clash}
-use Rattle.journal.specs.Room.{todaysShares}
+use Rattle.room.specs.Room.{todaysShares}
 use Rattle.line.specs.Paper.{numberOf, valuesOf}
 use Rattle.line.specs.declared.Answer.{Answer}
 use Rattle.line.specs.declared.Answer.the-variants.{NoLine}

@@ -11,7 +11,7 @@ use lib.Dec.{ltb}
 use lib.ListN.{length, replicate}
 use Rattle.memory.specs.Sizes.{lines}
 use Rattle.memory.specs.Tests.{unless}
-use Rattle.journal.specs.Room.{todaysShares}
+use Rattle.room.specs.Room.{todaysShares}
 use Rattle.journal.specs.Removal.{AfterTaking, takeOf as takeEntry}
 use Rattle.journal.specs.declared.Took.{Took}
 use Rattle.journal.specs.declared.Took.the-variants.{Taken as Got, NothingWaiting, BufferShort, BrokenJournal, NoSuchLine, WrongSize as OtherSize}

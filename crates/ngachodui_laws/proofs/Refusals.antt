@@ -10,7 +10,7 @@ use lib.Dec.{ltb}
 use Rattle.memory.specs.Sizes.{lines}
 use Rattle.memory.specs.Tests.{unless}
 use Rattle.memory.proofs.Tests.{clash}
-use Rattle.journal.specs.Room.{todaysShares}
+use Rattle.room.specs.Room.{todaysShares}
 use Rattle.journal.specs.Removal.{takeOf as takeEntry}
 use Rattle.line.specs.Paper.{numberOf}
 use Rattle.line.specs.declared.Answer.{Answer}

@@ -9,12 +9,13 @@ use native.Mathlib.Omega.{arith}
 use lib.Dec.{eqb}
 use lib.ListN.{length, getD}
 use Rattle.memory.specs.Sizes.{lines}
-use Rattle.journal.specs.Header.{entrySize}
-use Rattle.journal.specs.Entries.{Entry, size, total}
-use Rattle.journal.specs.Room.{raised}
-use Rattle.journal.specs.Runs.{Numbered, numbered, only, texts, waiting}
-use Rattle.journal.proofs.Guarantees.{today-reaches, today-no-more}
-use Rattle.journal.proofs.Totals.{raised-own, raised-other}
+use Rattle.header.specs.Header.{entrySize}
+use Rattle.header.specs.Entry.{Entry, size}
+use Rattle.journal.specs.Entries.{total}
+use Rattle.room.specs.Room.{raised}
+use Rattle.journal_laws.specs.Runs.{Numbered, numbered, only, texts, waiting}
+use Rattle.journal_laws.proofs.Guarantees.{today-reaches, today-no-more}
+use Rattle.room.proofs.Totals.{raised-own, raised-other}
 use Rattle.journal.proofs.Wholes.{whole-facts}
 use Rattle.gateway.specs.Events.{Memory}
 use Rattle.gateway.specs.declared.Kind.{Kind}

@@ -12,10 +12,10 @@ use Rattle.memory.proofs.Tests.{clash}
 use Rattle.record.specs.Delimiters.{standard}
 use Rattle.record.specs.Faults.{isMessage}
 use Rattle.record.proofs.Messages.{message-some, message-short}
-use Rattle.journal.specs.Room.{todaysShares}
-use Rattle.journal.specs.Runs.{State as Store}
+use Rattle.room.specs.Room.{todaysShares}
+use Rattle.journal_laws.specs.Runs.{State as Store}
 use Rattle.journal.specs.declared.Verdict.the-variants.{Fits, NoRoom as Full}
-use Rattle.journal.proofs.Cases.{held-judged}
+use Rattle.journal_laws.proofs.Cases.{held-judged}
 use Rattle.line.specs.Paper.{numberOf, replyOf}
 use Rattle.line.specs.declared.Line.{Line}
 use Rattle.line.specs.declared.Answer.{Answer}

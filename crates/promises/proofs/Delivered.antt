@@ -28,7 +28,7 @@ use Rattle.line.specs.Turn.{isLast}
 use Rattle.line.specs.declared.Line.{Line}
 use Rattle.line.specs.declared.State.the-variants.{Waiting}
 use Rattle.line.specs.declared.Answer.the-variants.{Accepted}
-use Rattle.journal.specs.Runs.{State as Store}
+use Rattle.journal_laws.specs.Runs.{State as Store}
 use Rattle.gateway.specs.Looks.{endLook}
 use Rattle.gateway.specs.declared.Look.the-variants.{Done}
 use Rattle.gateway.specs.declared.Verdict.the-variants.{Accepts}

@@ -12,8 +12,8 @@ use Rattle.record.specs.Kinds.{kindOf, typeOf, mayFollow}
 use Rattle.record.specs.Numbers.{numberOf}
 use Rattle.cutting.specs.Frames.{cutOf}
 use Rattle.cutting.specs.Pieces.{piecesOf}
-use Rattle.journal.specs.Header.{headSize}
-use Rattle.journal.specs.Room.{claims}
+use Rattle.header.specs.Header.{headSize}
+use Rattle.room.specs.Room.{claims}
 use Rattle.journal.specs.Storage.{grown}
 use Rattle.promises.specs.Examples.{Example, examples}
 

@@ -14,15 +14,15 @@ use lib.Dec.{eqb}
 use lib.ListN.{length, getD, set}
 use lib.Seq.{getD-set-other}
 use Rattle.memory.specs.Sizes.{lines}
-use Rattle.journal.specs.Entries.{Entry, size}
-use Rattle.journal.specs.Room.{todaysShares}
+use Rattle.header.specs.Entry.{Entry, size}
+use Rattle.room.specs.Room.{todaysShares}
 use Rattle.journal.specs.Answers.{isFits}
 use Rattle.journal.specs.Storage.{AfterStoring}
 use Rattle.journal.specs.Removal.{AfterTaking, shrunk}
-use Rattle.journal.specs.Held.{Held}
-use Rattle.journal.specs.Runs.{Operation, put, get, State as Store, next, goesIn}
-use Rattle.journal.proofs.Cases.{Stores, Stays, Gives, Keeps, store-cases, take-cases}
-use Rattle.journal.proofs.Totals.{lowered-own}
+use Rattle.journal_laws.specs.Held.{Held}
+use Rattle.journal_laws.specs.Runs.{Operation, put, get, State as Store, next, goesIn}
+use Rattle.journal_laws.proofs.Cases.{Stores, Stays, Gives, Keeps, store-cases, take-cases}
+use Rattle.room.proofs.Totals.{lowered-own}
 use Rattle.serial.specs.Serial.{taking, final, Every}
 use Rattle.promises.specs.Machine.{State, GatewayItem, step, storeOf, Sound, May}
 use Rattle.promises.specs.Runs.{usedBy}

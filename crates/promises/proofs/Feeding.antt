@@ -28,8 +28,8 @@ use Rattle.line.specs.Turn.{isLast, turnOf}
 use Rattle.line.specs.declared.Line.{Line}
 use Rattle.line.specs.declared.State.the-variants.{Waiting, Inside}
 use Rattle.line.specs.declared.Answer.the-variants.{Nothing}
-use Rattle.journal.specs.Room.{todaysShares}
-use Rattle.journal.specs.Runs.{State as Store}
+use Rattle.room.specs.Room.{todaysShares}
+use Rattle.journal_laws.specs.Runs.{State as Store}
 use Rattle.gateway.specs.Looks.{waitingLook, insideLook, byteLook, frameLook, endLook, lookOf}
 use Rattle.gateway.specs.Verdicts.{decided, ownWork}
 use Rattle.gateway.specs.declared.Kind.the-variants.{Byte}

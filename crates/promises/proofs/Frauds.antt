@@ -15,10 +15,10 @@ use Rattle.record.specs.Delimiters.{standard}
 use Rattle.record.specs.Faults.{isMessage}
 use Rattle.cutting.specs.Frames.{cutOf}
 use Rattle.cutting.specs.Pieces.{piecesOf}
-use Rattle.journal.specs.Header.{headSize}
-use Rattle.journal.specs.Entries.{Entry}
-use Rattle.journal.specs.Room.{todaysShares, claims}
-use Rattle.journal.specs.Held.{Held}
+use Rattle.header.specs.Header.{headSize}
+use Rattle.header.specs.Entry.{Entry}
+use Rattle.room.specs.Room.{todaysShares, claims}
+use Rattle.journal_laws.specs.Held.{Held}
 use Rattle.journal.specs.declared.Ledger.{Ledger}
 use Rattle.line.specs.Paper.{enq, valuesOf, replyOf}
 use Rattle.line.specs.declared.Answer.{Answer}

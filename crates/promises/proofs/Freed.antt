@@ -13,16 +13,16 @@ use borrow.Author.Tests.{le-leb}
 use lib.Dec.{eqb}
 use lib.ListN.{length, getD, getD-replicate, set, length-set}
 use Rattle.memory.specs.Sizes.{lines, journalSize}
-use Rattle.journal.specs.Header.{entrySize}
-use Rattle.journal.specs.Entries.{size}
-use Rattle.journal.specs.Room.{share, todaysShares, claims, raised}
+use Rattle.header.specs.Header.{entrySize}
+use Rattle.header.specs.Entry.{size}
+use Rattle.room.specs.Room.{share, todaysShares, claims, raised}
 use Rattle.journal.specs.Removal.{AfterTaking, shrunk, takeOf as takeEntry}
-use Rattle.journal.specs.Runs.{Numbered, given}
+use Rattle.journal_laws.specs.Runs.{Numbered, given}
 use Rattle.journal.specs.declared.Took.{Took}
 use Rattle.journal.specs.declared.Took.the-variants.{Taken, NothingWaiting, BufferShort, BrokenJournal, NoSuchLine, WrongSize}
-use Rattle.journal.proofs.Cases.{Gives, Keeps, take-cases}
+use Rattle.journal_laws.proofs.Cases.{Gives, Keeps, take-cases}
 use Rattle.journal.proofs.Oldest.{total-oldest}
-use Rattle.journal.proofs.Totals.{raised-own, raised-other, lowered-own, lowered-other, claims-le, claims-lowered, claims-raised-le}
+use Rattle.room.proofs.Totals.{raised-own, raised-other, lowered-own, lowered-other, claims-le, claims-lowered, claims-raised-le}
 use Rattle.journal.proofs.Wholes.{whole-facts}
 use Rattle.line.specs.Paper.{valuesOf}
 use Rattle.line.specs.declared.Answer.{Answer}

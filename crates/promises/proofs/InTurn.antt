@@ -11,13 +11,14 @@ use Rattle.memory.specs.Sizes.{lines, frameLimit}
 use Rattle.memory.specs.Parts.{splice}
 use Rattle.record.specs.Delimiters.{standard}
 use Rattle.record.specs.Faults.{isMessage}
-use Rattle.journal.specs.Entries.{Entry, from}
-use Rattle.journal.specs.Room.{todaysShares}
+use Rattle.header.specs.Entry.{Entry}
+use Rattle.journal.specs.Entries.{from}
+use Rattle.room.specs.Room.{todaysShares}
 use Rattle.journal.specs.Removal.{AfterTaking}
-use Rattle.journal.specs.Held.{Held}
-use Rattle.journal.specs.Runs.{State as Store, Numbered, numbered, only, texts, waiting, allIn, allOut}
-use Rattle.journal.proofs.Cases.{take-gives}
-use Rattle.journal.proofs.Queue.{only-append, texts-append, only-from, taken-own, runs as journal-runs}
+use Rattle.journal_laws.specs.Held.{Held}
+use Rattle.journal_laws.specs.Runs.{State as Store, Numbered, numbered, only, texts, waiting, allIn, allOut}
+use Rattle.journal_laws.proofs.Cases.{take-gives}
+use Rattle.journal_laws.proofs.Queue.{only-append, texts-append, only-from, taken-own, runs as journal-runs}
 use Rattle.line.specs.Line.{freshLine}
 use Rattle.line.specs.declared.Answer.the-variants.{Taken}
 use Rattle.gateway.specs.Events.{lineAt, tookAnswer, takeOf}

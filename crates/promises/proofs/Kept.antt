@@ -12,14 +12,14 @@ use lib.Seq.{getD-set-other, getD-set-same}
 use Rattle.memory.specs.Sizes.{lines}
 use Rattle.record.specs.Delimiters.{standard}
 use Rattle.record.proofs.Messages.{message-some, message-short}
-use Rattle.journal.specs.Entries.{Entry}
-use Rattle.journal.specs.Room.{todaysShares}
-use Rattle.journal.specs.Held.{Held}
-use Rattle.journal.specs.Runs.{State as Store}
+use Rattle.header.specs.Entry.{Entry}
+use Rattle.room.specs.Room.{todaysShares}
+use Rattle.journal_laws.specs.Held.{Held}
+use Rattle.journal_laws.specs.Runs.{State as Store}
 use Rattle.journal.specs.Removal.{AfterTaking, takeOf as takeEntry}
-use Rattle.journal.proofs.Cases.{Gives, Keeps, take-cases}
-use Rattle.journal.proofs.Guarantees.{fresh-today}
-use Rattle.journal.proofs.Keeps.{store-held}
+use Rattle.journal_laws.proofs.Cases.{Gives, Keeps, take-cases}
+use Rattle.journal_laws.proofs.Guarantees.{fresh-today}
+use Rattle.journal_laws.proofs.Keeps.{store-held}
 use Rattle.line.specs.Line.{withinLimits, freshLine}
 use Rattle.line.proofs.Limits.{within-facts, within-of, fresh-within}
 use Rattle.gateway.specs.Settled.{lineAfter}

@@ -13,16 +13,16 @@ use Rattle.record.specs.Delimiters.{standard}
 use Rattle.record.specs.Faults.{isMessage}
 use Rattle.record.proofs.Messages.{message-some, message-short}
 use Rattle.journal.specs.Answers.{isFits}
-use Rattle.journal.specs.Room.{todaysShares}
+use Rattle.room.specs.Room.{todaysShares}
 use Rattle.journal.specs.Storage.{grown, appended, AfterStoring, afterStoring, storeOf as storeEntry}
 use Rattle.journal.specs.Removal.{takeOf as takeEntry}
-use Rattle.journal.specs.Held.{Held}
-use Rattle.journal.specs.Runs.{Operation, put, get, State as Store, Numbered, numbered, waiting, given, next, after, goesIn, comesOut, allIn, allOut}
+use Rattle.journal_laws.specs.Held.{Held}
+use Rattle.journal_laws.specs.Runs.{Operation, put, get, State as Store, Numbered, numbered, waiting, given, next, after, goesIn, comesOut, allIn, allOut}
 use Rattle.journal.specs.declared.Took.{Took}
 use Rattle.journal.specs.declared.Took.the-variants.{Taken, NothingWaiting, BufferShort, BrokenJournal, NoSuchLine, WrongSize}
 use Rattle.journal.specs.declared.Verdict.the-variants.{Fits}
-use Rattle.journal.proofs.Cases.{store-fits}
-use Rattle.journal.proofs.Queue.{fresh-runs}
+use Rattle.journal_laws.proofs.Cases.{store-fits}
+use Rattle.journal_laws.proofs.Queue.{fresh-runs}
 use Rattle.gateway.specs.Events.{Memory, tookAnswer, takeOf}
 use Rattle.gateway.specs.declared.Kind.{Kind}
 use Rattle.serial.specs.Serial.{event, taking, final, Every}

@@ -12,14 +12,14 @@ use lib.ListN.{length, getD, length-set}
 use Rattle.memory.specs.Sizes.{lines, journalSize}
 use Rattle.record.specs.Delimiters.{standard}
 use Rattle.record.proofs.Messages.{message-some, message-short}
-use Rattle.journal.specs.Header.{entrySize}
-use Rattle.journal.specs.Entries.{Entry}
-use Rattle.journal.specs.Room.{claims, fits, raised, todaysShares}
+use Rattle.header.specs.Header.{entrySize}
+use Rattle.header.specs.Entry.{Entry}
+use Rattle.room.specs.Room.{claims, fits, raised, todaysShares}
 use Rattle.journal.specs.Storage.{newEntry, grown}
-use Rattle.journal.specs.Held.{Held}
-use Rattle.journal.specs.Runs.{State as Store}
-use Rattle.journal.proofs.Totals.{raised-own, raised-other, claims-le}
-use Rattle.journal.proofs.Keeps.{store-held}
+use Rattle.journal_laws.specs.Held.{Held}
+use Rattle.journal_laws.specs.Runs.{State as Store}
+use Rattle.room.proofs.Totals.{raised-own, raised-other, claims-le}
+use Rattle.journal_laws.proofs.Keeps.{store-held}
 use Rattle.promises.specs.Machine.{State, Sound}
 use Rattle.promises.specs.Came.{storedIn}
 use Rattle.promises.specs.Sending.{newEntries, Messages, sizesOf, HasRoom, Intact}

@@ -12,14 +12,14 @@ use lib.Dec.{eqb}
 use lib.ListN.{length, getD, getD-replicate}
 use Rattle.memory.specs.Sizes.{lines, journalSize}
 use Rattle.memory.proofs.Tests.{never-both}
-use Rattle.journal.specs.Header.{entrySize}
-use Rattle.journal.specs.Room.{share, todaysShares, claims, raised}
+use Rattle.header.specs.Header.{entrySize}
+use Rattle.room.specs.Room.{share, todaysShares, claims, raised}
 use Rattle.journal.specs.Removal.{AfterTaking, takeOf as takeEntry}
 use Rattle.journal.specs.Answers.{tookPaper}
 use Rattle.journal.specs.declared.Took.{Took}
 use Rattle.journal.specs.declared.Took.the-variants.{Taken, NothingWaiting, BufferShort, BrokenJournal, NoSuchLine, WrongSize}
-use Rattle.journal.proofs.Cases.{Gives, Keeps, take-cases}
-use Rattle.journal.proofs.Totals.{claims-own-share}
+use Rattle.journal_laws.proofs.Cases.{Gives, Keeps, take-cases}
+use Rattle.room.proofs.Totals.{claims-own-share}
 use Rattle.line.specs.Paper.{numberOf}
 use Rattle.gateway.specs.Events.{Memory, tookAnswer, takeOf}
 use Rattle.gateway.specs.declared.Kind.{Kind}

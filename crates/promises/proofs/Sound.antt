@@ -8,7 +8,7 @@ use borrow.Author.Tests.{lt-ltb, eq-eqb}
 use lib.ListN.{length}
 use lib.Seq.{getD-set-other, getD-set-same}
 use Rattle.memory.specs.Sizes.{lines, journalSize, unfinishedSize, framesSize}
-use Rattle.journal.specs.Room.{todaysShares}
+use Rattle.room.specs.Room.{todaysShares}
 use Rattle.line.specs.declared.Line.{Line}
 use Rattle.gateway.specs.Views.{framesOf, textsOf, Ready}
 use Rattle.gateway.specs.Verdicts.{ownWork, verdictOf}

@@ -20,12 +20,12 @@ use Rattle.line.specs.Line.{freshLine, openedLine}
 use Rattle.line.specs.Paper.{enq, eot}
 use Rattle.line.specs.declared.Line.{Line}
 use Rattle.line.specs.declared.Answer.the-variants.{Opened, Ended}
-use Rattle.journal.specs.Header.{entrySize}
-use Rattle.journal.specs.Entries.{Entry}
-use Rattle.journal.specs.Room.{todaysShares, fits, raised}
-use Rattle.journal.specs.Held.{Held}
-use Rattle.journal.specs.Runs.{State as Store}
-use Rattle.journal.proofs.Cases.{held-judged}
+use Rattle.header.specs.Header.{entrySize}
+use Rattle.header.specs.Entry.{Entry}
+use Rattle.room.specs.Room.{todaysShares, fits, raised}
+use Rattle.journal_laws.specs.Held.{Held}
+use Rattle.journal_laws.specs.Runs.{State as Store}
+use Rattle.journal_laws.proofs.Cases.{held-judged}
 use Rattle.gateway.specs.Views.{Own}
 use Rattle.gateway.specs.Events.{lineAt}
 use Rattle.gateway.specs.Looks.{byteLook, neutralLook, waitingLook}

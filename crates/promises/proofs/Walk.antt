@@ -23,9 +23,9 @@ use Rattle.record.proofs.Scans.{tailAt, rest-part}
 use Rattle.line.specs.declared.Line.{Line}
 use Rattle.line.specs.declared.Answer.{Answer}
 use Rattle.line.specs.declared.Answer.the-variants.{Nothing, Accepted, Stored}
-use Rattle.journal.specs.Room.{todaysShares}
+use Rattle.room.specs.Room.{todaysShares}
 use Rattle.journal.specs.Verdicts.{judgeOf}
-use Rattle.journal.specs.Runs.{State as Store}
+use Rattle.journal_laws.specs.Runs.{State as Store}
 use Rattle.journal.specs.declared.Verdict.the-variants.{Fits}
 use Rattle.gateway.specs.Views.{joinedText}
 use Rattle.gateway.specs.Verdicts.{decisionOf, decided}

@@ -9,7 +9,7 @@ use lib.ListN.{length}
 use Rattle.record.specs.Delimiters.{standard}
 use Rattle.record.specs.Faults.{isMessage}
 use Rattle.journal.specs.Storage.{grown, appended}
-use Rattle.journal.specs.Runs.{State as Store}
+use Rattle.journal_laws.specs.Runs.{State as Store}
 use Rattle.gateway.specs.declared.Kind.{Kind}
 use Rattle.promises.specs.Machine.{State, Told, step, decides, partsOf, storeOf, onEvent, came}
 use Rattle.promises.specs.Runs.{answered, isFault, isObjection, offered, hasSpace}

@@ -10,8 +10,8 @@ use Rattle.frame.specs.Check.{checkOf, digitsOf}
 use Rattle.record.specs.Delimiters.{standard}
 use Rattle.record.specs.Faults.{isMessage}
 use Rattle.cutting.specs.Frames.{cutOf}
-use Rattle.journal.specs.Header.{entrySize}
-use Rattle.journal.specs.Room.{todaysShares, fits}
+use Rattle.header.specs.Header.{entrySize}
+use Rattle.room.specs.Room.{todaysShares, fits}
 use Rattle.journal.specs.Storage.{grown}
 use Rattle.journal.specs.declared.Ledger.{Ledger}
 

@@ -7,11 +7,11 @@ use mathlib.Core.Bool.{Bool, true, false}
 use mathlib.Core.List.{List, []}
 use lib.ListN.{length}
 use Rattle.memory.specs.Sizes.{lines, unfinishedSize, framesSize}
-use Rattle.journal.specs.Entries.{Entry}
-use Rattle.journal.specs.Room.{todaysShares}
+use Rattle.header.specs.Entry.{Entry}
+use Rattle.room.specs.Room.{todaysShares}
 use Rattle.journal.specs.Removal.{takeOf as takeEntry}
-use Rattle.journal.specs.Held.{Held}
-use Rattle.journal.specs.Runs.{State as Store}
+use Rattle.journal_laws.specs.Held.{Held}
+use Rattle.journal_laws.specs.Runs.{State as Store}
 use Rattle.line.specs.Line.{withinLimits}
 use Rattle.line.specs.declared.Line.{Line}
 use Rattle.line.specs.declared.Answer.{Answer}

@@ -8,10 +8,10 @@ use mathlib.Core.Option.{Option, none, some}
 use lib.Dec.{eqb}
 use lib.ListN.{getD, take}
 use Rattle.memory.specs.Sizes.{lines}
-use Rattle.journal.specs.Entries.{Entry}
-use Rattle.journal.specs.Room.{todaysShares}
-use Rattle.journal.specs.Held.{Held}
-use Rattle.journal.specs.Runs.{Numbered, numbered, waiting}
+use Rattle.header.specs.Entry.{Entry}
+use Rattle.room.specs.Room.{todaysShares}
+use Rattle.journal_laws.specs.Held.{Held}
+use Rattle.journal_laws.specs.Runs.{Numbered, numbered, waiting}
 use Rattle.line.specs.Paper.{valuesOf}
 use Rattle.gateway.specs.Events.{Memory}
 use Rattle.gateway.specs.declared.Kind.{Kind}

@@ -9,8 +9,8 @@ use lib.Dec.{eqb}
 use lib.ListN.{length, getD}
 use Rattle.memory.specs.Sizes.{journalSize, unfinishedSize, framesSize}
 use Rattle.memory.specs.Tests.{between}
-use Rattle.journal.specs.Header.{entrySize}
-use Rattle.journal.specs.Room.{share, todaysShares, fits, raised}
+use Rattle.header.specs.Header.{entrySize}
+use Rattle.room.specs.Room.{share, todaysShares, fits, raised}
 use Rattle.line.specs.Paper.{ack, numberOf, replyOf}
 use Rattle.line.specs.declared.Reply.{Reply}
 use Rattle.line.specs.declared.Reply.the-variants.{Silence, Byte}

@@ -18,12 +18,12 @@ use Rattle.line.specs.Line.{freshLine, withinLimits}
 use Rattle.line.specs.Paper.{enq, eot}
 use Rattle.line.specs.declared.Answer.{Answer}
 use Rattle.line.specs.declared.Answer.the-variants.{Nothing, Opened, Accepted, Stored, Ended, Taken}
-use Rattle.journal.specs.Header.{serialCount, entrySize}
-use Rattle.journal.specs.Entries.{Entry}
+use Rattle.header.specs.Header.{serialCount, entrySize}
+use Rattle.header.specs.Entry.{Entry}
 use Rattle.journal.specs.Chain.{chain}
-use Rattle.journal.specs.Room.{todaysShares, fits, raised}
+use Rattle.room.specs.Room.{todaysShares, fits, raised}
 use Rattle.journal.specs.Storage.{newEntry, grown}
-use Rattle.journal.specs.Held.{Held}
+use Rattle.journal_laws.specs.Held.{Held}
 use Rattle.journal.specs.declared.Ledger.{Ledger}
 use Rattle.gateway.specs.Events.{lineAt}
 use Rattle.gateway.specs.declared.Kind.the-variants.{Byte}

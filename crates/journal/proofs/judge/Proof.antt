@@ -22,34 +22,49 @@ returns-3 : tie.Need-returns-3
 returns-3 c = let a = c .before .before .before .before .args in judged-text (a .ledger) (a .shares) (a .line) (a .length) (now (a .journal)) (omega arith) (omega arith) (λ p q. omega arith)
 
 returns-4 : tie.Need-returns-4
-returns-4 c = let a = c .before .before .before .before .before .args in judged-text (a .ledger) (a .shares) (a .line) (a .length) (now (a .journal)) (omega arith) (omega arith) (λ p q. omega arith)
+returns-4 c =
+    let sized = c .before .before in
+    let a = sized .before .before .before .args in
+    judged-text (a .ledger) (a .shares) (a .line) (a .length) (now (a .journal)) (omega arith) (omega arith) (λ p q. omega arith)
+
+-- the start, from where the journal was looked at
+abbrev start : tie.After-look → tie.Start
+start c = let lined = c .before .before .before .before in lined .before .before
 
 returns-5 : tie.Need-returns-5
 returns-5 c =
-    let a = c .before .before .before .before .before .before .before .before .args in
-    judged-broken (a .ledger) (a .shares) (a .line) (a .length) (now (a .journal)) (omega arith) (omega arith) (omega arith) (omega arith) (sym (c .before .before .look .ensures .is-whole) ∙ not-true _ (c .if5 .taken))
+    let looked = c .before .before in
+    let a = start looked .args in
+    judged-broken (a .ledger) (a .shares) (a .line) (a .length) (now (a .journal)) (omega arith) (omega arith) (omega arith) (omega arith) (sym (looked .look .ensures .is-whole) ∙ not-true _ (c .if5 .taken))
 
 -- the journal is whole, once that is tested
-whole : (c : tie.Else5) → isSome (chain (c .before .before .before .before .before .before .before .before .args .ledger) (now (c .before .before .before .before .before .before .before .before .args .journal))) ≡ true
+whole : (c : tie.Else5)
+    → let a = start (c .before .before) .args in
+    isSome (chain (a .ledger) (now (a .journal))) ≡ true
 whole c = sym (c .before .before .look .ensures .is-whole) ∙ not-false _ (c .if5 .left)
 
 add-used : tie.Need-add-used
 add-used c =
-    let a = c .before .before .before .before .before .before .before .before .before .before .args in
-    let k = kept (a .ledger) (now (a .journal)) (whole (c .before .before)) in
+    let tested = c .before .before in
+    let a = start (tested .before .before) .args in
+    let k = kept (a .ledger) (now (a .journal)) (whole tested) in
     omega (arith, used-below (a .ledger) (now (a .journal)) (a .line) k (omega arith), k .whole .room)
 
 returns-6 : tie.Need-returns-6
 returns-6 c =
-    let a = c .before .before .before .before .before .before .before .before .before .before .before .before .args in
-    judged-room (a .ledger) (a .shares) (a .line) (a .length) (now (a .journal)) (omega arith) (omega arith) (omega arith) (omega arith) false (whole (c .before .before .before .before))
-    (rw (← (c .before .before .entry-size .ensures .0)) (sym (c .before .has-room .ensures) ∙ not-true _ (c .if6 .taken)))
+    let sized = c .before .before in
+    let tested = sized .before .before in
+    let a = start (tested .before .before) .args in
+    judged-room (a .ledger) (a .shares) (a .line) (a .length) (now (a .journal)) (omega arith) (omega arith) (omega arith) (omega arith) false (whole tested)
+    (rw (← (sized .entry-size .ensures .0)) (sym (c .before .has-room .ensures) ∙ not-true _ (c .if6 .taken)))
 
 returns-7 : tie.Need-returns-7
 returns-7 c =
-    let a = c .before .before .before .before .before .before .before .before .before .before .before .before .args in
-    judged-room (a .ledger) (a .shares) (a .line) (a .length) (now (a .journal)) (omega arith) (omega arith) (omega arith) (omega arith) true (whole (c .before .before .before .before))
-    (rw (← (c .before .before .entry-size .ensures .0)) (sym (c .before .has-room .ensures) ∙ not-false _ (c .if6 .left)))
+    let sized = c .before .before in
+    let tested = sized .before .before in
+    let a = start (tested .before .before) .args in
+    judged-room (a .ledger) (a .shares) (a .line) (a .length) (now (a .journal)) (omega arith) (omega arith) (omega arith) (omega arith) true (whole tested)
+    (rw (← (sized .entry-size .ensures .0)) (sym (c .before .has-room .ensures) ∙ not-false _ (c .if6 .left)))
 
 pub judge-spec : {M : Type 1} → statement M
 judge-spec =
@@ -61,6 +76,7 @@ judge-spec =
     returns-4
     (λ c κs. search needs)
     returns-5
+    (λ c. search needs)
     (λ c κs. search needs)
     (λ c. search needs)
     (λ c. search needs)

@@ -12,10 +12,15 @@ use Rattle.journal.proofs.Storings.{ready, not-stored, is-stored}
 use Rattle.journal.proofs.store.Statement.{statement}
 use Rattle.journal.proofs.store.Tie as tie
 
+-- the start, from where the verdict is known
+abbrev start : tie.After-judge → tie.Start
+start c = c .before .before .before .before
+
 returns : tie.Need-returns
 returns c =
-    let a = c .before .before .before .before .before .before .args in
-    not-stored (a .ledger) (a .shares) (a .line) (now (a .text)) (now (a .journal)) _ (c .before .before .judge .ensures) (sym (c .before .is-fits .ensures) ∙ not-true _ (c .if1 .taken))
+    let judged = c .before .before in
+    let a = start judged .args in
+    not-stored (a .ledger) (a .shares) (a .line) (now (a .text)) (now (a .journal)) _ (judged .judge .ensures) (sym (c .before .is-fits .ensures) ∙ not-true _ (c .if1 .taken))
 
 -- the verdict fits, once that is tested
 fits : (c : tie.Else1) → isFits (c .before .before .judge .result) ≡ true
@@ -23,14 +28,18 @@ fits c = sym (c .before .is-fits .ensures) ∙ not-false _ (c .if1 .left)
 
 append-requires : tie.Need-append-requires
 append-requires c κs =
-    let a = c .before .before .before .before .before .before .before .args in
+    let judged = c .before .before .before in
+    let a = start judged .args in
     let u : length (a .ledger .used) ≡ lines = search needs in
-    ready (a .ledger) (a .shares) (a .line) (now (a .text)) (now (a .journal)) (ap isFits (sym (c .before .before .before .judge .ensures)) ∙ fits (c .before)) u
+    ready (a .ledger) (a .shares) (a .line) (now (a .text)) (now (a .journal)) (ap isFits (sym (judged .judge .ensures)) ∙ fits (c .before)) u
 
 returns-2 : tie.Need-returns-2
 returns-2 c =
-    let a = c .before .before .before .before .before .before .before .before .before .before .args in
-    is-stored (a .ledger) (a .shares) (a .line) (now (a .text)) (now (a .journal)) _ _ _ (c .before .before .before .before .before .before .judge .ensures) (fits (c .before .before .before .before)) (c .before .before .append .ensures)
+    let written = c .before .before in
+    let tested = written .before .before in
+    let judged = tested .before .before in
+    let a = start judged .args in
+    is-stored (a .ledger) (a .shares) (a .line) (now (a .text)) (now (a .journal)) _ _ _ (judged .judge .ensures) (fits tested) (written .append .ensures)
 
 pub store-spec : {M : Type 1} → statement M
 store-spec =

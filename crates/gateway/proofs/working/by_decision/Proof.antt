@@ -3,7 +3,7 @@
 use borrow.Author.Needs.{needs}
 use mathlib.Core.Path.{refl, sym, subst}
 use denote.Ref.{now}
-use Rattle.journal.specs.Room.{todaysShares}
+use Rattle.room.specs.Room.{todaysShares}
 use Rattle.gateway.specs.Settled.{Fitting}
 use Rattle.gateway.specs.declared.Verdict.{Verdict}
 use Rattle.gateway.proofs.Fits.{decision-fits}

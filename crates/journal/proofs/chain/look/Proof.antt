@@ -12,15 +12,22 @@ use Rattle.journal.proofs.chain.look.Tie as tie
 returns : tie.Need-returns
 returns c = let a = c .before .before .args in beyond (a .ledger) (a .line) (now (a .journal)) 0 (omega arith)
 
+-- the start, from where the walk is done
+abbrev start : tie.After-walk → tie.Start
+start c = c .before .before .before .before
+
 returns-2 : tie.Need-returns-2
 returns-2 c =
-    let a = c .before .before .before .before .before .before .args in
-    unchained (a .ledger) (a .line) (now (a .journal)) 0 (omega arith) (sym (not-true _ (c .if2 .taken)) ∙ c .before .before .walk .ensures .is-whole)
+    let walked = c .before .before in
+    let a = start walked .args in
+    unchained (a .ledger) (a .line) (now (a .journal)) 0 (omega arith) (sym (not-true _ (c .if2 .taken)) ∙ walked .walk .ensures .is-whole)
 
 returns-3 : tie.Need-returns-3
 returns-3 c =
-    let a = c .before .before .before .before .before .before .before .before .before .args in
-    chained (a .ledger) (a .line) (now (a .journal)) _ _ _ _ (omega arith) (not-false _ (c .before .before .before .if2 .left)) (c .before .before .before .before .before .walk .ensures) (c .agrees .ensures)
+    let tested = c .before .before .before in
+    let walked = tested .before .before in
+    let a = start walked .args in
+    chained (a .ledger) (a .line) (now (a .journal)) _ _ _ _ (omega arith) (not-false _ (tested .if2 .left)) (walked .walk .ensures) (c .agrees .ensures)
 
 pub look-spec : {M : Type 1} → statement M
 look-spec =

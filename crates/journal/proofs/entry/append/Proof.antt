@@ -10,30 +10,39 @@ use Rattle.journal.proofs.entry.append.Tie as tie
 
 returns : tie.Need-returns
 returns c =
-    let a = c .before .before .before .before .before .before .before .before .before .before .before .before .before .before .before .before .args in
+    let copied = c .before .before in
+    let written = copied .before .before .before .before in
+    let spelt = written .before in
+    let advanced = spelt .before .before in
+    let headed = advanced .before .before .before in
+    let sized = headed .before in
+    let start = sized .before .before .before in
+    let a = start .args in
     let d = a .ledger in
     let t = now (a .text) in
     record {
-      result = grown-is d (a .line) (length t) _ _ _ refl (c .before .before .before .before .before .before .before .before .before .before .before .before .before .entry-size .ensures .0) (c .before .before .before .before .before .before .before .before .before .wrapping-add-u16 .ensures);
+      result = grown-is d (a .line) (length t) _ _ _ refl (sized .entry-size .ensures .0) (advanced .wrapping-add-u16 .ensures);
       after =
-          two-writes d (a .line) t (now (a .journal)) _ _ _ _ _ _ _ (c .before .before .before .before .before .before .before .before .before .before .before .before .before .before .before .before .pre) (c .before .before .before .before .before .before .before .number .ensures .1)
-          (c .before .before .before .before .before .before .before .before .before .before .before .before .head-size .ensures .0) (c .before .before .before .before .before .before .before .number .ensures .0) refl (c .before .before .before .before .before .before .write-field .ensures) (c .before .before .copy-at .ensures);
+          two-writes d (a .line) t (now (a .journal)) _ _ _ _ _ _ _ (start .pre) (spelt .number .ensures .1) (headed .head-size .ensures .0) (spelt .number .ensures .0) refl
+          (written .write-field .ensures) (copied .copy-at .ensures);
     }
 
 pub append-spec : {M : Type 1} → statement M
 append-spec =
     tie.close
     (tie.spec
-    (λ c κs. search needs)
-    (λ c κs. search needs)
-    (λ c. search needs)
-    (λ c. search needs)
-    (λ c. search needs)
-    (λ c. search needs)
-    (λ c. search needs)
-    (λ c. search needs)
     (λ c. search needs)
     (λ c κs. search needs)
+    (λ c κs. search needs)
+    (λ c. search needs)
+    (λ c. search needs)
+    (λ c. search needs)
+    (λ c. search needs)
+    (λ c. search needs)
+    (λ c. search needs)
+    (λ c. search needs)
+    (λ c κs. search needs)
+    (λ c. search needs)
     (λ c. search needs)
     (λ c. search needs)
     (λ c κs. search needs)

@@ -7,34 +7,57 @@ use Rattle.journal.proofs.Takings.{Bounds, bounds, taken-short, taken-a
 use Rattle.journal.proofs.entry.take_at.Statement.{statement}
 use Rattle.journal.proofs.entry.take_at.Tie as tie
 
+-- the places passed: the start before the header is read, that before the header's size, that before the text is copied, that before the gap closes
+abbrev start : tie.After-entry-at → tie.Start
+start c = let lent = c .before .before .before in lent .before .before
+
+abbrev read : tie.After-head-size → tie.After-entry-at
+read c = c .before .before .before
+
+abbrev sized : tie.After-copy → tie.After-head-size
+sized c = c .before .before .before .before
+
+abbrev copied : tie.After-close-up → tie.After-copy
+copied c = c .before .before .before .before
+
 -- what the header that was read says
 known : (c : tie.After-entry-at)
-    → Bounds (c .before .before .before .before .before .args .ledger) (c .before .before .before .before .before .args .line) (c .before .before .before .before .before .args .at) (now (c .before .before .before .before .before .args .journal)) (c .before .before .before .before .before .pre) (c .entry-at .result) (c .entry-at .ensures)
+    → let a = start c .args in
+    Bounds (a .ledger) (a .line) (a .at) (now (a .journal)) (start c .pre) (c .entry-at .result) (c .entry-at .ensures)
 known c =
-    let a = c .before .before .before .before .before .args in
-    bounds (a .ledger) (a .line) (a .at) (now (a .journal)) (c .before .before .before .before .before .pre) (c .entry-at .result) (c .entry-at .ensures)
+    let a = start c .args in
+    bounds (a .ledger) (a .line) (a .at) (now (a .journal)) (start c .pre) (c .entry-at .result) (c .entry-at .ensures)
 
 returns : tie.Need-returns
 returns c =
-    let a = c .before .before .before .before .before .before .args in
-    taken-short (a .ledger) (a .line) (a .at) (now (a .journal)) (c .before .before .before .before .before .before .pre) (c .before .entry-at .result) (c .before .entry-at .ensures) (now (a .buffer)) (c .if1 .taken)
+    let r = c .before .before in
+    let a = start r .args in
+    taken-short (a .ledger) (a .line) (a .at) (now (a .journal)) (start r .pre) (r .entry-at .result) (r .entry-at .ensures) (now (a .buffer)) (c .if1 .taken)
 
 part-copy-end : tie.Need-part-copy-end
-part-copy-end c = omega (arith, known (c .before .before .before .before), c .before .before .head-size .ensures)
+part-copy-end c = let s = c .before .before in omega (arith, known (read s), s .head-size .ensures)
 
 sub-used : tie.Need-sub-used
-sub-used c = omega (arith, known (c .before .before .before .before .before .before .before .before .before .before .before .before .before .before), c .before .entry-size .ensures)
+sub-used c =
+    let closed = c .before .before .before .before in
+    omega (arith, known (read (sized (copied closed))), c .before .entry-size .ensures)
 
 sub-t16 : tie.Need-sub-t16
-sub-t16 c = omega (arith, known (c .before .before .before .before .before .before .before .before .before .before .before .before .before .before .before), c .before .before .entry-size .ensures)
+sub-t16 c =
+    let used = c .before in
+    let closed = used .before .before .before .before in
+    omega (arith, known (read (sized (copied closed))), used .before .entry-size .ensures)
 
 returns-2 : tie.Need-returns-2
 returns-2 c =
-    let a = c .before .before .before .before .before .before .before .before .before .before .before .before .before .before .before .before .before .before .before .before .args in
-    let h = c .before .before .before .before .before .before .before .before .before .before .before .before .before .before .before .entry-at in
-    let head = c .before .before .before .before .before .before .before .before .before .before .before .before .before .head-size .ensures .0 in
-    taken-at (a .ledger) (a .line) (a .at) (now (a .journal)) (c .before .before .before .before .before .before .before .before .before .before .before .before .before .before .before .before .before .before .before .before .pre) (h .result) (h .ensures) (now (a .buffer)) _ _ _ _ _ _ _
-    (omega (arith, head)) (c .before .before .entry-size .ensures .0) (omega (arith, head)) (c .before .before .before .before .before .before .before .before .before .before .before .before .before .before .if1 .left) (c .before .before .before .before .before .before .before .before .before .copy .ensures) (c .before .before .before .before .before .close-up .ensures)
+    let used = c .before in
+    let closed = used .before .before .before .before in
+    let s = sized (copied closed) in
+    let r = read s in
+    let a = start r .args in
+    let head = s .head-size .ensures .0 in
+    taken-at (a .ledger) (a .line) (a .at) (now (a .journal)) (start r .pre) (r .entry-at .result) (r .entry-at .ensures) (now (a .buffer)) _ _ _ _ _ _ _
+    (omega (arith, head)) (used .before .entry-size .ensures .0) (omega (arith, head)) (s .before .if1 .left) (copied closed .copy .ensures) (closed .close-up .ensures)
 
 pub take-at-spec : {M : Type 1} → statement M
 take-at-spec =
@@ -45,17 +68,18 @@ take-at-spec =
     (λ c. search needs)
     (λ c κs. search needs)
     (λ c. search needs)
+    (λ c. search needs)
     returns
     (λ c κs. search needs)
     (λ c. search needs)
-    (λ c. omega (arith, known (c .before .before)))
+    (λ c. omega (arith, known (read c)))
     (λ c. search needs)
     (λ c. search needs)
     part-copy-end
     (λ c κs. search needs)
-    (λ c. omega (arith, known (c .before .before .before .before .before .before .before .before .before)))
+    (λ c. omega (arith, known (read (sized (c .before .before .before)))))
     (λ c κs. search needs)
-    (λ c κs. known (c .before .before .before .before .before .before .before .before .before .before .before .before) .most)
+    (λ c κs. search needs)
     (λ c. search needs)
     (λ c. search needs)
     (λ c. search needs)

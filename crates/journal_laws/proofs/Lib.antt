@@ -1,0 +1,5 @@
+pub mod Keeps
+pub mod Cases
+pub mod AnyChain
+pub mod Guarantees
+pub mod Queue
