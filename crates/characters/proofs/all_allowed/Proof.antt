@@ -29,21 +29,24 @@ loop-holds c = (omega arith, refl)
 returns-2 : tie.Need-returns-2 Inv-loop μ-loop
 returns-2 c =
     let l = c .before .before .before .before .before in
-    all-stop allowed (now (l .before .before .before .before .before .args .text)) (l .loop .i) (omega arith)
+    let s = l .before .before .before .before .before in
+    all-stop allowed (now (s .args .text)) (l .loop .i) (omega arith)
     (sym (c .before .is-marked .ensures .1 (l .before .classes .ensures)) ∙ not-true _ (c .if2 .taken)) (l .loop .inv .1)
 
 loop-again : tie.Need-loop-again Inv-loop μ-loop
 loop-again c =
-    let l = c .before .before .before .before .before in (
+    let l = c .before .before .before .before .before in
+    let s = l .before .before .before .before .before in (
       omega arith,
-      all-next allowed (now (l .before .before .before .before .before .args .text)) (l .loop .i) (omega arith)
+      all-next allowed (now (s .args .text)) (l .loop .i) (omega arith)
           (sym (c .before .is-marked .ensures .1 (l .before .classes .ensures)) ∙ not-false _ (c .if2 .left)) (l .loop .inv .1),
     )
 
 returns-3 : tie.Need-returns-3 Inv-loop μ-loop
 returns-3 c =
     let l = c .before in
-    all-done allowed (now (l .before .before .before .before .before .args .text)) (l .loop .i) (omega arith) (l .loop .inv .1)
+    let s = l .before .before .before .before .before in
+    all-done allowed (now (s .args .text)) (l .loop .i) (omega arith) (l .loop .inv .1)
 
 pub all-allowed-spec : {M : Type 1} → statement M
 all-allowed-spec =

@@ -1,4 +1,4 @@
--- `listing::numbers::put_long` meets its contract: the digits behind `from` are written, and those of rest are still to be, up to there.
+-- `decimal::writing::put_long` meets its contract: the digits behind `from` are written, and those of rest are still to be, up to there.
 -- Assumes nothing.
 use mathlib.Core.Path.{_≡_, refl, sym, ap, _∙_}
 use mathlib.Core.List.{List, [], _++_, append-assoc, append-nil}
@@ -9,10 +9,10 @@ use lib.ListN.{length}
 use denote.Ref.{now}
 use Rattle.memory.specs.Parts.{splice}
 use Rattle.memory.proofs.Parts.{splice-nil, splice-join-front, length-splice}
-use Rattle.listing.specs.Numbers.{decimalOf, twoDigits}
-use Rattle.listing.proofs.Digits.{last-two, two-longer}
-use Rattle.listing.proofs.numbers.put_long.Statement.{statement}
-use Rattle.listing.proofs.numbers.put_long.Tie as tie
+use Rattle.decimal.specs.Decimal.{decimalOf, twoDigits}
+use Rattle.decimal.proofs.Digits.{last-two, two-longer}
+use Rattle.decimal.proofs.writing.put_long.Statement.{statement}
+use Rattle.decimal.proofs.writing.put_long.Tie as tie
 
 record Written (n : ℕ) (out₀ : List ℕ) (at end : ℕ) (out : List ℕ) (rest from : ℕ) : Type 0 where
   done : List ℕ

@@ -1,14 +1,14 @@
--- `listing::numbers::size` meets its contract: k digits are counted, and those of rest are still to be.
+-- `decimal::size` meets its contract: k digits are counted, and those of rest are still to be.
 -- Assumes nothing.
 use Prim.Native.Nat.{ℕ, _+_, _*_, _≤_, _<_}
 use mathlib.Core.Path.{_≡_}
 use native.Mathlib.Omega.{arith}
 use borrow.Author.Needs.{needs}
 use lib.ListN.{length}
-use Rattle.listing.specs.Numbers.{decimalOf}
-use Rattle.listing.proofs.Digits.{one-long, two-long, three-long, four-long, four-longer, twenty}
-use Rattle.listing.proofs.numbers.size.Statement.{statement}
-use Rattle.listing.proofs.numbers.size.Tie as tie
+use Rattle.decimal.specs.Decimal.{decimalOf}
+use Rattle.decimal.proofs.Digits.{one-long, two-long, three-long, four-long, four-longer, twenty}
+use Rattle.decimal.proofs.size.Statement.{statement}
+use Rattle.decimal.proofs.size.Tie as tie
 
 abbrev Inv-loop : tie.InvT-loop
 Inv-loop n rest₀ k₀ rest k = (2 * k + rest ≤ n) × (k + length (decimalOf rest) ≡ length (decimalOf n))

@@ -1,12 +1,12 @@
--- `listing::numbers::put_two` meets its contract.
+-- `decimal::writing::put_two` meets its contract.
 -- Assumes nothing.
 use native.Mathlib.Omega.{arith}
 use borrow.Author.Needs.{needs}
 use lib.ListN.{length-set}
 use denote.Ref.{now}
-use Rattle.listing.proofs.Stores.{put-two}
-use Rattle.listing.proofs.numbers.put_two.Statement.{statement}
-use Rattle.listing.proofs.numbers.put_two.Tie as tie
+use Rattle.decimal.proofs.Stores.{put-two}
+use Rattle.decimal.proofs.writing.put_two.Statement.{statement}
+use Rattle.decimal.proofs.writing.put_two.Tie as tie
 
 returns : tie.Need-returns
 returns c =

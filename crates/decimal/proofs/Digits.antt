@@ -1,18 +1,14 @@
--- Laws of a number's decimal digits: the last one at a time, how many there are, and that they read back as the number.
+-- Laws of a number's decimal digits: the last one at a time, how many there are, and that the first is no zero.
 -- Assumes nothing.
 use mathlib.Core.Path.{_≡_, refl, sym, ap, _∙_}
-use mathlib.Core.Bool.{true}
 use mathlib.Core.List.{List, [], _∷_, _++_, append-assoc}
 use Prim.Native.Nat.{ℕ, zero, suc, _+_, _-_, _*_, _/_, _%_, _^_, _≤_, _<_}
 use native.Mathlib.Nat.{pow-suc, add-zero, add-suc}
 use native.Mathlib.Decide.{decLe}
 use native.Mathlib.Omega.{arith}
 use lib.ListN.{length, getD, length-append, List·getD-append}
-use borrow.Author.Tests.{lt-ltb, le-ltb, le-leb}
-use Rattle.memory.specs.Tests.{all}
-use Rattle.memory.proofs.Tests.{all-append}
-use Rattle.record.specs.Numbers.{isDigit, decimal}
-use Rattle.listing.specs.Numbers.{digitFor, digitsIn, decimalOf, twoDigits, fourDigits}
+use borrow.Author.Tests.{lt-ltb, le-ltb}
+use Rattle.decimal.specs.Decimal.{digitFor, digitsIn, decimalOf, twoDigits, fourDigits}
 
 -- one turn: a number of one digit, and one of more
 in-one : (turns n : ℕ) → n < 10 → digitsIn turns n ≡ digitFor n ∷ []
@@ -117,17 +113,13 @@ most-digits (suc k) n h = elim (decLe 10 n) [
 pub twenty : (n : ℕ) → n < 18446744073709551616 → length (decimalOf n) ≤ 20
 twenty n h = most-digits 19 n (omega arith)
 
--- the digits read back as the number, so two numbers have two texts
-decimal-append : (n : ℕ) (xs ys : List ℕ) → decimal n (xs ++ ys) ≡ decimal (decimal n xs) ys
-decimal-append n [] ys = refl
-decimal-append n (x ∷ xs) ys = decimal-append (n * 10 + (x - 0x30)) xs ys
-
+-- by the last digit: what holds of one digit, and of n where it holds of n / 10, holds of every number
 module _ (P : ℕ → Type 0) (one : (n : ℕ) → n < 10 → P n) (more : (n : ℕ) → 10 ≤ n → P (n / 10) → P n) where
   by-turns : (turns n : ℕ) → n ≤ turns → P n
   by-turns zero n h = one n (omega arith)
   by-turns (suc turns) n h = elim (decLe 10 n) [ yes g ↦ more n g (by-turns turns (n / 10) (omega arith)) | no g ↦ one n (omega arith) ]
 
-  by-digits : (n : ℕ) → P n
+  pub by-digits : (n : ℕ) → P n
   by-digits n = by-turns n n (omega arith)
 
 some-digit : (n : ℕ) → 0 < length (decimalOf n)
@@ -135,21 +127,6 @@ some-digit =
     by-digits (λ (n : ℕ). 0 < length (decimalOf n))
     (λ n h. rw (one-long n h) (omega arith))
     (λ n h k. rw (one-longer n h) (omega arith))
-
-pub read-back : (n : ℕ) → decimal 0 (decimalOf n) ≡ n
-read-back =
-    by-digits (λ (n : ℕ). decimal 0 (decimalOf n) ≡ n)
-    (λ n h. rw (one-digit n h) (omega arith))
-    (λ n h e. rw (last-digit n h, decimal-append 0 (decimalOf (n / 10)) (digitFor (n % 10) ∷ []), e) (omega arith))
-
-pub one-number : (n m : ℕ) → decimalOf n ≡ decimalOf m → n ≡ m
-one-number n m e = sym (read-back n) ∙ ap (decimal 0) e ∙ read-back m
-
-pub all-digits : (n : ℕ) → all isDigit (decimalOf n) ≡ true
-all-digits =
-    by-digits (λ (n : ℕ). all isDigit (decimalOf n) ≡ true)
-    (λ n h. rw (one-digit n h, le-leb 0x30 (digitFor n) (omega arith), le-leb (digitFor n) 0x39 (omega arith)))
-    (λ n h e. rw (last-digit n h, all-append isDigit (decimalOf (n / 10)) (digitFor (n % 10) ∷ []), e, le-leb 0x30 (digitFor (n % 10)) (omega arith), le-leb (digitFor (n % 10)) 0x39 (omega arith)))
 
 -- no leading zero, but in 0 itself
 pub no-leading-zero : (n : ℕ) → 1 ≤ n → getD (decimalOf n) 0 0 ≡ 0x30 → ⊥

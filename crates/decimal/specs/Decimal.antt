@@ -18,6 +18,10 @@ digitsIn (suc turns) n = cond (ltb n 10) (digitFor n ∷ []) (digitsIn turns (n 
 unfoldable pub decimalOf : ℕ → List ℕ
 decimalOf n = digitsIn n n
 
+-- the most digits of a 64-bit number
+abbrev pub mostDigits : ℕ
+mostDigits = 20
+
 -- a number below 100 in two digits, and one below 10,000 in four
 abbrev pub twoDigits : ℕ → List ℕ
 twoDigits n = digitFor (n / 10) ∷ digitFor (n % 10) ∷ []

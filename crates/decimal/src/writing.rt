@@ -1,31 +1,9 @@
-// A number in decimal: how many digits it has, and the digits in lent memory. Both take more than one digit a turn, for speed.
+// The digits of a number in lent memory that has room for them.
 ghost use mathlib.Core.Path.{_≡_};
 ghost use Prim.Native.Nat.{_+_, _≤_, _<_};
 ghost use lib.ListN.{length};
 ghost use Rattle.memory.specs.Parts.{splice};
-ghost use Rattle.listing.specs.Numbers.{decimalOf, digitFor, twoDigits, fourDigits};
-
-// How many digits n has: at most 20.
-pub fn size(n: u64) -> usize
-    ensures { λ r. ⌜ (r ≡ length (decimalOf n)) × (r ≤ 20) ⌝ }
-{
-    let mut rest = n;
-    let mut k: usize = 0;
-    while 10000 <= rest {
-        rest = rest / 10000;
-        k += 4;
-    }
-    if rest < 10 {
-        return k + 1;
-    }
-    if rest < 100 {
-        return k + 2;
-    }
-    if rest < 1000 {
-        return k + 3;
-    }
-    k + 4
-}
+ghost use Rattle.decimal.specs.Decimal.{decimalOf, digitFor, twoDigits, fourDigits};
 
 // Writes the digits of n, and says where they end. Up to eight are written from the front, with nothing measured: a trace has that many events.
 pub fn put(n: u64, out: &mut [u8], at: usize) -> usize
@@ -44,7 +22,7 @@ pub fn put(n: u64, out: &mut [u8], at: usize) -> usize
 }
 
 // One to four digits.
-pub fn put_short(n: u64, out: &mut [u8], at: usize) -> usize
+fn put_short(n: u64, out: &mut [u8], at: usize) -> usize
     requires { ⌜ (n < 10000) × (at + length (decimalOf n) ≤ length (now out)) ⌝ }
     ensures { λ r. ⌜ (r ≡ at + length (decimalOf n)) × (now (out .exit) ≡ splice (now (out .entry)) at (decimalOf n)) ⌝ }
 {
@@ -70,7 +48,7 @@ fn put_long(n: u64, out: &mut [u8], at: usize) -> usize
     requires { ⌜ at + length (decimalOf n) ≤ length (now out) ⌝ }
     ensures { λ r. ⌜ (r ≡ at + length (decimalOf n)) × (now (out .exit) ≡ splice (now (out .entry)) at (decimalOf n)) ⌝ }
 {
-    let end = at + size(n);
+    let end = at + super::size(n);
     let mut rest = n;
     let mut from = end;
     while 100 <= rest {
