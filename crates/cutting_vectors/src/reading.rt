@@ -91,7 +91,7 @@ fn byte_in(s: &[u8]) -> u8 {
         return s[n - 1];
     }
     if s[1] == b'R' {
-        return frame::CR;
+        return characters::CR;
     }
     ((digit(s[0]) * 16 + digit(s[1])) % 256) as u8
 }

@@ -24,7 +24,7 @@ fn number_from(first: u8, bytes: &mut [u8]) {
     let mut at = 0;
     while at < bytes.len() {
         at = number_one(number, at, bytes);
-        number = frame::next_number(number);
+        number = digits::next_number(number);
     }
 }
 
@@ -44,7 +44,7 @@ fn number_one(number: u8, at: usize, bytes: &mut [u8]) -> usize
     }
     let counted = end + 1;
     bytes[start] = b'0' + number % 8;
-    let digits = frame::check_digits(frame::check_sum(&bytes[start..counted]));
+    let digits = digits::check_digits(digits::check_sum(&bytes[start..counted]));
     bytes[counted] = digits.high;
     bytes[end + 2] = digits.low;
     end + 5
@@ -57,10 +57,10 @@ pub fn text_end(s: &[u8], at: usize) -> usize
 {
     let mut i = at;
     while i < s.len() {
-        if s[i] == frame::ETB {
+        if s[i] == characters::ETB {
             return i;
         }
-        if s[i] == frame::ETX {
+        if s[i] == characters::ETX {
             return i;
         }
         i += 1;

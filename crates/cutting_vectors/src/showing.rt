@@ -118,7 +118,7 @@ fn frame(bytes: &[u8], at: usize) -> usize
 }
 
 fn ending(b: u8) {
-    if b == frame::ETB {
+    if b == characters::ETB {
         show(b" ETB");
     } else {
         show(b" ETX");

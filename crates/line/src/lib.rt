@@ -201,7 +201,7 @@ impl Line {
             collected: 0,
             joined: joined,
             seconds: 0,
-            next: frame::next_number(self.next),
+            next: digits::next_number(self.next),
             last: Last::Number(self.next),
             refusing: self.refusing,
         }

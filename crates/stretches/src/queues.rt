@@ -69,10 +69,10 @@ fn digit(b: Bench, line: u8, mark: u8) -> u8 {
 
 // A frame round what its check counts: the digit, the text and ETX or ETB.
 fn framed(b: Bench, line: u8, counted: &[u8], pool: &mut [u64]) -> Bench {
-    let digits = frame::check_digits(frame::check_sum(counted));
-    let started = add(b, items::byte(line, frame::STX), pool);
+    let digits = digits::check_digits(digits::check_sum(counted));
+    let started = add(b, items::byte(line, characters::STX), pool);
     let told = bytes(started, line, counted, pool);
-    let tail = [digits.high, digits.low, frame::CR, frame::LF];
+    let tail = [digits.high, digits.low, characters::CR, characters::LF];
     bytes(told, line, &tail, pool)
 }
 
@@ -81,7 +81,7 @@ fn numbered(b: Bench, line: u8, mark: u8) -> Bench {
     let l = (line % 8) as usize;
     let mut next = b;
     if mark == b'*' {
-        next.numbers[l] = frame::next_number(b.numbers[l]);
+        next.numbers[l] = digits::next_number(b.numbers[l]);
     }
     next
 }
@@ -116,7 +116,7 @@ fn piece(b: Bench, line: u8, n: usize, pool: &mut [u64]) -> Bench {
     let mut counted = [b'A'; 256];
     let behind = n + 2;
     counted[0] = digit(b, line, b'*');
-    counted[n + 1] = frame::ETB;
+    counted[n + 1] = characters::ETB;
     let whole = framed(b, line, &counted[..behind], pool);
     numbered(whole, line, b'*')
 }

@@ -79,7 +79,7 @@ fn put(out: &mut [u8], i: usize, b: u8) {
 
 fn cr_for_slash(b: u8) -> u8 {
     if b == b'/' {
-        return frame::CR;
+        return characters::CR;
     }
     b
 }
@@ -87,9 +87,9 @@ fn cr_for_slash(b: u8) -> u8 {
 // What ends a frame's text: ETB for `+`, and ETX for another.
 fn end_for(b: u8) -> u8 {
     if b == b'+' {
-        return frame::ETB;
+        return characters::ETB;
     }
-    frame::ETX
+    characters::ETX
 }
 
 const HEAD: [u8; 6] = *b"H|\\^&|";
