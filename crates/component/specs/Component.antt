@@ -6,7 +6,7 @@ use mathlib.Core.Bool.{Bool, false, _||_}
 use lib.Dec.{eqb}
 use lib.ListN.{drop}
 use Rattle.memory.specs.Tests.{find}
-use Rattle.frame.specs.Control.{cr}
+use Rattle.characters.specs.Control.{cr}
 use Rattle.record.specs.declared.Delimiters.{Delimiters}
 
 -- b is one of these bytes

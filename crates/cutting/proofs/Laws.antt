@@ -11,7 +11,7 @@ use lib.ListN.{length, replicate}
 use Rattle.memory.specs.Sizes.{frameLimit}
 use Rattle.memory.specs.Tests.{is, between, all}
 use Rattle.memory.proofs.Tests.{and-left, and-right, and-both}
-use Rattle.frame.specs.Control.{cr}
+use Rattle.characters.specs.Control.{cr}
 use Rattle.frame.specs.Shape.{aroundText}
 use Rattle.frame.specs.declared.End.{End}
 use Rattle.frame.specs.declared.End.the-variants.{Etb, Etx}

@@ -11,7 +11,7 @@ use lib.ListN.{length, getD, take, drop, length-drop, length-take}
 use lib.Dec.{ltb}
 use lib.Seq.{drop-drop, drop-cons, getD-drop}
 use Rattle.memory.specs.Tests.{is}
-use Rattle.frame.specs.Control.{cr}
+use Rattle.characters.specs.Control.{cr}
 use Rattle.frame.specs.Shape.{aroundText}
 use Rattle.record.specs.Records.{endsWithCr}
 use Rattle.record.proofs.Scans.{tailAt, rest-part}

@@ -11,7 +11,7 @@ use lib.ListN.{length, take, drop, length-append, length-drop, drop-of-length-le
 use lib.Seq.{take-all, length-take-le}
 use Rattle.memory.specs.Parts.{splice}
 use Rattle.memory.proofs.Parts.{splice-from, splice-join, length-splice}
-use Rattle.frame.specs.Number.{mostNumber, nextNumber}
+use Rattle.digits.specs.Number.{mostNumber, nextNumber}
 use Rattle.frame.specs.Shape.{aroundText}
 use Rattle.frame.specs.Writing.{frameOf, putIn, FramePut}
 use Rattle.frame.specs.declared.End.{End}

@@ -9,7 +9,7 @@ use lib.ListN.{length}
 use lib.Dec.{leb, ltb}
 use Rattle.memory.specs.Parts.{splice}
 use Rattle.memory.specs.Tests.{unless}
-use Rattle.frame.specs.Number.{nextNumber}
+use Rattle.digits.specs.Number.{nextNumber}
 use Rattle.frame.specs.Shape.{aroundText}
 use Rattle.frame.specs.Writing.{frameOf}
 use Rattle.record.specs.Delimiters.{standard}

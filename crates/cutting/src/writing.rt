@@ -4,7 +4,7 @@ ghost use mathlib.Core.Bool.{true};
 ghost use Prim.Native.Nat.{_+_, _-_, _<_, _≤_};
 ghost use lib.ListN.{length, getD, take};
 ghost use Rattle.memory.specs.Parts.{splice};
-ghost use Rattle.frame.specs.Number.{mostNumber};
+ghost use Rattle.digits.specs.Number.{mostNumber};
 ghost use Rattle.frame.specs.Shape.{aroundText};
 ghost use Rattle.frame.specs.Writing.{frameOf};
 ghost use Rattle.record.specs.Records.{endsWithCr};
@@ -48,6 +48,6 @@ pub fn write_all(limit: usize, text: &[u8], out: &mut [u8])
         write_piece(number, tail, n, out, done);
         done = done + (n + frame::AROUND_TEXT);
         at = at + n;
-        number = frame::next_number(number);
+        number = digits::next_number(number);
     }
 }

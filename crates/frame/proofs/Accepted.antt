@@ -11,14 +11,14 @@ use lib.ListN.{length, take, drop, take-append-drop, drop-of-length-le}
 use lib.Seq.{drop-cons, take-suc}
 use Rattle.memory.specs.Parts.{part}
 use Rattle.memory.specs.Tests.{all, unless, is}
+use Rattle.memory.proofs.Parts.{length-part}
 use Rattle.memory.proofs.Tests.{and-left, and-right}
-use Rattle.frame.specs.Control.{cr, lf, etx, etb}
-use Rattle.frame.specs.Allowed.{allowed}
-use Rattle.frame.specs.Check.{digitsOf, checkOf}
-use Rattle.frame.specs.Number.{mostNumber, digitFor, isNumber, numberFrom}
+use Rattle.characters.specs.Control.{cr, lf, etx, etb}
+use Rattle.characters.specs.Allowed.{allowed}
+use Rattle.digits.specs.Check.{digitsOf, checkOf}
+use Rattle.digits.specs.Number.{mostNumber, digitFor, isNumber, numberFrom}
 use Rattle.frame.specs.Shape.{fromEnd, digitIn, textIn, countedIn, isEnd, endFrom, isEnded, isBuilt, isChecked, innerOf, shapeOf}
 use Rattle.frame.specs.Writing.{endByte, bodyOf, tailOf, collectedOf}
-use Rattle.frame.proofs.Put.{length-collected}
 use Rattle.frame.specs.declared.End.{End}
 use Rattle.frame.specs.declared.End.the-variants.{Etb, Etx}
 use Rattle.frame.specs.declared.Shape.{Shape}
@@ -150,8 +150,14 @@ accepted limit bs n end k h =
       within = within;
     }
 
--- and so the bytes collected are its text and six more
+-- the bytes collected are its text and six more, by what is built alone
 pub accepted-size : (limit : ℕ) (bs : List ℕ) (n : ℕ) (end : End) (k : ℕ) → shapeOf limit bs ≡ Whole n end k → length bs ≡ k + 6
+unfolding shapeOf innerOf
 accepted-size limit bs n end k h =
-    let a = accepted limit bs n end k h in
-    ap length (a .same) ∙ length-collected n end (textIn bs) ∙ ap (λ (m : ℕ). m + 6) (sym (a .size))
+    let (_, built, _, _, _, whole) =
+    passed (isEnded limit bs) (isBuilt bs) (isChecked bs) (all allowed (textIn bs)) (isNumber (digitIn bs))
+    (Whole (numberFrom (digitIn bs)) (endFrom (fromEnd bs 5)) (length (textIn bs))) n k end h in
+    let (six, _, _) = built-told bs built in
+    let size : length (textIn bs) ≡ k = cc whole in
+    let text : length (textIn bs) ≡ length bs - 6 = length-part bs 1 (length bs - 6) (omega arith) in
+    omega arith

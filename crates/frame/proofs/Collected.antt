@@ -14,10 +14,10 @@ use Rattle.memory.specs.Parts.{part}
 use Rattle.memory.specs.Tests.{is, all, unless}
 use Rattle.memory.proofs.Parts.{part-append-left, length-part}
 use Rattle.memory.proofs.Tests.{never-both, and-not-right}
-use Rattle.frame.specs.Control.{cr, lf}
-use Rattle.frame.specs.Check.{checkOf, digitsOf}
-use Rattle.frame.specs.Allowed.{allowed}
-use Rattle.frame.specs.Number.{isNumber, numberFrom}
+use Rattle.characters.specs.Control.{cr, lf}
+use Rattle.digits.specs.Check.{checkOf, digitsOf}
+use Rattle.characters.specs.Allowed.{allowed}
+use Rattle.digits.specs.Number.{isNumber, numberFrom}
 use Rattle.frame.specs.Shape.{fromEnd, digitIn, textIn, countedIn, isEnd, endFrom, isEnded, isBuilt, isChecked, innerOf, shapeOf}
 use Rattle.frame.specs.declared.Shape.the-variants.{Unended, Torn, WrongCheck, BadText, BadNumber, Whole}
 

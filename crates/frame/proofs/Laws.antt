@@ -1,28 +1,14 @@
--- What the definitions say of document 01's own sentences.
+-- When a frame is ended, in document 01's own words.
 -- Assumes nothing.
-use mathlib.Core.Path.{_≡_, refl, sym, _∙_}
+use mathlib.Core.Path.{_≡_, sym, _∙_}
 use mathlib.Core.Bool.{true, false, false≢true}
-use mathlib.Core.List.{List, [], _∷_, map}
+use mathlib.Core.List.{List}
 use mathlib.Core.Logic.{_⊎_, inl, inr}
 use Prim.Native.Nat.{ℕ, _+_, _<_}
 use borrow.Author.Tests.{eq-eqb, lt-ltb}
 use lib.ListN.{length}
-use Rattle.memory.specs.Tests.{count}
-use Rattle.memory.proofs.Table.{values}
-use Rattle.frame.specs.Allowed.{allowed}
-use Rattle.frame.specs.Control.{lf}
-use Rattle.frame.specs.Number.{nextNumber}
+use Rattle.characters.specs.Control.{lf}
 use Rattle.frame.specs.Shape.{fromEnd, isEnded}
-
--- 227 of the 256 are allowed
-pub allowed-count : count allowed (values (λ b. b) 0 256) ≡ 227
-unfolding allowed
-allowed-count = refl
-
--- the numbers run 1, 2, .. 7, 0, 1
-pub numbers-run : map nextNumber (0 ∷ 1 ∷ 2 ∷ 3 ∷ 4 ∷ 5 ∷ 6 ∷ 7 ∷ []) ≡ 1 ∷ 2 ∷ 3 ∷ 4 ∷ 5 ∷ 6 ∷ 7 ∷ 0 ∷ []
-unfolding nextNumber
-numbers-run = refl
 
 -- a line collects up to the first LF or to the last byte of the limit. Of such bytes, 21 is given exactly if that last byte is not LF
 module _ (limit : ℕ) (bs : List ℕ) (within : length bs < limit) where

@@ -1,6 +1,3 @@
-pub mod Marks
-pub mod PlainBytes
-pub mod Check
 pub mod Collected
 pub mod Put
 pub mod ReadBack

@@ -3,14 +3,9 @@
 use mathlib.Core.Path.{_≡_, sym, _∙_}
 use mathlib.Core.List.{List}
 use Prim.Native.Nat.{ℕ}
-use Rattle.frame.specs.Writing.{FrameWritten, FramePut}
+use Rattle.frame.specs.Writing.{FramePut}
 use Rattle.frame.specs.declared.End.{End}
 use Rattle.frame.specs.declared.Written.{Written}
-
--- `write_frame`
-pub frame-written-once : (limit number : ℕ) (end : End) (text out : List ℕ) {r q : Written} {x y : List ℕ}
-    → FrameWritten limit number end text out r x → FrameWritten limit number end text out q y → (r ≡ q) × (x ≡ y)
-frame-written-once limit number end text out a b = (a .answer ∙ sym (b .answer), a .after ∙ sym (b .after))
 
 -- `put_frame`
 pub frame-put-once : (number : ℕ) (end : End) (text out : List ℕ) {r q : Written} {x y : List ℕ}

@@ -1,28 +1,21 @@
 -- The bytes of a frame in lent memory, store by store.
 -- Assumes nothing.
 use mathlib.Core.Path.{_≡_, refl, ap, _∙_}
-use mathlib.Core.Bool.{true, false, _&&_}
 use mathlib.Core.List.{List, [], _∷_, _++_}
 use Prim.Native.Nat.{ℕ, _+_, _%_, _≤_, _<_}
 use native.Mathlib.Numerals.{add-one}
 use native.Mathlib.Omega.{arith}
 use borrow.Author.Tests.{le-leb, lt-leb}
-use lib.Dec.{leb}
 use lib.ListN.{length, set, take, getD, length-append}
 use lib.Seq.{length-take-le, take-suc}
 use Rattle.memory.specs.Parts.{splice}
-use Rattle.memory.specs.Tests.{all}
 use Rattle.memory.proofs.Parts.{set-splice, set-behind, splice-join, length-splice}
-use Rattle.memory.proofs.Tests.{and-not-right}
-use Rattle.frame.specs.Control.{stx}
-use Rattle.frame.specs.Allowed.{allowed}
-use Rattle.frame.specs.Check.{total, checkOf}
-use Rattle.frame.specs.Number.{mostNumber}
-use Rattle.frame.specs.Writing.{bodyOf, tailOf, collectedOf, frameOf, isFrame, writtenOf, frameIn, FrameWritten, putOf, putIn, FramePut}
-use Rattle.frame.proofs.Check.{total-append}
-use Rattle.frame.proofs.PlainBytes.{and-true}
+use Rattle.characters.specs.Control.{stx}
+use Rattle.digits.specs.Check.{total, checkOf}
+use Rattle.digits.specs.Number.{mostNumber}
+use Rattle.frame.specs.Writing.{bodyOf, tailOf, collectedOf, frameOf, putOf, putIn, FramePut}
+use Rattle.digits.proofs.Check.{total-append}
 use Rattle.frame.specs.declared.End.{End}
-use Rattle.frame.specs.declared.Written.{Written}
 use Rattle.frame.specs.declared.Written.the-variants.{NoFrame, NoRoom, Length}
 
 -- two stores at the start, a text behind them, one store more
@@ -104,29 +97,3 @@ module _ (number : ℕ) (end : End) (text out : List ℕ) where
       let few = le-leb number mostNumber k in
       let holds = le-leb (length text + 7) (length out) h in
       record { answer = rw (few, holds); after = rw (few, holds) w }
-
--- what each way out of writing a frame says
-module _ (limit number : ℕ) (end : End) (text out : List ℕ) where
-  pub no-frame : isFrame limit number text ≡ false → FrameWritten limit number end text out NoFrame out
-  unfolding writtenOf frameIn
-  no-frame e = record { answer = rw e; after = rw e }
-
-  -- what is put of an allowed text within the limit is written
-  pub frame-written : {r : Written} {out′ : List ℕ} → isFrame limit number text ≡ leb number mostNumber → FramePut number end text out r out′
-      → FrameWritten limit number end text out r out′
-  unfolding writtenOf frameIn putOf putIn
-  frame-written e p = record { answer = rw e (p .answer); after = rw e (p .after) }
-
--- what may keep it from being a frame
-module _ (limit number : ℕ) (text : List ℕ) where
-  pub text-long : limit < length text + 7 → isFrame limit number text ≡ false
-  unfolding isFrame
-  text-long h = rw (lt-leb (length text + 7) limit h, and-not-right (leb number mostNumber) false refl)
-
-  pub text-refused : all allowed text ≡ false → isFrame limit number text ≡ false
-  unfolding isFrame
-  text-refused e = and-not-right (leb number mostNumber && leb (length text + 7) limit) (all allowed text) e
-
-  pub by-number : length text + 7 ≤ limit → all allowed text ≡ true → isFrame limit number text ≡ leb number mostNumber
-  unfolding isFrame
-  by-number h e = rw (le-leb (length text + 7) limit h, e, and-true (leb number mostNumber), and-true (leb number mostNumber))

@@ -10,10 +10,10 @@ use lib.ListN.{length, getD, take, length-append}
 use lib.Seq.{getD-append-add, getD-at, take-at}
 use Rattle.memory.specs.Parts.{part}
 use Rattle.memory.specs.Tests.{all, is}
-use Rattle.frame.specs.Control.{cr, lf}
-use Rattle.frame.specs.Allowed.{allowed}
-use Rattle.frame.specs.Check.{digitsOf, checkOf}
-use Rattle.frame.specs.Number.{mostNumber, digitFor}
+use Rattle.characters.specs.Control.{cr, lf}
+use Rattle.characters.specs.Allowed.{allowed}
+use Rattle.digits.specs.Check.{digitsOf, checkOf}
+use Rattle.digits.specs.Number.{mostNumber, digitFor}
 use Rattle.frame.specs.Shape.{aroundText, textIn, isEnd, endFrom, isBuilt, isChecked, shapeOf}
 use Rattle.frame.specs.Writing.{endByte, bodyOf, tailOf, collectedOf}
 use Rattle.frame.specs.declared.End.{End}

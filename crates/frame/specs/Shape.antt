@@ -9,10 +9,10 @@ use lib.ListN.{length, getD, take}
 use lib.Dec.{leb, ltb}
 use Rattle.memory.specs.Parts.{part}
 use Rattle.memory.specs.Tests.{unless, is, all}
-use Rattle.frame.specs.Control.{etx, lf, cr, etb}
-use Rattle.frame.specs.Allowed.{allowed}
-use Rattle.frame.specs.Check.{checkOf, digitsOf}
-use Rattle.frame.specs.Number.{isNumber, numberFrom}
+use Rattle.characters.specs.Control.{etx, lf, cr, etb}
+use Rattle.characters.specs.Allowed.{allowed}
+use Rattle.digits.specs.Check.{checkOf, digitsOf}
+use Rattle.digits.specs.Number.{isNumber, numberFrom}
 use Rattle.frame.specs.declared.End.{End}
 use Rattle.frame.specs.declared.End.the-variants.{Etb, Etx}
 use Rattle.frame.specs.declared.Shape.{Shape}

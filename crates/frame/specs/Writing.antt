@@ -8,11 +8,10 @@ use mathlib.Core.Option.{Option, none, some}
 use lib.ListN.{length}
 use lib.Dec.{leb}
 use Rattle.memory.specs.Parts.{splice}
-use Rattle.memory.specs.Tests.{unless, all}
-use Rattle.frame.specs.Control.{stx, etx, lf, cr, etb}
-use Rattle.frame.specs.Allowed.{allowed}
-use Rattle.frame.specs.Check.{checkOf, digitsOf}
-use Rattle.frame.specs.Number.{mostNumber, digitFor}
+use Rattle.memory.specs.Tests.{unless}
+use Rattle.characters.specs.Control.{stx, etx, lf, cr, etb}
+use Rattle.digits.specs.Check.{checkOf, digitsOf}
+use Rattle.digits.specs.Number.{mostNumber, digitFor}
 use Rattle.frame.specs.Shape.{aroundText}
 use Rattle.frame.specs.declared.End.{End}
 use Rattle.frame.specs.declared.End.the-variants.{Etb, Etx}
@@ -38,35 +37,19 @@ collectedOf number end text = bodyOf number end text ++ tailOf (bodyOf number en
 unfoldable pub frameOf : ℕ → End → List ℕ → List ℕ
 frameOf number end text = stx ∷ collectedOf number end text
 
--- a frame of this number and text can be written within the limit
-unfoldable pub isFrame : ℕ → ℕ → List ℕ → Bool
-isFrame limit number text = leb number mostNumber && leb (length text + aroundText) limit && all allowed text
-
+-- the whole frame fits into the memory
 abbrev pub hasRoom : List ℕ → List ℕ → Bool
 hasRoom text out = leb (length text + aroundText) (length out)
 
--- the length of the frame written, or why there is none
-unfoldable pub writtenOf : ℕ → ℕ → List ℕ → List ℕ → Written
-writtenOf limit number text out =
-    unless (isFrame limit number text) NoFrame (unless (hasRoom text out) NoRoom (Length (length text + aroundText)))
-
--- the memory after it: the frame over its start, and unchanged where none is written
-unfoldable pub frameIn : ℕ → ℕ → End → List ℕ → List ℕ → List ℕ
-frameIn limit number end text out = cond (isFrame limit number text && hasRoom text out) (splice out 0 (frameOf number end text)) out
-
--- what writing a frame says: the answer, and the memory after it
-pub record FrameWritten (limit number : ℕ) (end : End) (text out : List ℕ) (r : Written) (out′ : List ℕ) : Type 0 where
-  pub answer : r ≡ writtenOf limit number text out
-  pub after : out′ ≡ frameIn limit number end text out
-
--- the same of any bytes, of which only the number is tested: the answer, and the memory after it
+-- the length of the frame written, or why there is none: of any bytes, of which only the number is tested
 unfoldable pub putOf : ℕ → List ℕ → List ℕ → Written
 putOf number text out = unless (leb number mostNumber) NoFrame (unless (hasRoom text out) NoRoom (Length (length text + aroundText)))
 
+-- the memory after it: the frame over its start, and unchanged where none is written
 unfoldable pub putIn : ℕ → End → List ℕ → List ℕ → List ℕ
 putIn number end text out = cond (leb number mostNumber && hasRoom text out) (splice out 0 (frameOf number end text)) out
 
--- what writing a frame of any bytes says
+-- what writing a frame says: the answer, and the memory after it
 pub record FramePut (number : ℕ) (end : End) (text out : List ℕ) (r : Written) (out′ : List ℕ) : Type 0 where
   pub answer : r ≡ putOf number text out
   pub after : out′ ≡ putIn number end text out

@@ -3,14 +3,14 @@ ghost use mathlib.Core.Path.{_≡_};
 ghost use mathlib.Core.List.{List, [], _∷_, _++_};
 ghost use Prim.Native.Nat.{_≤_};
 ghost use lib.ListN.{length};
-ghost use Rattle.frame.specs.Control.{lf};
+ghost use Rattle.characters.specs.Control.{lf};
 ghost use Rattle.frame.specs.Shape.{endFrom, isBuilt, isChecked, innerOf};
-use super::CR;
-use super::ETB;
-use super::ETX;
 use super::End;
-use super::MOST_NUMBER;
 use super::Shape;
+use characters::CR;
+use characters::ETB;
+use characters::ETX;
+use digits::MOST_NUMBER;
 
 // CR stands before the LF, and ETB or ETX fifth from the end.
 pub fn is_built(collected: &[u8]) -> bool
@@ -37,7 +37,7 @@ pub fn is_checked(collected: &[u8]) -> bool
 {
     let n = collected.len();
     let counted = n - 3;
-    let digits = super::check_digits(super::check_sum(&collected[..counted]));
+    let digits = digits::check_digits(digits::check_sum(&collected[..counted]));
     if collected[n - 3] != digits.high {
         return false;
     }
@@ -51,7 +51,7 @@ pub fn inner(collected: &[u8]) -> Shape
 {
     let n = collected.len();
     let end = n - 4;
-    if !super::all_allowed(&collected[1..end]) {
+    if !characters::all_allowed(&collected[1..end]) {
         return Shape::BadText;
     }
     let digit = collected[0];

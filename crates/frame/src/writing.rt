@@ -4,17 +4,17 @@ ghost use mathlib.Core.List.{List, [], _∷_};
 ghost use Prim.Native.Nat.{_+_, _%_, _≤_};
 ghost use lib.ListN.{length};
 ghost use Rattle.memory.specs.Parts.{splice};
-ghost use Rattle.frame.specs.Control.{stx, cr, lf};
-ghost use Rattle.frame.specs.Check.{total, checkOf, digitsOf};
-ghost use Rattle.frame.specs.Number.{mostNumber};
+ghost use Rattle.characters.specs.Control.{stx, cr, lf};
+ghost use Rattle.digits.specs.Check.{total, checkOf, digitsOf};
+ghost use Rattle.digits.specs.Number.{mostNumber};
 ghost use Rattle.frame.specs.Shape.{aroundText};
 ghost use Rattle.frame.specs.Writing.{endByte, bodyOf, frameOf};
-use super::CR;
-use super::ETB;
-use super::ETX;
 use super::End;
-use super::LF;
-use super::STX;
+use characters::CR;
+use characters::ETB;
+use characters::ETX;
+use characters::LF;
+use characters::STX;
 
 pub fn lay_frame(number: u8, end: End, text: &[u8], out: &mut [u8])
     requires { ⌜ (number ≤ mostNumber) × (length (now text) + aroundText ≤ length (now out)) ⌝ }
@@ -60,7 +60,7 @@ fn lay_tail(check: u8, at: usize, out: &mut [u8])
     requires { ⌜ at + 4 ≤ length (now out) ⌝ }
     ensures { λ _. ⌜ now (out .exit) ≡ splice (now (out .entry)) at (digitsOf check .high ∷ digitsOf check .low ∷ cr ∷ lf ∷ []) ⌝ }
 {
-    let digits = super::check_digits(check);
+    let digits = digits::check_digits(check);
     out[at] = digits.high;
     out[at + 1] = digits.low;
     out[at + 2] = CR;

@@ -120,7 +120,7 @@ fn show_frame(limit: usize, bytes: &[u8]) {
         Shape::WrongCheck => show(b" 23"),
         Shape::BadText => show(b" 24"),
         Shape::BadNumber => show(b" 25"),
-        Shape::Whole(number, end, length) => show_whole(limit, number, end, length, bytes),
+        Shape::Whole(number, end, length) => show_whole(number, end, length, bytes),
     }
 }
 
@@ -136,12 +136,12 @@ fn show_digits(collected: &[u8]) {
         return;
     }
     let counted = n - 3;
-    let digits = frame::check_digits(frame::check_sum(&collected[..counted]));
+    let digits = digits::check_digits(digits::check_sum(&collected[..counted]));
     show(b" ");
     show(&[digits.high, digits.low]);
 }
 
-fn show_whole(limit: usize, number: u8, end: End, length: usize, bytes: &[u8]) {
+fn show_whole(number: u8, end: End, length: usize, bytes: &[u8]) {
     show(b" whole ");
     io::print_decimal(STDOUT_FILENO, number as u64);
     match end {
@@ -154,7 +154,7 @@ fn show_whole(limit: usize, number: u8, end: End, length: usize, bytes: &[u8]) {
     }
     let text_end = bytes.len() - 5;
     let mut out = [0u8; MOST];
-    match frame::write_frame(limit, number, end, &bytes[1..text_end], &mut out) {
+    match frame::put_frame(number, end, &bytes[1..text_end], &mut out) {
         Written::NoFrame => show(b" 46"),
         Written::NoRoom => show(b" 47"),
         Written::Length(n) => show_same(bytes, n, &out),
@@ -171,7 +171,7 @@ fn show_same(bytes: &[u8], n: usize, out: &[u8]) {
         show(b" empty");
         return;
     }
-    if out[0] != frame::STX {
+    if out[0] != characters::STX {
         show(b" no STX");
         return;
     }

@@ -9,7 +9,7 @@ use borrow.Author.Tests.{eqb-false, leb-true}
 use lib.Dec.{eqb, leb}
 use Rattle.memory.specs.Sizes.{frameLimit}
 use Rattle.memory.specs.Tests.{is}
-use Rattle.frame.specs.Control.{lf, stx}
+use Rattle.characters.specs.Control.{lf, stx}
 use Rattle.frame.specs.Shape.{shapeOf}
 use Rattle.frame.specs.declared.End.{End}
 use Rattle.frame.specs.declared.End.the-variants.{Etb, Etx}

@@ -6,7 +6,7 @@ use mathlib.Core.List.{List}
 use lib.Dec.{eqb}
 use Rattle.memory.specs.Sizes.{frameLimit}
 use Rattle.memory.specs.Tests.{unless, is}
-use Rattle.frame.specs.Control.{stx, lf}
+use Rattle.characters.specs.Control.{stx, lf}
 use Rattle.frame.specs.Shape.{shapeOf}
 use Rattle.frame.specs.declared.End.{End}
 use Rattle.frame.specs.declared.End.the-variants.{Etb, Etx}

@@ -9,10 +9,10 @@ ghost use Rattle.gateway.specs.Looks.{neutralLook, waitingLook, insideLo
 use super::Kind;
 use super::Look;
 use super::Verdict;
-use frame::CR;
+use characters::CR;
+use characters::LF;
+use characters::STX;
 use frame::End;
-use frame::LF;
-use frame::STX;
 use frame::Shape;
 use line::Answer;
 use line::ENQ;

@@ -8,7 +8,7 @@ use borrow.Author.Tests.{leb-true, le-leb}
 use lib.Dec.{leb}
 use Rattle.memory.specs.Sizes.{messageLimit}
 use Rattle.memory.proofs.Tests.{and-left, and-right}
-use Rattle.frame.specs.Number.{mostNumber, nextNumber}
+use Rattle.digits.specs.Number.{mostNumber, nextNumber}
 use Rattle.line.specs.Line.{mostCollected, mostSeconds, lastWithin, freshLine, openedLine, withinLimits, begunLine, collectedLine, countedLine, waitingLine, acceptedLine, refusingLine}
 use Rattle.line.specs.declared.Line.{Line}
 

@@ -4,7 +4,7 @@ use Prim.Native.Nat.{ℕ, _-_}
 use mathlib.Core.Bool.{Bool, true, false, _&&_}
 use lib.Dec.{leb}
 use Rattle.memory.specs.Sizes.{messageLimit, frameLimit}
-use Rattle.frame.specs.Number.{mostNumber, nextNumber}
+use Rattle.digits.specs.Number.{mostNumber, nextNumber}
 use Rattle.line.specs.declared.Line.{Line}
 use Rattle.line.specs.declared.State.the-variants.{Neutral, Waiting, Inside}
 use Rattle.line.specs.declared.Last.{Last}

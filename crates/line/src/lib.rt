@@ -201,7 +201,7 @@ impl Line {
             collected: 0,
             joined: joined,
             seconds: 0,
-            next: frame::next_number(self.next),
+            next: digits::next_number(self.next),
             last: Last::Number(self.next),
             refusing: self.refusing,
         }
@@ -319,19 +319,25 @@ impl Answer {
     pub fn reply(self) -> Reply
         ensures { λ r. ⌜ r ≡ replyOf (numberOf self) ⌝ }
     {
-        let n = self.number();
-        if n < 1 {
-            return Reply::Silence;
-        }
-        if n <= 4 {
-            return Reply::Byte(ACK);
-        }
-        if n < 20 {
-            return Reply::Silence;
-        }
-        if n <= 31 {
-            return Reply::Byte(NAK);
-        }
-        Reply::Silence
+        reply_to(self.number())
     }
+}
+
+// The byte that the table sends back with a number.
+pub fn reply_to(number: u8) -> Reply
+    ensures { λ r. ⌜ r ≡ replyOf number ⌝ }
+{
+    if number < 1 {
+        return Reply::Silence;
+    }
+    if number <= 4 {
+        return Reply::Byte(ACK);
+    }
+    if number < 20 {
+        return Reply::Silence;
+    }
+    if number <= 31 {
+        return Reply::Byte(NAK);
+    }
+    Reply::Silence
 }

@@ -7,8 +7,8 @@ use native.Mathlib.Decide.{ℕ-discrete}
 use native.Mathlib.Omega.{arith}
 use lib.ListN.{length, length-append}
 use borrow.Author.Tests.{eq-eqb, ne-eqb}
-use Rattle.listing.specs.Numbers.{decimalOf}
-use Rattle.listing.proofs.Digits.{twenty, most-digits}
+use Rattle.decimal.specs.Decimal.{decimalOf}
+use Rattle.decimal.proofs.Digits.{twenty, most-digits}
 use Rattle.listing.specs.Texts.{space, newline, taken, replyDigits, lastText, wordText, rowText, eventsText, totalText, lineText, noEventText, faultText}
 
 pub length-word : (n : ℕ) → length (wordText n) ≡ length (decimalOf n) + 1

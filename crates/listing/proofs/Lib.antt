@@ -1,4 +1,4 @@
-pub mod Digits
+pub mod ReadBack
 pub mod Operands
 pub mod Stores
 pub mod Columns

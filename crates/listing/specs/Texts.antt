@@ -7,12 +7,12 @@ use mathlib.Core.List.{List, [], _∷_, _++_}
 use lib.ListN.{length}
 use Rattle.memory.specs.Moves.{fitsAt, copied}
 use Rattle.memory.specs.Tests.{is}
-use Rattle.frame.specs.Check.{digitsOf}
-use Rattle.frame.specs.declared.Digits.{Digits}
+use Rattle.digits.specs.Check.{digitsOf}
+use Rattle.digits.specs.declared.Digits.{Digits}
 use Rattle.line.specs.Paper.{replyOf}
 use Rattle.line.specs.declared.Reply.{Reply}
 use Rattle.line.specs.declared.Reply.the-variants.{Silence, Byte}
-use Rattle.listing.specs.Numbers.{decimalOf}
+use Rattle.decimal.specs.Decimal.{decimalOf}
 use Rattle.listing.specs.declared.Written.{Written}
 use Rattle.listing.specs.declared.Written.the-variants.{To, NoRoom}
 

@@ -4,7 +4,6 @@ ghost use Rattle.listing.specs.Items.{itemOf};
 ghost use Rattle.listing.specs.Texts.{headerText, rowText, totalText, faultText, TextWritten};
 use gateway::Event;
 
-mod numbers; // numbers.rt: a number in decimal, measured and written
 mod reading; // reading.rt: what stands behind a line's letter
 mod rows; // rows.rt: the columns of an event's row
 
@@ -92,14 +91,14 @@ pub fn write_row(
 pub fn write_total(events: u64, out: &mut [u8], at: usize) -> Written
     ensures { λ r. ⌜ TextWritten (totalText events) (now (out .entry)) at r (now (out .exit)) ⌝ }
 {
-    let n = numbers::size(events) + EVENTS.len();
+    let n = decimal::size(events) + EVENTS.len();
     if out.len() < at {
         return Written::NoRoom;
     }
     if out.len() - at < n {
         return Written::NoRoom;
     }
-    let end = numbers::put(events, out, at);
+    let end = decimal::put(events, out, at);
     memory::copy_at(out, end, &EVENTS);
     Written::To(at + n)
 }
@@ -108,7 +107,7 @@ pub fn write_total(events: u64, out: &mut [u8], at: usize) -> Written
 pub fn write_fault(line: u64, out: &mut [u8], at: usize) -> Written
     ensures { λ r. ⌜ TextWritten (faultText line) (now (out .entry)) at r (now (out .exit)) ⌝ }
 {
-    let n = LINE.len() + numbers::size(line) + NO_EVENT.len();
+    let n = LINE.len() + decimal::size(line) + NO_EVENT.len();
     if out.len() < at {
         return Written::NoRoom;
     }
@@ -117,7 +116,7 @@ pub fn write_fault(line: u64, out: &mut [u8], at: usize) -> Written
     }
     memory::copy_at(out, at, &LINE);
     let number = at + LINE.len();
-    let end = numbers::put(line, out, number);
+    let end = decimal::put(line, out, number);
     memory::copy_at(out, end, &NO_EVENT);
     Written::To(at + n)
 }

@@ -5,8 +5,8 @@ ghost use lib.Dec.{leb};
 ghost use lib.ListN.{length};
 ghost use Rattle.memory.specs.Parts.{splice};
 ghost use Rattle.listing.specs.Texts.{wordText, lastText, noDigits, replyDigits, rowText};
-use crate::numbers;
-use frame::Digits;
+use digits::Digits;
+use line::Reply;
 
 // The answer to a taking that took an entry: its row shows the entry's length.
 const TAKEN: u8 = 8;
@@ -27,7 +27,7 @@ pub fn has_room(event: u64, line: u8, number: u8, taken: usize, room: usize) -> 
 fn measure(event: u64, line: u8, number: u8, taken: usize) -> usize
     ensures { λ r. ⌜ r ≡ length (rowText event line number taken) ⌝ }
 {
-    let columns = numbers::size(event) + numbers::size(line as u64) + numbers::size(number as u64);
+    let columns = decimal::size(event) + decimal::size(line as u64) + decimal::size(number as u64);
     columns + last_size(number, taken) + 4 // three spaces and the newline
 }
 
@@ -35,7 +35,7 @@ fn last_size(number: u8, taken: usize) -> usize
     ensures { λ r. ⌜ (r ≡ length (lastText number taken)) × (r ≤ 20) ⌝ }
 {
     if number == TAKEN {
-        return numbers::size(taken as u64);
+        return decimal::size(taken as u64);
     }
     2
 }
@@ -46,8 +46,8 @@ pub fn put(event: u64, line: u8, number: u8, taken: usize, out: &mut [u8], at: u
     ensures { λ r. ⌜ (r ≡ at + length (rowText event line number taken)) × (now (out .exit) ≡ splice (now (out .entry)) at (rowText event line number taken)) ⌝ }
 {
     let second = put_word(event, out, at);
-    let third = put_byte(line, out, second);
-    let last = put_byte(number, out, third);
+    let third = put_word(line as u64, out, second);
+    let last = put_word(number as u64, out, third);
     let end = put_last(number, taken, out, last);
     out[end] = b'\n';
     end + 1
@@ -58,17 +58,7 @@ fn put_word(n: u64, out: &mut [u8], at: usize) -> usize
     requires { ⌜ at + length (wordText n) ≤ length (now out) ⌝ }
     ensures { λ r. ⌜ (r ≡ at + length (wordText n)) × (now (out .exit) ≡ splice (now (out .entry)) at (wordText n)) ⌝ }
 {
-    let end = numbers::put(n, out, at);
-    out[end] = b' ';
-    end + 1
-}
-
-// The same of a byte's number, which is short.
-fn put_byte(n: u8, out: &mut [u8], at: usize) -> usize
-    requires { ⌜ at + length (wordText n) ≤ length (now out) ⌝ }
-    ensures { λ r. ⌜ (r ≡ at + length (wordText n)) × (now (out .exit) ≡ splice (now (out .entry)) at (wordText n)) ⌝ }
-{
-    let end = numbers::put_short(n as u64, out, at);
+    let end = decimal::put(n, out, at);
     out[end] = b' ';
     end + 1
 }
@@ -79,7 +69,7 @@ fn put_last(number: u8, taken: usize, out: &mut [u8], at: usize) -> usize
     ensures { λ r. ⌜ (r ≡ at + length (lastText number taken)) × (now (out .exit) ≡ splice (now (out .entry)) at (lastText number taken)) ⌝ }
 {
     if number == TAKEN {
-        return numbers::put(taken as u64, out, at);
+        return decimal::put(taken as u64, out, at);
     }
     let digits = reply_digits(number);
     out[at] = digits.high;
@@ -91,19 +81,11 @@ fn put_last(number: u8, taken: usize, out: &mut [u8], at: usize) -> usize
 fn reply_digits(number: u8) -> Digits
     ensures { λ r. ⌜ r ≡ replyDigits number ⌝ }
 {
-    if number < 1 {
-        return dashes();
+    let reply = line::reply_to(number);
+    match reply {
+        Reply::Silence => dashes(),
+        Reply::Byte(b) => digits::check_digits(b),
     }
-    if number <= 4 {
-        return frame::check_digits(line::ACK);
-    }
-    if number < 20 {
-        return dashes();
-    }
-    if number <= 31 {
-        return frame::check_digits(line::NAK);
-    }
-    dashes()
 }
 
 fn dashes() -> Digits

@@ -12,7 +12,7 @@ use lib.ListN.{getD, set}
 use lib.Seq.{set-getD, getD-set-other}
 use Rattle.memory.specs.Sizes.{lines, messageLimit}
 use Rattle.memory.proofs.Tests.{and-left, and-right}
-use Rattle.frame.specs.Number.{mostNumber}
+use Rattle.digits.specs.Number.{mostNumber}
 use Rattle.line.specs.Line.{mostCollected, mostSeconds, lastWithin, withinLimits, collectedLine}
 use Rattle.line.specs.declared.Last.the-variants.{Number}
 use Rattle.line.proofs.Limits.{within-of}

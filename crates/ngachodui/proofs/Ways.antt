@@ -10,7 +10,7 @@ use lib.ListN.{length, set}
 use Rattle.memory.specs.Sizes.{lines}
 use Rattle.memory.specs.Tests.{is}
 use Rattle.memory.proofs.Tests.{and-left, and-right}
-use Rattle.frame.specs.Control.{lf}
+use Rattle.characters.specs.Control.{lf}
 use Rattle.room.specs.Room.{todaysShares}
 use Rattle.line.specs.Line.{mostCollected}
 use Rattle.line.specs.declared.Answer.{Answer}

@@ -7,8 +7,8 @@ use lib.ListN.{getD, set}
 use lib.Dec.{leb, eqb}
 use Rattle.memory.specs.Sizes.{lines, messageLimit}
 use Rattle.memory.specs.Tests.{is}
-use Rattle.frame.specs.Control.{lf}
-use Rattle.frame.specs.Number.{mostNumber}
+use Rattle.characters.specs.Control.{lf}
+use Rattle.digits.specs.Number.{mostNumber}
 use Rattle.journal.specs.declared.Ledger.{Ledger}
 use Rattle.line.specs.Line.{mostCollected, mostSeconds}
 use Rattle.line.specs.Paper.{numberOf, replyOf}

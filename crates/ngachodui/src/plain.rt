@@ -9,7 +9,7 @@ ghost use Rattle.gateway.specs.Verdicts.{rightLengths};
 ghost use Rattle.gateway.specs.Views.{frameStart};
 ghost use Rattle.ngachodui.specs.Plain.{numberAt, oneMore, quick, stateOf, stateNumber, lastOf, lastNumber, flag, withinNumbers, onlyCollects, lineOf, withLine, ledgerOf, withSerial, withUsed, replyByte, told as Plain·told, toldTaking};
 use super::Answered;
-use frame::LF;
+use characters::LF;
 use journal::Ledger;
 use journal::Took;
 use line::Answer;

@@ -13,7 +13,7 @@ use borrow.Author.Tests.{le-leb, leb-true}
 use lib.Dec.{eqb}
 use lib.ListN.{length, getD, set, length-set}
 use lib.Seq.{sets, length-sets, getD-set-same, getD-set-other}
-use Rattle.frame.specs.Number.{mostNumber}
+use Rattle.digits.specs.Number.{mostNumber}
 use Rattle.journal.specs.declared.Ledger.{Ledger}
 use Rattle.line.specs.Line.{lastWithin, withinLimits}
 use Rattle.line.specs.declared.Line.{Line}

@@ -13,7 +13,7 @@ use Rattle.memory.specs.Tests.{unless, is}
 use Rattle.memory.specs.Parts.{splice}
 use Rattle.memory.proofs.Tests.{and-left, and-right}
 use Rattle.memory.proofs.Parts.{sets-splice}
-use Rattle.frame.specs.Control.{cr}
+use Rattle.characters.specs.Control.{cr}
 use Rattle.record.specs.Records.{onto, records}
 use Rattle.record.specs.Faults.{isMessage}
 use Rattle.record.specs.declared.Delimiters.{Delimiters}

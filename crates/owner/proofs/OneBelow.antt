@@ -11,7 +11,7 @@ use borrow.Author.Tests.{eqb-false}
 use lib.Dec.{eqb}
 use lib.ListN.{length, getD, drop}
 use lib.Seq.{getD-drop, drop-drop}
-use Rattle.frame.specs.Control.{cr}
+use Rattle.characters.specs.Control.{cr}
 use Rattle.record.specs.Kinds.{letterOf, kindOf, mayFollow}
 use Rattle.record.specs.Records.{records}
 use Rattle.record.specs.Faults.{isMessage}

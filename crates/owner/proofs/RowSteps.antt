@@ -10,7 +10,7 @@ use lib.ListN.{length, getD, take, drop, set}
 use lib.Seq.{sets, drop-cons}
 use borrow.Author.Tests.{eqb-true}
 use Rattle.memory.specs.Tests.{is, find}
-use Rattle.frame.specs.Control.{cr}
+use Rattle.characters.specs.Control.{cr}
 use Rattle.record.specs.Records.{records}
 use Rattle.record.proofs.Scans.{tailAt, rest-part, cut-length}
 use Rattle.record.proofs.Front.{front}

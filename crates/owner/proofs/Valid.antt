@@ -6,7 +6,7 @@ use mathlib.Core.List.{List, [], _∷_}
 use Prim.Native.Nat.{ℕ}
 use lib.Dec.{ltb}
 use lib.ListN.{length, getD}
-use Rattle.frame.specs.Control.{cr}
+use Rattle.characters.specs.Control.{cr}
 use Rattle.record.specs.Kinds.{letterOf, kindOf, mayFollow}
 use Rattle.record.specs.Records.{records}
 use Rattle.record.specs.Faults.{isMessage}

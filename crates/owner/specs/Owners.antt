@@ -5,7 +5,7 @@ use mathlib.Core.List.{List, [], _∷_}
 use mathlib.Core.Bool.{cond}
 use lib.Dec.{eqb}
 use lib.ListN.{getD}
-use Rattle.frame.specs.Control.{cr}
+use Rattle.characters.specs.Control.{cr}
 use Rattle.record.specs.Kinds.{kindOf}
 use Rattle.record.specs.declared.Letter.{Letter}
 use Rattle.record.specs.declared.Letter.the-variants.{Known, Unknown}

@@ -13,9 +13,9 @@ use Rattle.memory.specs.Parts.{part, splice}
 use Rattle.memory.specs.Tests.{all}
 use Rattle.memory.proofs.Parts.{part-start, take-through, length-splice}
 use Rattle.memory.proofs.Tests.{and-left, and-right, all-append}
-use Rattle.frame.specs.Control.{stx, lf}
-use Rattle.frame.specs.Allowed.{allowed}
-use Rattle.frame.specs.Number.{mostNumber, nextNumber}
+use Rattle.characters.specs.Control.{stx, lf}
+use Rattle.characters.specs.Allowed.{allowed}
+use Rattle.digits.specs.Number.{mostNumber, nextNumber}
 use Rattle.frame.specs.Shape.{aroundText}
 use Rattle.frame.specs.Writing.{frameOf}
 use Rattle.frame.specs.declared.End.{End}

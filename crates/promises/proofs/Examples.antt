@@ -3,9 +3,9 @@
 use mathlib.Core.Path.{_≡_, refl}
 use mathlib.Core.List.{map}
 use lib.ListN.{length}
-use Rattle.frame.specs.Allowed.{allowed}
-use Rattle.frame.specs.Check.{total, checkOf, hexDigit, digitsOf}
-use Rattle.frame.specs.Number.{nextNumber}
+use Rattle.characters.specs.Allowed.{allowed}
+use Rattle.digits.specs.Check.{total, checkOf, hexDigit, digitsOf}
+use Rattle.digits.specs.Number.{nextNumber}
 use Rattle.frame.specs.Writing.{bodyOf, tailOf, collectedOf, frameOf}
 use Rattle.record.specs.Faults.{kindStep, recordStep, isHeader, headerStep, recordsFault, fault}
 use Rattle.record.specs.Kinds.{kindOf, typeOf, mayFollow}

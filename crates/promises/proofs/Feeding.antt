@@ -14,10 +14,10 @@ use Rattle.memory.specs.Parts.{part, splice}
 use Rattle.memory.specs.Tests.{is, all}
 use Rattle.memory.proofs.Parts.{part-part, part-splice, splice-nil, splice-join, length-splice}
 use Rattle.memory.proofs.Tests.{and-left, and-right, and-both, all-append}
-use Rattle.frame.specs.Control.{stx, lf, cr}
-use Rattle.frame.specs.Allowed.{allowed}
-use Rattle.frame.specs.Check.{checkOf, hexDigit, digitsOf}
-use Rattle.frame.specs.Number.{mostNumber}
+use Rattle.characters.specs.Control.{stx, lf, cr}
+use Rattle.characters.specs.Allowed.{allowed}
+use Rattle.digits.specs.Check.{checkOf, hexDigit, digitsOf}
+use Rattle.digits.specs.Number.{mostNumber}
 use Rattle.frame.specs.Shape.{aroundText, shapeOf}
 use Rattle.frame.specs.Writing.{endByte, bodyOf, frameOf}
 use Rattle.frame.specs.declared.End.{End}

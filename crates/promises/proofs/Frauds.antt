@@ -8,8 +8,8 @@ use Prim.Native.Nat.{ℕ, _<_}
 use native.Mathlib.Omega.{arith}
 use lib.ListN.{length, getD, replicate, length-append, length-replicate}
 use Rattle.memory.specs.Sizes.{frameLimit, journalSize, unfinishedSize, framesSize}
-use Rattle.frame.specs.Check.{checkOf, hexDigit, digitsOf, total}
-use Rattle.frame.specs.Number.{nextNumber}
+use Rattle.digits.specs.Check.{checkOf, hexDigit, digitsOf, total}
+use Rattle.digits.specs.Number.{nextNumber}
 use Rattle.frame.specs.Writing.{bodyOf, tailOf, collectedOf, frameOf}
 use Rattle.record.specs.Delimiters.{standard}
 use Rattle.record.specs.Faults.{isMessage}

@@ -6,7 +6,7 @@ use mathlib.Core.List.{List, [], _∷_, _++_, append-assoc}
 use Prim.Native.Nat.{ℕ}
 use Rattle.memory.specs.Tests.{all}
 use Rattle.memory.proofs.Tests.{and-left, and-right}
-use Rattle.frame.specs.Control.{cr}
+use Rattle.characters.specs.Control.{cr}
 use Rattle.record.specs.Faults.{isMessage}
 use Rattle.record.specs.Records.{records, joined, none, isNotCr, endsWithCr, endsWithL}
 use Rattle.record.specs.declared.Delimiters.{Delimiters}

@@ -9,7 +9,7 @@ use native.Mathlib.Omega.{arith}
 use lib.ListN.{length}
 use Rattle.memory.specs.Sizes.{lines, frameLimit}
 use Rattle.memory.proofs.Parts.{part-start}
-use Rattle.frame.specs.Number.{nextNumber}
+use Rattle.digits.specs.Number.{nextNumber}
 use Rattle.frame.specs.Writing.{frameOf}
 use Rattle.record.specs.Delimiters.{standard}
 use Rattle.record.specs.Faults.{isMessage}

@@ -8,8 +8,8 @@ use native.Mathlib.Omega.{arith}
 use lib.ListN.{length, getD, take, drop, replicate, take-append-drop, length-drop}
 use lib.Seq.{length-take-le, getD-take}
 use Rattle.memory.specs.Parts.{part, splice}
-use Rattle.frame.specs.Control.{stx, lf}
-use Rattle.frame.specs.Number.{nextNumber}
+use Rattle.characters.specs.Control.{stx, lf}
+use Rattle.digits.specs.Number.{nextNumber}
 use Rattle.frame.specs.Shape.{aroundText}
 use Rattle.frame.specs.Writing.{frameOf}
 use Rattle.frame.specs.declared.End.{End}

@@ -5,8 +5,8 @@ use mathlib.Core.Bool.{Bool, cond}
 use mathlib.Core.List.{List, [], _∷_, _++_}
 use lib.ListN.{length, getD, replicate, set}
 use Rattle.memory.specs.Sizes.{lines, frameLimit}
-use Rattle.frame.specs.Control.{etb, etx}
-use Rattle.frame.specs.Check.{checkOf, digitsOf}
+use Rattle.characters.specs.Control.{etb, etx}
+use Rattle.digits.specs.Check.{checkOf, digitsOf}
 use Rattle.record.specs.Delimiters.{standard}
 use Rattle.record.specs.Faults.{isMessage}
 use Rattle.cutting.specs.Frames.{cutOf}

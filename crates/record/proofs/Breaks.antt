@@ -11,8 +11,8 @@ use lib.Seq.{getD-drop}
 use borrow.Author.Tests.{eqb-true, eq-eqb}
 use Rattle.memory.specs.Tests.{is, find, all}
 use Rattle.memory.proofs.Tests.{never-both}
-use Rattle.frame.specs.Control.{cr}
-use Rattle.frame.specs.Allowed.{allowed, ordinary}
+use Rattle.characters.specs.Control.{cr}
+use Rattle.characters.specs.Allowed.{allowed, ordinary}
 use Rattle.record.specs.Fields.{before}
 use Rattle.record.specs.Records.{endsWithCr}
 use Rattle.record.specs.Rest.{breaks}

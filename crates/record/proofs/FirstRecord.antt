@@ -11,8 +11,8 @@ use lib.Seq.{drop-cons}
 use borrow.Author.Tests.{eqb-true}
 use Rattle.memory.specs.Tests.{is, find, all}
 use Rattle.memory.proofs.Tests.{find-stop, find-done}
-use Rattle.frame.specs.Control.{cr}
-use Rattle.frame.specs.Allowed.{allowed}
+use Rattle.characters.specs.Control.{cr}
+use Rattle.characters.specs.Allowed.{allowed}
 use Rattle.record.specs.Fields.{before, behind}
 use Rattle.record.specs.declared.Scanned.{Scanned}
 use Rattle.record.specs.declared.Scanned.the-variants.{NotText, End}

@@ -10,7 +10,7 @@ use lib.ListN.{length, take, drop, drop-of-length-le, length-drop}
 use lib.Seq.{drop-drop}
 use borrow.Author.Tests.{le-leb, lt-leb}
 use Rattle.memory.specs.Tests.{is, find}
-use Rattle.frame.specs.Control.{cr}
+use Rattle.characters.specs.Control.{cr}
 use Rattle.record.specs.Records.{records, none}
 use Rattle.record.proofs.Scans.{tailAt, rest-part, records-cons}
 

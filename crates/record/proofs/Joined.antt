@@ -10,7 +10,7 @@ use lib.Seq.{take-at, getD-append-add}
 use borrow.Author.Tests.{eqb-true}
 use Rattle.memory.specs.Tests.{is, all}
 use Rattle.memory.proofs.Tests.{and-left, and-right, never-both}
-use Rattle.frame.specs.Control.{cr}
+use Rattle.characters.specs.Control.{cr}
 use Rattle.record.specs.Records.{onto, records, joined, isNotCr, endsWithCr, behindLastCr, lastRecord, beginsWithL, endsWithL}
 use Rattle.record.proofs.LastRecord.{behind-cr, behind-join-lacks}
 

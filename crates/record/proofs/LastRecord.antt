@@ -13,7 +13,7 @@ use lib.Seq.{drop-cons, getD-drop, getD-take, length-take-le, take-append-add, g
 use borrow.Author.Tests.{eq-eqb, ne-eqb}
 use Rattle.memory.specs.Tests.{all}
 use Rattle.memory.proofs.Tests.{and-not-right, all-append, is-false}
-use Rattle.frame.specs.Control.{cr}
+use Rattle.characters.specs.Control.{cr}
 use Rattle.record.specs.Records.{isNotCr, behindLastCr, lastStart, lastRecord, beginsWithL, endsWithL}
 
 -- a text with no CR is all behind it

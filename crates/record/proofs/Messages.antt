@@ -11,7 +11,7 @@ use borrow.Author.Tests.{leb-true, eqb-true, eqb-false}
 use Rattle.memory.specs.Sizes.{messageLimit}
 use Rattle.memory.specs.Tests.{unless, is, all}
 use Rattle.memory.proofs.Tests.{and-left, and-right}
-use Rattle.frame.specs.Allowed.{allowed}
+use Rattle.characters.specs.Allowed.{allowed}
 use Rattle.record.specs.Kinds.{letterOf, kindOf, typeOf, mayFollow, isTerminator}
 use Rattle.record.specs.Fields.{before, fieldOf}
 use Rattle.record.specs.Records.{records, joined, none, isNotCr, endsWithCr, beginsWithL, endsWithL}

@@ -12,8 +12,8 @@ use borrow.Author.Tests.{leb-true, le-leb, eqb-true, ne-eqb, not-false}
 use Rattle.memory.specs.Sizes.{messageLimit}
 use Rattle.memory.specs.Tests.{unless, is, find, all}
 use Rattle.memory.proofs.Tests.{and-left, and-right, and-not-right, never-both}
-use Rattle.frame.specs.Control.{cr}
-use Rattle.frame.specs.Allowed.{allowed, ordinary}
+use Rattle.characters.specs.Control.{cr}
+use Rattle.characters.specs.Allowed.{allowed, ordinary}
 use Rattle.record.specs.Kinds.{letterOf, typeOf, mayFollow, isTerminator}
 use Rattle.record.specs.Fields.{before, behind, fieldOf}
 use Rattle.record.specs.Records.{records, endsWithCr}

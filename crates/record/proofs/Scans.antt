@@ -11,7 +11,7 @@ use lib.ListN.{length, getD, take, drop, length-drop}
 use lib.Seq.{take-all, length-take-le, getD-take}
 use Rattle.memory.specs.Tests.{is, find}
 use Rattle.memory.proofs.Tests.{find-le, never-both}
-use Rattle.frame.specs.Control.{cr}
+use Rattle.characters.specs.Control.{cr}
 use Rattle.record.specs.Fields.{before, behind}
 use Rattle.record.specs.Records.{onto, records}
 

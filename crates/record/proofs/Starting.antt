@@ -12,8 +12,8 @@ use lib.Seq.{take-take, getD-take}
 use borrow.Author.Tests.{eqb-true, ne-eqb}
 use Rattle.memory.specs.Tests.{unless, is, find}
 use Rattle.memory.proofs.Tests.{find-le, find-next, never-both}
-use Rattle.frame.specs.Control.{cr}
-use Rattle.frame.specs.Allowed.{allowed, ordinary}
+use Rattle.characters.specs.Control.{cr}
+use Rattle.characters.specs.Allowed.{allowed, ordinary}
 use Rattle.record.specs.Kinds.{letterOf, kindOf, typeOf, mayFollow}
 use Rattle.record.specs.Fields.{before, behind}
 use Rattle.record.specs.Records.{endsWithCr}

@@ -13,8 +13,8 @@ use borrow.Author.Tests.{le-leb, eq-eqb, ne-eqb}
 use Rattle.memory.specs.Sizes.{messageLimit}
 use Rattle.memory.specs.Tests.{is, find, all}
 use Rattle.memory.proofs.Tests.{find-le}
-use Rattle.frame.specs.Control.{cr}
-use Rattle.frame.specs.Allowed.{allowed}
+use Rattle.characters.specs.Control.{cr}
+use Rattle.characters.specs.Allowed.{allowed}
 use Rattle.record.specs.Fields.{before}
 use Rattle.record.specs.Records.{records, none, endsWithCr}
 use Rattle.record.specs.Faults.{after, headerStep, recordStep, restFault, recordsFault, fault}

@@ -7,7 +7,7 @@ use lib.Dec.{leb, eqb}
 use lib.ListN.{length, getD}
 use Rattle.memory.specs.Sizes.{messageLimit}
 use Rattle.memory.specs.Tests.{unless, is, all}
-use Rattle.frame.specs.Allowed.{allowed}
+use Rattle.characters.specs.Allowed.{allowed}
 use Rattle.record.specs.Kinds.{letterOf, typeOf, mayFollow, isTerminator}
 use Rattle.record.specs.Fields.{fieldOf}
 use Rattle.record.specs.Records.{records, none, endsWithCr}

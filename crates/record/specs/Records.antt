@@ -5,7 +5,7 @@ use mathlib.Core.List.{List, [], _∷_, _++_}
 use mathlib.Core.Bool.{Bool, false, true, not, cond, _&&_}
 use lib.ListN.{length, getD, take}
 use Rattle.memory.specs.Tests.{is, all}
-use Rattle.frame.specs.Control.{cr}
+use Rattle.characters.specs.Control.{cr}
 use Rattle.record.specs.declared.Kind.the-variants.{Terminator}
 use Rattle.record.specs.Kinds.{letterOf}
 

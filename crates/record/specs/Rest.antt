@@ -6,7 +6,7 @@ use mathlib.Core.List.{List, [], _∷_}
 use mathlib.Core.Bool.{Bool, false, not, _&&_}
 use lib.ListN.{length, getD}
 use Rattle.memory.specs.Tests.{all}
-use Rattle.frame.specs.Allowed.{allowed, ordinary}
+use Rattle.characters.specs.Allowed.{allowed, ordinary}
 use Rattle.record.specs.Kinds.{mayFollow, kindAt, isTerminator}
 use Rattle.record.specs.Records.{records}
 use Rattle.record.specs.Faults.{recordStep}

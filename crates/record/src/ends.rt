@@ -3,7 +3,7 @@ ghost use mathlib.Core.Path.{_≡_};
 ghost use Prim.Native.Nat.{_≤_};
 ghost use lib.ListN.{length};
 ghost use Rattle.memory.specs.Tests.{is, count};
-ghost use Rattle.frame.specs.Control.{cr};
+ghost use Rattle.characters.specs.Control.{cr};
 
 // So many bytes are counted at a time: their count fits one byte, so that sixteen of them can be counted at once.
 const BLOCK: usize = 128;

@@ -233,7 +233,7 @@ pub fn is_message_by(d: Delimiters, text: &[u8]) -> bool
     if text[n - 1] != CR {
         return false;
     }
-    let classes = frame::classes();
+    let classes = characters::classes();
     let e = whole::end_of(&classes, text);
     if text[e] != CR {
         return false;

@@ -2,8 +2,8 @@
 ghost use mathlib.Core.Path.{_≡_};
 ghost use mathlib.Core.Bool.{cond};
 ghost use Rattle.memory.specs.Tests.{is, find, all};
-ghost use Rattle.frame.specs.Control.{cr};
-ghost use Rattle.frame.specs.Allowed.{allowed};
+ghost use Rattle.characters.specs.Control.{cr};
+ghost use Rattle.characters.specs.Allowed.{allowed};
 ghost use Rattle.record.specs.Fields.{before};
 ghost use Rattle.record.specs.Progress.{reached, further, endedAs};
 use crate::Checked;
@@ -17,14 +17,14 @@ use crate::Step;
 pub fn scan(text: &[u8]) -> Scanned
     ensures { λ r. ⌜ r ≡ cond (all allowed (before cr (now (text .entry)))) (Scanned.End (find (is cr) (now (text .entry)))) Scanned.NotText ⌝ }
 {
-    let table = frame::classes();
+    let table = characters::classes();
     let mut i: usize = 0;
     while i < text.len() {
         let b = text[i];
         if b == crate::CR {
             return Scanned::End(i);
         }
-        if !frame::is_marked(&table, b) {
+        if !characters::is_marked(&table, b) {
             return Scanned::NotText;
         }
         i += 1;

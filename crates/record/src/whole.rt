@@ -4,8 +4,8 @@ ghost use Prim.Native.Nat.{_<_};
 ghost use mathlib.Core.Bool.{true, false};
 ghost use lib.ListN.{length};
 ghost use Rattle.memory.specs.Tests.{find};
-ghost use Rattle.frame.specs.Control.{cr};
-ghost use Rattle.frame.specs.Allowed.{ordinary, classTable};
+ghost use Rattle.characters.specs.Control.{cr};
+ghost use Rattle.characters.specs.Allowed.{ordinary, classTable};
 ghost use Rattle.record.specs.Kinds.{kindOf, typeOf, kindAt, letterRow};
 ghost use Rattle.record.specs.Fields.{before};
 ghost use Rattle.record.specs.Records.{endsWithCr};
@@ -40,8 +40,8 @@ pub fn end_of(classes: &[u8; 256], text: &[u8]) -> usize
     ensures { λ r. ⌜ r ≡ find breaks (now (text .entry)) ⌝ }
 {
     let mut i: usize = 0;
-    while frame::is_ordinary(classes, text[i]) {
-        if !frame::is_ordinary(classes, text[i + 1]) {
+    while characters::is_ordinary(classes, text[i]) {
+        if !characters::is_ordinary(classes, text[i + 1]) {
             return i + 1;
         }
         i += 2;

@@ -13,13 +13,13 @@ use Rattle.memory.proofs.Parts.{length-splice}
 use mathlib.Core.Bool.{Bool, true, false, cond, true≢false}
 use Rattle.memory.specs.Tests.{is}
 use Rattle.listing.specs.Texts.{taken, replyDigits, lastText, rowText, endOf, TextWritten}
-use Rattle.listing.specs.Numbers.{decimalOf}
+use Rattle.decimal.specs.Decimal.{decimalOf}
 use Rattle.listing.specs.declared.Item.{Item}
 use Rattle.listing.specs.declared.Item.the-variants.{Event, Taking, NotAnEvent as NoItem}
 use Rattle.listing.specs.declared.Written.{Written}
 use Rattle.listing.specs.declared.Written.the-variants.{To, NoRoom}
 use Rattle.listing.proofs.Columns.{length-row}
-use Rattle.listing.proofs.Digits.{most-digits, twenty}
+use Rattle.decimal.proofs.Digits.{most-digits, twenty}
 use Rattle.gateway.specs.declared.Event.{Event as GatewayEvent}
 use Rattle.gateway.specs.declared.Kind.{Kind}
 use Rattle.ngachodui.specs.Calls.{Calling, Taken}

@@ -6,9 +6,11 @@ use borrow.Author.Needs.{needs}
 use lib.ListN.{length}
 use denote.Ref.{now}
 use Rattle.memory.proofs.Moves.{copied-fits}
-use Rattle.listing.specs.Numbers.{decimalOf}
+use Rattle.decimal.specs.Decimal.{decimalOf}
 use Rattle.listing.specs.Texts.{eventsText, totalText}
-use Rattle.listing.proofs.Stores.{joined, text-no, text-yes}
+use Rattle.decimal.proofs.Stores.{joined}
+use Rattle.decimal.proofs.Putting.{put-fits}
+use Rattle.listing.proofs.Stores.{text-no, text-yes}
 use Rattle.listing.proofs.Columns.{length-total}
 use Rattle.listing.proofs.write_total.Statement.{statement}
 use Rattle.listing.proofs.write_total.Tie as tie
@@ -26,12 +28,14 @@ returns-2 c =
 returns-3 : tie.Need-returns-3
 unfolding totalText
 returns-3 c =
-    let a = c .before .before .before .before .before .before .before .before .before .before .before .before .before .args in
-    let k = c .before .before .before .before .before .before .before .before .before .before .before .size .ensures .0 in
+    let p = c .before .before .before .before .before .before .before in
+    let z = p .before .before .before .before in
+    let a = z .before .before .args in
+    let k = z .size .ensures .0 in
     let m = length-total (a .events) in
     let room : a .at + length (totalText (a .events)) ≤ length (now (a .out)) = omega (arith, m, k) in
-    let put = c .before .before .before .before .before .before .before .put .ensures in
-    let done = copied-fits _ _ eventsText (c .before .before .copy-at .ensures) (omega (arith, m, k, put .0, c .before .before .before .before .before .before .before .put)) .1 in
+    let put = put-fits (a .events) (now (a .out)) (a .at) (p .put .ensures) (omega (arith, room, m)) in
+    let done = copied-fits _ _ eventsText (c .before .before .copy-at .ensures) (omega (arith, m, k, put .0, p .put)) .1 in
     text-yes (totalText (a .events)) (now (a .out)) (a .at) room (omega (arith, m, k))
     (joined (now (a .out)) (a .at) (decimalOf (a .events)) eventsText (omega (arith, room, m)) (put .0) (put .1) done)
 

@@ -8,8 +8,8 @@ use native.Mathlib.Omega.{arith}
 use lib.ListN.{length}
 use borrow.Author.Tests.{lt-leb}
 use Rattle.memory.specs.Tests.{is, find, all}
-use Rattle.frame.specs.Control.{cr}
-use Rattle.frame.specs.Allowed.{allowed}
+use Rattle.characters.specs.Control.{cr}
+use Rattle.characters.specs.Allowed.{allowed}
 use Rattle.record.specs.Fields.{before}
 use Rattle.record.specs.Faults.{fault}
 use Rattle.record.proofs.Scans.{tailAt, cut-length}

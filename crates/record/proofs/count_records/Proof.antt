@@ -4,7 +4,7 @@ use borrow.Author.Needs.{needs}
 use mathlib.Core.Path.{_∙_}
 use native.Mathlib.Omega.{arith}
 use Rattle.memory.specs.Tests.{is}
-use Rattle.frame.specs.Control.{cr}
+use Rattle.characters.specs.Control.{cr}
 use Rattle.record.proofs.RecordCount.{count-le, count-none, count-ended, count-open}
 use Rattle.record.proofs.count_records.Statement.{statement}
 use Rattle.record.proofs.count_records.Tie as tie

@@ -8,7 +8,7 @@ use denote.Ref.{now}
 use lib.ListN.{length, length-drop}
 use Rattle.memory.specs.Parts.{splice}
 use Rattle.memory.proofs.Parts.{splice-nil}
-use Rattle.frame.specs.Number.{mostNumber}
+use Rattle.digits.specs.Number.{mostNumber}
 use Rattle.record.proofs.Scans.{tailAt, rest-part}
 use Rattle.cutting.specs.Frames.{cutOf}
 use Rattle.cutting.proofs.Steps.{Turn, turn, ended-tail}

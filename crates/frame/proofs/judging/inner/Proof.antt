@@ -11,8 +11,8 @@ use lib.ListN.{length, take, drop, getD}
 use denote.Ref.{now}
 use Rattle.memory.specs.Parts.{part}
 use Rattle.memory.specs.Tests.{all}
-use Rattle.frame.specs.Allowed.{allowed}
-use Rattle.frame.specs.Control.{lf}
+use Rattle.characters.specs.Allowed.{allowed}
+use Rattle.characters.specs.Control.{lf}
 use Rattle.frame.proofs.Collected.{inner-long}
 use Rattle.frame.proofs.judging.inner.Statement.{statement}
 use Rattle.frame.proofs.judging.inner.Tie as tie
@@ -26,7 +26,9 @@ text-lent cs = let e : length cs - 4 - 1 ≡ length cs - 5 = omega arith in rw e
 text-told : (cs : List ℕ) (b : Bool) → all allowed (take (length cs - 4 - 1) (drop 1 cs)) ≡ b → all allowed (part cs 1 (length cs - 5)) ≡ b
 text-told cs b e = ap (all allowed) (sym (text-lent cs)) ∙ e
 
-clean : (c : tie.Else1) → all allowed (take (length (now (c .before .before .before .before .args .collected)) - 4 - 1) (drop 1 (now (c .before .before .before .before .args .collected)))) ≡ true
+clean : (c : tie.Else1)
+    → let cs = now (c .before .before .before .before .args .collected) in
+    all allowed (take (length cs - 4 - 1) (drop 1 cs)) ≡ true
 clean c = sym (c .before .all-allowed .ensures) ∙ not-false _ (c .if1 .left)
 
 returns : tie.Need-returns
@@ -36,26 +38,30 @@ returns c =
 
 returns-2 : tie.Need-returns-2
 returns-2 c =
-    let cs = now (c .before .before .before .before .before .before .args .collected) in
-    rw (inner-long cs lf (omega arith), text-told cs true (clean (c .before .before)), lt-leb 0x30 (getD cs 0 0) (c .if2 .taken))
+    let e = c .before .before in
+    let cs = now (e .before .before .before .before .args .collected) in
+    rw (inner-long cs lf (omega arith), text-told cs true (clean e), lt-leb 0x30 (getD cs 0 0) (c .if2 .taken))
 
 returns-3 : tie.Need-returns-3
 returns-3 c =
-    let cs = now (c .before .before .before .before .before .before .before .args .collected) in
+    let e = c .before .before .before in
+    let cs = now (e .before .before .before .before .args .collected) in
     rw (
       inner-long cs lf (omega arith),
-      text-told cs true (clean (c .before .before .before)),
+      text-told cs true (clean e),
       le-leb 0x30 (getD cs 0 0) (c .before .if2 .left),
       lt-leb (getD cs 0 0) 0x37 (c .if3 .taken),
     )
 
 returns-4 : tie.Need-returns-4
 returns-4 c =
-    let cs = now (c .before .before .before .before .before .before .before .before .before .args .collected) in
+    let low = c .before .before .before in
+    let e = low .before .before in
+    let cs = now (e .before .before .before .before .args .collected) in
     rw (
       inner-long cs lf (omega arith),
-      text-told cs true (clean (c .before .before .before .before .before)),
-      le-leb 0x30 (getD cs 0 0) (c .before .before .before .if2 .left),
+      text-told cs true (clean e),
+      le-leb 0x30 (getD cs 0 0) (low .if2 .left),
       le-leb (getD cs 0 0) 0x37 (c .before .before .if3 .left),
       c .end-from .ensures,
     )

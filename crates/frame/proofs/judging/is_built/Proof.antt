@@ -4,7 +4,7 @@ use mathlib.Core.Path.{sym}
 use native.Mathlib.Omega.{arith}
 use borrow.Author.Tests.{eq-eqb, ne-eqb}
 use denote.Ref.{now}
-use Rattle.frame.specs.Control.{lf}
+use Rattle.characters.specs.Control.{lf}
 use Rattle.frame.proofs.Collected.{built-short, built-long}
 use Rattle.frame.proofs.judging.is_built.Statement.{statement}
 use Rattle.frame.proofs.judging.is_built.Tie as tie

@@ -11,21 +11,26 @@ use Rattle.frame.proofs.Put.{long-body, put-body, check-body}
 use Rattle.frame.proofs.writing.lay_body.Statement.{statement}
 use Rattle.frame.proofs.writing.lay_body.Tie as tie
 
-room : (c : tie.After-end-byte) → length (now (c .before .before .before .before .before .before .before .args .text)) + 3 ≤ length (now (c .before .before .before .before .before .before .before .args .out))
-room c = c .before .before .before .before .before .before .before .pre .1
+-- the start, as it is seen from behind the end byte
+abbrev start : tie.After-end-byte → tie.Start
+start c = c .before .before .before .before .before .before .before
 
-same : (c : tie.After-end-byte) → length (c .before .before .before .lay-text .last .1 .1 .0) ≡ length (now (c .before .before .before .before .before .before .before .args .out))
+room : (c : tie.After-end-byte) → length (now (start c .args .text)) + 3 ≤ length (now (start c .args .out))
+room c = start c .pre .1
+
+same : (c : tie.After-end-byte) → length (c .before .before .before .lay-text .last .1 .1 .0) ≡ length (now (start c .args .out))
 same c =
-    let a = c .before .before .before .before .before .before .before .args in
+    let a = start c .args in
     long-body (now (a .out)) (now (a .text)) _ _ _ 0 (room c) (c .before .before .before .lay-text .ensures .1)
 
 returns : tie.Need-returns
 unfolding bodyOf
 returns c =
-    let a = c .before .before .before .before .before .before .before .before .args in
-    let laid = c .before .before .before .before .lay-text .ensures in (
-      rw (← c .before .end-byte .ensures) (check-body _ _ (now (a .text)) (laid .0) (c .wrapping-add-u8 .ensures)),
-      rw (← c .before .end-byte .ensures) (put-body (now (a .out)) (now (a .text)) _ _ _ _ (room (c .before)) (laid .1)),
+    let e = c .before in
+    let a = start e .args in
+    let laid = e .before .before .before .lay-text .ensures in (
+      rw (← e .end-byte .ensures) (check-body _ _ (now (a .text)) (laid .0) (c .wrapping-add-u8 .ensures)),
+      rw (← e .end-byte .ensures) (put-body (now (a .out)) (now (a .text)) _ _ _ _ (room e) (laid .1)),
     )
 
 pub lay-body-spec : {M : Type 1} → statement M

@@ -11,9 +11,10 @@ use Rattle.frame.proofs.writing.lay_frame.Tie as tie
 returns : tie.Need-returns
 unfolding tailOf
 returns c =
-    let start = c .before .before .before .before .before .before .before .before .before .before in
+    let laid = c .before .before .before .before .before .before in
+    let start = laid .before .before .before .before in
     let a = start .args in
-    let body = c .before .before .before .before .before .before .lay-body .ensures in
+    let body = laid .lay-body .ensures in
     c .before .before .lay-tail .ensures
     ∙ rw (body .0, body .1) (frame-put (now (a .out)) (a .number) (a .end) (now (a .text)) (start .pre .1))
 

@@ -9,8 +9,8 @@ use lib.Seq.{take-length}
 use denote.Ref.{now}
 use Rattle.memory.specs.Parts.{splice}
 use Rattle.memory.proofs.Parts.{splice-nil}
-use Rattle.frame.specs.Check.{total}
-use Rattle.frame.proofs.Check.{total-more}
+use Rattle.digits.specs.Check.{total}
+use Rattle.digits.proofs.Check.{total-more}
 use Rattle.frame.proofs.Put.{text-more}
 use Rattle.frame.proofs.writing.lay_text.Statement.{statement}
 use Rattle.frame.proofs.writing.lay_text.Tie as tie

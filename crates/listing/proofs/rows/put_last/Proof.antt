@@ -6,20 +6,19 @@ use native.Mathlib.Omega.{arith}
 use borrow.Author.Needs.{needs}
 use lib.ListN.{length, length-set}
 use denote.Ref.{now}
-use Rattle.listing.proofs.Stores.{put-two}
+use Rattle.decimal.proofs.Stores.{put-two}
+use Rattle.decimal.proofs.Putting.{put-fits}
 use Rattle.listing.proofs.Columns.{last-taken, last-reply}
 use Rattle.listing.proofs.rows.put_last.Statement.{statement}
 use Rattle.listing.proofs.rows.put_last.Tie as tie
 
-put-requires : tie.Need-put-requires
-put-requires c κs =
-    let s = c .before .before .before in
-    omega (arith, s .pre, ap length (last-taken (s .args .number) (s .args .taken) (c .before .if1 .taken)))
-
 returns : tie.Need-returns
 returns c =
-    let a = c .before .before .before .before .before .before .args in
-    rw (last-taken (a .number) (a .taken) (c .before .before .before .before .if1 .taken)) (c .before .before .put .ensures)
+    let t = c .before .before .before .before in
+    let s = t .before .before in
+    let a = s .args in
+    let is = last-taken (a .number) (a .taken) (t .if1 .taken) in
+    rw is (put-fits (a .taken) (now (a .out)) (a .at) (c .before .before .put .ensures) (omega (arith, s .pre, ap length is)))
 
 two : (c : tie.After-reply-digits) → c .before .before .before .args .at + 2 ≤ length (now (c .before .before .before .args .out))
 two c =
@@ -35,7 +34,7 @@ pub put-last-spec : {M : Type 1} → statement M
 put-last-spec =
     tie.close
     (tie.spec
-    put-requires
+    (λ c κs. search needs)
     (λ c. search needs)
     returns
     (λ c κs. search needs)

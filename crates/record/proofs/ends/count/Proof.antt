@@ -6,7 +6,7 @@ use mathlib.Core.Path.{_≡_}
 use native.Mathlib.Omega.{arith}
 use lib.ListN.{length, drop, length-take, length-drop}
 use Rattle.memory.specs.Tests.{is, count}
-use Rattle.frame.specs.Control.{cr}
+use Rattle.characters.specs.Control.{cr}
 use Rattle.record.proofs.Scans.{rest-part}
 use Rattle.record.proofs.RecordCount.{count-le, count-part}
 use Rattle.record.proofs.ends.count.Statement.{statement}

@@ -7,7 +7,7 @@ use native.Mathlib.Omega.{arith}
 use lib.ListN.{length, drop}
 use borrow.Author.Tests.{eq-eqb, ne-eqb}
 use Rattle.memory.specs.Tests.{is, count}
-use Rattle.frame.specs.Control.{cr}
+use Rattle.characters.specs.Control.{cr}
 use Rattle.record.proofs.RecordCount.{count-hit, count-miss, count-done}
 use Rattle.record.proofs.ends.count_block.Statement.{statement}
 use Rattle.record.proofs.ends.count_block.Tie as tie

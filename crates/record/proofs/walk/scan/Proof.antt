@@ -8,8 +8,8 @@ use lib.ListN.{length, drop}
 use borrow.Author.Tests.{eq-eqb, ne-eqb, not-true, not-false}
 use Rattle.memory.specs.Tests.{is, find, all}
 use Rattle.memory.proofs.Tests.{find-next}
-use Rattle.frame.specs.Control.{cr}
-use Rattle.frame.specs.Allowed.{allowed}
+use Rattle.characters.specs.Control.{cr}
+use Rattle.characters.specs.Allowed.{allowed}
 use Rattle.record.specs.Fields.{before}
 use Rattle.record.proofs.FirstRecord.{scan-stop, scan-bad, scan-next, scan-done}
 use Rattle.record.proofs.walk.scan.Statement.{statement}

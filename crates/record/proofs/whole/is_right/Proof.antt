@@ -11,7 +11,7 @@ use lib.Seq.{drop-drop, getD-drop}
 use borrow.Author.Tests.{eq-eqb, ne-eqb}
 use Rattle.memory.specs.Tests.{is, find}
 use Rattle.memory.proofs.Table.{entry-of-row}
-use Rattle.frame.specs.Control.{cr}
+use Rattle.characters.specs.Control.{cr}
 use Rattle.record.specs.Kinds.{mayFollow, kindAt}
 use Rattle.record.specs.Fields.{before, behind}
 use Rattle.record.specs.Records.{endsWithCr}

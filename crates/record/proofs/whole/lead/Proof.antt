@@ -8,7 +8,7 @@ use Prim.Native.Nat.{ℕ, _+_, _<_}
 use native.Mathlib.Omega.{arith}
 use lib.ListN.{length, getD, drop}
 use borrow.Author.Tests.{not-true, not-false}
-use Rattle.frame.specs.Control.{cr}
+use Rattle.characters.specs.Control.{cr}
 use Rattle.record.specs.Kinds.{typeOf, mayFollow, rowOf, kindAt}
 use Rattle.record.specs.Fields.{before}
 use Rattle.record.specs.Numbers.{numberOf, countOf, counted}

@@ -8,7 +8,7 @@ use native.Mathlib.Omega.{arith}
 use lib.ListN.{length, getD}
 use borrow.Author.Tests.{eq-eqb, ne-eqb}
 use Rattle.memory.specs.Tests.{is}
-use Rattle.frame.specs.Control.{cr}
+use Rattle.characters.specs.Control.{cr}
 use Rattle.record.proofs.Decimal.{Read, read-none, read-all, read-bad, read-long, read-zero, read-more, six-digits, not-digit}
 use Rattle.record.proofs.Starting.{fieldAt, field-within, ends-at-b, ends-at-cr, field-goes, field-byte}
 use Rattle.record.proofs.whole.number_at.Statement.{statement}

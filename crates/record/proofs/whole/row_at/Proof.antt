@@ -8,7 +8,7 @@ use lib.ListN.{length, getD}
 use borrow.Author.Tests.{eq-eqb, ne-eqb}
 use Rattle.memory.specs.Tests.{is}
 use Rattle.memory.proofs.Tests.{is-false}
-use Rattle.frame.specs.Control.{cr}
+use Rattle.characters.specs.Control.{cr}
 use Rattle.record.specs.Kinds.{kindOf, letterRow}
 use Rattle.record.proofs.Breaks.{cr-some, not-last}
 use Rattle.record.proofs.Starting.{cr-names-none, type-unknown, type-long, type-named, b-first, b-later, b-second}

@@ -5,7 +5,7 @@ use Prim.Native.Nat.{_+_, _-_, _≤_, _<_}
 use mathlib.Core.Path.{_≡_}
 use native.Mathlib.Omega.{arith}
 use lib.ListN.{length, drop}
-use Rattle.frame.specs.Control.{cr}
+use Rattle.characters.specs.Control.{cr}
 use Rattle.record.specs.Records.{records}
 use Rattle.record.proofs.Scans.{tailAt, cut-length, tail-within}
 use Rattle.record.proofs.Front.{count-front}

@@ -1,0 +1,4 @@
+pub mod Digits
+pub mod Stores
+pub mod Putting
+pub mod OneOutcome

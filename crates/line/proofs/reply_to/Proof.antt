@@ -1,0 +1,29 @@
+-- `line::reply_to` meets its contract.
+-- Assumes nothing.
+use Rattle.memory.proofs.Told.{told}
+use Rattle.line.specs.Paper.{replyOf}
+use Rattle.line.proofs.reply_to.Statement.{statement}
+use Rattle.line.proofs.reply_to.Tie as tie
+
+returns : tie.Need-returns
+unfolding replyOf
+returns c = search told
+
+returns-2 : tie.Need-returns-2
+unfolding replyOf
+returns-2 c = search told
+
+returns-3 : tie.Need-returns-3
+unfolding replyOf
+returns-3 c = search told
+
+returns-4 : tie.Need-returns-4
+unfolding replyOf
+returns-4 c = search told
+
+returns-5 : tie.Need-returns-5
+unfolding replyOf
+returns-5 c = search told
+
+pub reply-to-spec : {M : Type 1} → statement M
+reply-to-spec = tie.close (tie.spec returns returns-2 returns-3 returns-4 returns-5)
