@@ -32,7 +32,7 @@ enum Scanned {
 enum Progress {
     Start,
     Going(Counts),
-    Stopped(Fault, usize),
+    Stopped(Fault, u16),
 }
 
 // What the check of a text finds: a message; no text at all, since it is too long or has a byte that is not allowed; or its first
@@ -40,7 +40,7 @@ enum Progress {
 pub enum Checked {
     Message,
     NotText,
-    Faulty(Fault, usize),
+    Faulty(Fault, u16),
 }
 
 // Whether a text is a message by these delimiters, and the first fault of one that is not. A byte that is not allowed goes before
@@ -53,7 +53,7 @@ pub fn check(d: Delimiters, text: &[u8]) -> Checked
     }
     let mut progress = Progress::Start;
     let mut at: usize = 0;
-    let mut place: usize = 0;
+    let mut place: u16 = 0;
     while at < text.len() {
         let tail = &text[at..];
         let scanned = walk::scan(tail);

@@ -32,7 +32,7 @@ pub fn scan(text: &[u8]) -> Scanned
     Scanned::End(i)
 }
 
-fn reach(step: Step, place: usize) -> Progress
+fn reach(step: Step, place: u16) -> Progress
     ensures { λ r. ⌜ r ≡ reached step place ⌝ }
 {
     match step {
@@ -42,7 +42,7 @@ fn reach(step: Step, place: usize) -> Progress
 }
 
 // One record more, the last one or not. The first fault stays.
-pub fn go_on(d: Delimiters, progress: Progress, place: usize, last: bool, rec: &[u8]) -> Progress
+pub fn go_on(d: Delimiters, progress: Progress, place: u16, last: bool, rec: &[u8]) -> Progress
     ensures { λ r. ⌜ r ≡ further d progress place last (now (rec .entry)) ⌝ }
 {
     match progress {
