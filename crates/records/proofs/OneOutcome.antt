@@ -16,9 +16,6 @@ index-once text b a e = a ∙ sym e
 pub count-once : (text : List ℕ) {r q : ℕ} → r ≡ length (records text) → q ≡ length (records text) → r ≡ q
 count-once text a b = a ∙ sym b
 
--- `ends_with_l` and, with two pieces, `joined_ends_with_l`
-pub ends-once : (text : List ℕ) {r q : Bool} → r ≡ endsWithL text → q ≡ endsWithL text → r ≡ q
-ends-once text a b = a ∙ sym b
-
+-- `joined_ends_with_l`
 pub joined-ends-once : (old new : List ℕ) {r q : Bool} → r ≡ endsWithL (old ++ new) → q ≡ endsWithL (old ++ new) → r ≡ q
-joined-ends-once old new a b = ends-once (old ++ new) a b
+joined-ends-once old new a b = a ∙ sym b

@@ -54,7 +54,7 @@ fn last_start(text: &[u8]) -> usize
 }
 
 // Whether a text ends with CR and its last record begins with L.
-pub fn ends_with_l(text: &[u8]) -> bool
+fn ends_with_l(text: &[u8]) -> bool
     ensures { λ r. ⌜ r ≡ endsWithL (now (text .entry)) ⌝ }
 {
     let n = text.len();
