@@ -11,7 +11,7 @@ use lib.ListN.{length, getD, length-append, List·getD-append}
 use borrow.Author.Tests.{lt-ltb, le-ltb, le-leb}
 use Rattle.memory.specs.Tests.{all}
 use Rattle.memory.proofs.Tests.{all-append}
-use Rattle.record.specs.Numbers.{isDigit, decimal}
+use Rattle.sequence.specs.Numbers.{isDigit, decimal}
 use Rattle.listing.specs.Numbers.{digitFor, digitsIn, decimalOf, twoDigits, fourDigits}
 
 -- one turn: a number of one digit, and one of more

@@ -10,8 +10,8 @@ use lib.ListN.{length}
 use Rattle.memory.specs.Sizes.{lines, journalSize, messageLimit}
 use Rattle.memory.specs.Tests.{unless}
 use Rattle.memory.proofs.Tests.{and-left, and-right}
-use Rattle.record.specs.Delimiters.{standard}
-use Rattle.record.specs.Faults.{isMessage}
+use Rattle.kinds.specs.Delimiters.{standard}
+use Rattle.faults.specs.Faults.{isMessage}
 use Rattle.journal.specs.Header.{entrySize}
 use Rattle.journal.specs.Entries.{Entry, isText}
 use Rattle.journal.specs.Room.{todaysShares, fits, raised}

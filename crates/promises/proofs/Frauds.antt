@@ -11,8 +11,8 @@ use Rattle.memory.specs.Sizes.{journalSize, unfinishedSize, framesSize}
 use Rattle.frame.specs.Check.{checkOf, hexDigit, digitsOf, total}
 use Rattle.frame.specs.Number.{nextNumber}
 use Rattle.frame.specs.Writing.{bodyOf, tailOf, collectedOf, frameOf}
-use Rattle.record.specs.Delimiters.{standard}
-use Rattle.record.specs.Faults.{isMessage}
+use Rattle.kinds.specs.Delimiters.{standard}
+use Rattle.faults.specs.Faults.{isMessage}
 use Rattle.cutting.specs.Frames.{cutOf}
 use Rattle.cutting.specs.Pieces.{piecesOf}
 use Rattle.journal.specs.Header.{headSize}

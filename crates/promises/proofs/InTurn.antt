@@ -9,8 +9,8 @@ use borrow.Author.Tests.{eq-eqb}
 use lib.ListN.{length, getD}
 use Rattle.memory.specs.Sizes.{lines}
 use Rattle.memory.specs.Parts.{splice}
-use Rattle.record.specs.Delimiters.{standard}
-use Rattle.record.specs.Faults.{isMessage}
+use Rattle.kinds.specs.Delimiters.{standard}
+use Rattle.faults.specs.Faults.{isMessage}
 use Rattle.journal.specs.Entries.{Entry, from}
 use Rattle.journal.specs.Room.{todaysShares}
 use Rattle.journal.specs.Removal.{AfterTaking}
