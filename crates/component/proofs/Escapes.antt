@@ -14,7 +14,7 @@ use borrow.Author.Tests.{le-leb, lt-leb, eq-eqb, ne-eqb, leb-true}
 use native.Mathlib.Nat.{zero-add}
 use Rattle.memory.specs.Moves.{copied}
 use Rattle.memory.proofs.Parts.{sets-splice}
-use Rattle.record.specs.declared.Delimiters.{Delimiters}
+use Rattle.kinds.specs.declared.Delimiters.{Delimiters}
 use Rattle.component.specs.Escape.{letterFor, escapeOf, escaped, escapeAnswer, Escaping}
 use Rattle.component.specs.declared.Put.the-variants.{Done, Short}
 

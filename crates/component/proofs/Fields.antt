@@ -7,8 +7,8 @@ use native.Mathlib.Omega.{arith}
 use lib.ListN.{length, take, drop, drop-of-length-le}
 use lib.Seq.{drop-drop}
 use Rattle.memory.specs.Tests.{is, find}
-use Rattle.record.specs.Fields.{before, behind, fieldOf}
-use Rattle.record.proofs.Scans.{tailAt, rest-part}
+use Rattle.records.specs.Fields.{before, behind, fieldOf}
+use Rattle.records.proofs.Scans.{tailAt, rest-part}
 
 field-nil : (b n : ℕ) → fieldOf b n [] ≡ []
 field-nil b zero = refl

@@ -3,8 +3,8 @@
 use mathlib.Core.Path.{_≡_, sym, _∙_}
 use mathlib.Core.List.{List}
 use Prim.Native.Nat.{ℕ}
-use Rattle.record.specs.Fields.{fieldOf}
-use Rattle.record.specs.declared.Delimiters.{Delimiters}
+use Rattle.records.specs.Fields.{fieldOf}
+use Rattle.kinds.specs.declared.Delimiters.{Delimiters}
 use Rattle.component.specs.Component.{componentEnd}
 use Rattle.component.specs.ResultFields.{resultNumber}
 use Rattle.component.specs.Escape.{Escaping}

@@ -9,8 +9,8 @@ use native.Mathlib.Decide.{ℕ-discrete}
 use lib.Dec.{eqb}
 use borrow.Author.Tests.{eq-eqb, ne-eqb, not-true}
 use Rattle.memory.proofs.Tests.{never-both}
-use Rattle.record.specs.Delimiters.{standard, different}
-use Rattle.record.specs.declared.Delimiters.{Delimiters}
+use Rattle.kinds.specs.Delimiters.{standard, different}
+use Rattle.kinds.specs.declared.Delimiters.{Delimiters}
 use Rattle.component.specs.Escape.{letterFor, escapeOf, escaped}
 use Rattle.component.specs.Unescape.{Place, Plain, Open, Held, turnPlain, turnOpen, turnHeld, right, plainOf, accepted, plain}
 use Rattle.component.proofs.Escapes.{escape-one, escape-three}

@@ -15,7 +15,7 @@ use lib.Dec.{leb, eqb}
 use Rattle.memory.specs.Moves.{copied}
 use Rattle.memory.proofs.Tests.{never-both, is-false}
 use Rattle.memory.proofs.Parts.{sets-splice}
-use Rattle.record.specs.declared.Delimiters.{Delimiters}
+use Rattle.kinds.specs.declared.Delimiters.{Delimiters}
 use Rattle.component.specs.Component.{isOneOf}
 use Rattle.component.specs.Escape.{letterFor}
 use Rattle.component.specs.Unescape.{Place, Plain, Open, Held, Turn, Keep, Give, Bad, letters, turnPlain, turnOpen, turnHeld, turnOf, right, rightBy, plainOf, plainBy, isPlain, accepted, plain, measured, unescapeAnswer, unescapedOver, Unescaping}

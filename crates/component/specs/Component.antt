@@ -7,7 +7,7 @@ use lib.Dec.{eqb}
 use lib.ListN.{drop}
 use Rattle.memory.specs.Tests.{find}
 use Rattle.characters.specs.Control.{cr}
-use Rattle.record.specs.declared.Delimiters.{Delimiters}
+use Rattle.kinds.specs.declared.Delimiters.{Delimiters}
 
 -- b is one of these bytes
 abbrev pub isOneOf : List ℕ → ℕ → Bool

@@ -5,7 +5,7 @@ ghost use lib.Dec.{leb};
 ghost use lib.ListN.{length};
 ghost use lib.Seq.{sets};
 ghost use Rattle.component.specs.Escape.{letterFor, escapeOf, escaped};
-use record::Delimiters;
+use kinds::Delimiters;
 
 // The letter that stands for a byte in an escape, or 0 where the byte stands for itself.
 pub fn letter_for(d: Delimiters, b: u8) -> u8

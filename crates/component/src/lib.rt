@@ -1,11 +1,11 @@
 // Fields and components of a record, and field text with escapes and without.
 ghost use mathlib.Core.Path.{_≡_};
-ghost use Rattle.record.specs.Fields.{fieldOf};
+ghost use Rattle.records.specs.Fields.{fieldOf};
 ghost use Rattle.component.specs.Component.{componentEnd};
 ghost use Rattle.component.specs.ResultFields.{resultNumber};
 ghost use Rattle.component.specs.Escape.{Escaping};
 ghost use Rattle.component.specs.Unescape.{Unescaping};
-use record::Delimiters;
+use kinds::Delimiters;
 
 mod escaping; // escaping.rt: delimiters into escapes
 mod unescaping; // unescaping.rt: escapes into delimiters
@@ -37,7 +37,7 @@ enum Measured {
 pub fn component_end(d: Delimiters, text: &[u8], start: usize) -> usize
     ensures { λ r. ⌜ r ≡ componentEnd d (now (text .entry)) start ⌝ }
 {
-    let stops = [d.field, d.repeat, d.component, record::CR];
+    let stops = [d.field, d.repeat, d.component, records::CR];
     let mut i = start;
     let end = 'scan: loop {
         if text.len() <= i {
@@ -70,7 +70,7 @@ pub fn field_of<'a>(d: Delimiters, rec: &'a [u8], n: usize) -> &'a [u8]
         if rec.len() <= at {
             return &rec[0..0];
         }
-        let e = record::index_of(&rec[at..], b);
+        let e = records::index_of(&rec[at..], b);
         at = at + (e + 1);
         left = left - 1;
     }
@@ -78,7 +78,7 @@ pub fn field_of<'a>(d: Delimiters, rec: &'a [u8], n: usize) -> &'a [u8]
         return &rec[0..0];
     }
     let rest = &rec[at..];
-    let e = record::index_of(rest, b);
+    let e = records::index_of(rest, b);
     &rest[..e]
 }
 

@@ -8,7 +8,7 @@ ghost use Rattle.component.specs.Component.{isOneOf};
 ghost use Rattle.component.specs.declared.Measured.the-variants.{Of};
 ghost use Rattle.component.specs.Unescape.{Keep, Held, letters, turnOpen, plain, measured};
 use crate::Measured;
-use record::Delimiters;
+use kinds::Delimiters;
 
 // Whether a byte is the letter of an escape.
 fn is_letter(b: u8) -> bool

@@ -15,7 +15,7 @@ use Rattle.characters.specs.Control.{cr}
 use Rattle.frame.specs.Shape.{aroundText}
 use Rattle.frame.specs.declared.End.{End}
 use Rattle.frame.specs.declared.End.the-variants.{Etb, Etx}
-use Rattle.record.specs.Records.{isNotCr}
+use Rattle.records.specs.Records.{isNotCr}
 use Rattle.cutting.specs.Pieces.{Piece, piece, onto, pieceSize, piecesFrom, piecesOf, bytesOf, every, isSized, isEtb, goesOn}
 use Rattle.cutting.specs.Frames.{firstNumber, cutOf}
 use Rattle.cutting.proofs.Written.{frames-long}

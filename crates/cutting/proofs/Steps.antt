@@ -13,8 +13,8 @@ use lib.Seq.{drop-drop, drop-cons, getD-drop}
 use Rattle.memory.specs.Tests.{is}
 use Rattle.characters.specs.Control.{cr}
 use Rattle.frame.specs.Shape.{aroundText}
-use Rattle.record.specs.Records.{endsWithCr}
-use Rattle.record.proofs.Scans.{tailAt, rest-part}
+use Rattle.records.specs.Records.{endsWithCr}
+use Rattle.records.proofs.Scans.{tailAt, rest-part}
 use Rattle.cutting.specs.Pieces.{Piece, piece, onto, pieceSize, piecesFrom, piecesOf, endAfter, throughCr}
 
 -- a text that ends with CR has a byte, and one that is not CR has another behind it

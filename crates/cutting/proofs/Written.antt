@@ -17,9 +17,9 @@ use Rattle.frame.specs.Writing.{frameOf, putIn, FramePut}
 use Rattle.frame.specs.declared.End.{End}
 use Rattle.frame.specs.declared.Written.{Written}
 use Rattle.frame.proofs.Put.{length-collected}
-use Rattle.record.specs.Delimiters.{standard}
-use Rattle.record.specs.Faults.{isMessage}
-use Rattle.record.proofs.Scans.{tailAt, rest-part}
+use Rattle.kinds.specs.Delimiters.{standard}
+use Rattle.faults.specs.Faults.{isMessage}
+use Rattle.records.proofs.Scans.{tailAt, rest-part}
 use Rattle.cutting.specs.Pieces.{Piece, piecesOf, bytesOf}
 use Rattle.cutting.specs.Frames.{framesFrom, cutOf, isCuttable, cutAnswer, cutIn, CutInto}
 use Rattle.cutting.specs.declared.Framed.the-variants.{Length, NoMessage, NoRoom}

@@ -12,8 +12,8 @@ use Rattle.memory.specs.Tests.{unless}
 use Rattle.digits.specs.Number.{nextNumber}
 use Rattle.frame.specs.Shape.{aroundText}
 use Rattle.frame.specs.Writing.{frameOf}
-use Rattle.record.specs.Delimiters.{standard}
-use Rattle.record.specs.Faults.{isMessage}
+use Rattle.kinds.specs.Delimiters.{standard}
+use Rattle.faults.specs.Faults.{isMessage}
 use Rattle.cutting.specs.Pieces.{Piece, piecesOf}
 use Rattle.cutting.specs.declared.Framed.{Framed}
 use Rattle.cutting.specs.declared.Framed.the-variants.{Length, NoMessage, NoRoom}

@@ -18,7 +18,7 @@ pub fn cut(limit: usize, text: &[u8], out: &mut [u8]) -> Framed
     if limit <= frame::AROUND_TEXT {
         return Framed::NoMessage;
     }
-    if !record::is_message(text) {
+    if !message::is_message(text) {
         return Framed::NoMessage;
     }
     let n = pieces::measure(limit, text);

@@ -5,7 +5,7 @@ ghost use Prim.Native.Nat.{_+_, _*_, _<_, _≤_};
 ghost use lib.ListN.{length, take};
 ghost use Rattle.memory.specs.Sizes.{messageLimit};
 ghost use Rattle.frame.specs.Shape.{aroundText};
-ghost use Rattle.record.specs.Records.{endsWithCr};
+ghost use Rattle.records.specs.Records.{endsWithCr};
 ghost use Rattle.cutting.specs.Pieces.{pieceSize, piecesOf, throughCr};
 
 // The length of a text's first piece. The text ends with CR, so the scan for one needs no test for the text's end.
@@ -16,7 +16,7 @@ pub fn piece_length(limit: usize, text: &[u8]) -> usize
     let size = limit - frame::AROUND_TEXT;
     let mut n: usize = 0;
     while n < size {
-        if text[n] == record::CR {
+        if text[n] == records::CR {
             return n + 1;
         }
         n += 1;

@@ -7,7 +7,7 @@ ghost use Rattle.memory.specs.Parts.{splice};
 ghost use Rattle.digits.specs.Number.{mostNumber};
 ghost use Rattle.frame.specs.Shape.{aroundText};
 ghost use Rattle.frame.specs.Writing.{frameOf};
-ghost use Rattle.record.specs.Records.{endsWithCr};
+ghost use Rattle.records.specs.Records.{endsWithCr};
 ghost use Rattle.cutting.specs.Pieces.{endAfter};
 ghost use Rattle.cutting.specs.Frames.{cutOf};
 use frame::End;
@@ -19,7 +19,7 @@ const FIRST_NUMBER: u8 = 1;
 fn end_after(b: u8) -> End
     ensures { λ r. ⌜ r ≡ endAfter b ⌝ }
 {
-    if b == record::CR {
+    if b == records::CR {
         return End::Etx;
     }
     End::Etb

@@ -5,8 +5,8 @@ use mathlib.Core.Bool.{true, false}
 use mathlib.Core.List.{List}
 use Prim.Native.Nat.{ℕ}
 use lib.ListN.{length}
-use Rattle.record.specs.Delimiters.{standard}
-use Rattle.record.specs.Faults.{isMessage}
+use Rattle.kinds.specs.Delimiters.{standard}
+use Rattle.faults.specs.Faults.{isMessage}
 use Rattle.room.specs.Room.{todaysShares}
 use Rattle.journal.specs.Verdicts.{judgeOf}
 use Rattle.journal.specs.Storage.{storeBy, storeOf, Stored}

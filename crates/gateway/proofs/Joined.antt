@@ -9,7 +9,7 @@ use lib.ListN.{length, getD, length-append}
 use lib.Seq.{getD-append-add}
 use Rattle.memory.specs.Tests.{is}
 use Rattle.characters.specs.Control.{cr}
-use Rattle.record.specs.Records.{endsWithCr}
+use Rattle.records.specs.Records.{endsWithCr}
 
 no-bytes : (s : List ℕ) → length s ≤ 0 → s ≡ []
 no-bytes [] h = refl

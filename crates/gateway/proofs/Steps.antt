@@ -11,8 +11,8 @@ use lib.Dec.{ltb, leb, eqb}
 use Rattle.memory.specs.Sizes.{lines, messageLimit, journalSize, unfinishedSize, framesSize}
 use Rattle.memory.specs.Tests.{unless}
 use Rattle.memory.proofs.Tests.{and-left, and-right}
-use Rattle.record.specs.Delimiters.{standard}
-use Rattle.record.specs.Faults.{isMessage}
+use Rattle.kinds.specs.Delimiters.{standard}
+use Rattle.faults.specs.Faults.{isMessage}
 use Rattle.room.specs.Room.{todaysShares}
 use Rattle.journal.specs.Verdicts.{judgeOf}
 use Rattle.journal.specs.Removal.{TakenFrom}

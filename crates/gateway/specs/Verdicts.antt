@@ -7,8 +7,8 @@ use lib.ListN.{length}
 use lib.Dec.{ltb, eqb}
 use Rattle.memory.specs.Sizes.{lines, journalSize, unfinishedSize, framesSize}
 use Rattle.memory.specs.Tests.{unless}
-use Rattle.record.specs.Delimiters.{standard}
-use Rattle.record.specs.Faults.{isMessage}
+use Rattle.kinds.specs.Delimiters.{standard}
+use Rattle.faults.specs.Faults.{isMessage}
 use Rattle.journal.specs.Verdicts.{judgeOf}
 use Rattle.journal.specs.declared.Ledger.{Ledger}
 use Rattle.journal.specs.declared.Verdict.{Verdict as Judgement}

@@ -46,7 +46,7 @@ fn decide(ledger: Ledger, i: usize, n: usize, text: &[u8], journal: &mut [u8]) -
     requires { ⌜ i < lines ⌝ }
     ensures { λ r. ⌜ Decision ledger i n (now (text .entry)) (now (journal .entry)) r (now (journal .exit)) ⌝ }
 {
-    if !record::is_message(text) {
+    if !message::is_message(text) {
         return Decided {
             verdict: Verdict::Against(Answer::NoMessage, n),
             ledger,

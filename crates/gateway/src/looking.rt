@@ -2,7 +2,7 @@
 ghost use mathlib.Core.Path.{_≡_};
 ghost use mathlib.Core.List.{_++_};
 ghost use Prim.Native.Nat.{_+_, _≤_};
-ghost use Rattle.record.specs.Records.{endsWithCr};
+ghost use Rattle.records.specs.Records.{endsWithCr};
 ghost use Rattle.line.specs.Turn.{turnOf};
 ghost use Rattle.gateway.specs.Views.{Ready, framesOf, textsOf, joinedText};
 ghost use Rattle.gateway.specs.Looks.{neutralLook, waitingLook, insideLook, frameLook, turnLook, endLook, passedLook, byteLook, secondsLook, lookOf};
@@ -164,7 +164,7 @@ fn look_text(n: usize, old: &[u8], new: &[u8]) -> Look
     if !ends_with_cr(old, new) {
         return Look::Done(Verdict::Refuses(Answer::NoCr));
     }
-    if record::joined_ends_with_l(old, new) {
+    if records::joined_ends_with_l(old, new) {
         return Look::Decides(n);
     }
     Look::Done(Verdict::Accepts(n))

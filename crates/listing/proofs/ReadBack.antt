@@ -8,7 +8,7 @@ use native.Mathlib.Omega.{arith}
 use borrow.Author.Tests.{le-leb}
 use Rattle.memory.specs.Tests.{all}
 use Rattle.memory.proofs.Tests.{all-append}
-use Rattle.record.specs.Numbers.{isDigit, decimal}
+use Rattle.sequence.specs.Numbers.{isDigit, decimal}
 use Rattle.decimal.specs.Decimal.{digitFor, decimalOf}
 use Rattle.decimal.proofs.Digits.{one-digit, last-digit, by-digits}
 

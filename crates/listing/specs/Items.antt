@@ -7,7 +7,7 @@ use lib.ListN.{length, getD, drop}
 use lib.Dec.{leb, ltb, eqb}
 use Rattle.memory.specs.Sizes.{messageLimit}
 use Rattle.memory.specs.Tests.{is, between, all, unless}
-use Rattle.record.specs.Numbers.{isDigit, decimal}
+use Rattle.sequence.specs.Numbers.{isDigit, decimal}
 use Rattle.gateway.specs.declared.Kind.{Kind}
 use Rattle.gateway.specs.declared.Kind.the-variants.{Byte, Seconds}
 use Rattle.listing.specs.declared.Item.{Item}

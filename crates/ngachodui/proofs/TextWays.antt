@@ -4,9 +4,9 @@ use mathlib.Core.Path.{_≡_, ap, subst, _∙_}
 use mathlib.Core.List.{List}
 use Prim.Native.Nat.{ℕ}
 use Rattle.memory.specs.Sizes.{frameLimit}
-use Rattle.record.specs.Delimiters.{standard}
-use Rattle.record.specs.Records.{records}
-use Rattle.record.specs.declared.Delimiters.{Delimiters}
+use Rattle.kinds.specs.Delimiters.{standard}
+use Rattle.records.specs.Records.{records}
+use Rattle.kinds.specs.declared.Delimiters.{Delimiters}
 use Rattle.component.specs.Escape.{Escaping}
 use Rattle.component.specs.Unescape.{Unescaping}
 use Rattle.component.specs.declared.Put.{Put}

@@ -6,8 +6,8 @@ use mathlib.Core.List.{List}
 use lib.ListN.{length}
 use Rattle.memory.specs.Sizes.{frameLimit}
 use Rattle.memory.specs.Moves.{copied}
-use Rattle.record.specs.Delimiters.{standard}
-use Rattle.record.specs.Records.{records}
+use Rattle.kinds.specs.Delimiters.{standard}
+use Rattle.records.specs.Records.{records}
 use Rattle.component.specs.Escape.{escaped, escapeAnswer}
 use Rattle.component.specs.Unescape.{unescapeAnswer, unescapedOver}
 use Rattle.component.specs.declared.Put.{Put}

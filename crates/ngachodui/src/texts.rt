@@ -1,13 +1,13 @@
 // Texts for hosts: cut, read, escaped and unescaped, with the standard delimiters and today's frame limit.
 ghost use mathlib.Core.Path.{_≡_};
-ghost use Rattle.record.specs.Delimiters.{standard};
-ghost use Rattle.record.specs.Faults.{isMessage};
+ghost use Rattle.kinds.specs.Delimiters.{standard};
+ghost use Rattle.faults.specs.Faults.{isMessage};
 ghost use Rattle.ngachodui.specs.Texts.{done, refusedWith, madeByCutting, madeByPutting, madeByReading, CutFrames, Escaped, Unescaped, RecordsRead};
 use component::Put;
 use cutting::Framed;
+use kinds::Delimiters;
 use line::Answer;
 use owner::Reading;
-use record::Delimiters;
 
 // What became of a text: 0 and how much was written (bytes, or records that were read), or 46 or 47 and 0.
 #[repr(C)]
@@ -71,7 +71,7 @@ pub extern "C" fn ngachodui_read(
 pub extern "C" fn ngachodui_is_message(text: &[u8]) -> bool
     ensures { λ r. ⌜ r ≡ isMessage standard (now (text .entry)) ⌝ }
 {
-    record::is_message(text)
+    message::is_message(text)
 }
 
 fn made_by_cutting(framed: Framed) -> Made

@@ -11,12 +11,12 @@ use lib.Dec.{eqb, ltb, lit≤}
 use lib.ListN.{length, getD, drop}
 use lib.Seq.{getD-drop, drop-drop}
 use borrow.Author.Tests.{le-ltb, ne-eqb}
-use Rattle.record.specs.Kinds.{kindOf, mayFollow}
-use Rattle.record.specs.declared.Letter.{Letter}
-use Rattle.record.specs.declared.Letter.the-variants.{Known, Unknown}
-use Rattle.record.specs.declared.Kind.{Kind}
-use Rattle.record.specs.declared.Kind.the-variants.{Header, Patient, Order, Result, Query, Terminator, Comment, Manufacturer}
-use Rattle.record.proofs.Chain.{otherOf}
+use Rattle.kinds.specs.Kinds.{kindOf, mayFollow}
+use Rattle.kinds.specs.declared.Letter.{Letter}
+use Rattle.kinds.specs.declared.Letter.the-variants.{Known, Unknown}
+use Rattle.kinds.specs.declared.Kind.{Kind}
+use Rattle.kinds.specs.declared.Kind.the-variants.{Header, Patient, Order, Result, Query, Terminator, Comment, Manufacturer}
+use Rattle.faults.proofs.Chain.{otherOf}
 use Rattle.owner.specs.Levels.{depthBy, depthOf}
 use Rattle.owner.specs.Nearest.{nearest, nearestOwner, nearestFrom}
 use Rattle.owner.specs.Owners.{Seen, ownerBy, seenBy, ownersBy}

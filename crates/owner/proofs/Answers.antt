@@ -14,9 +14,9 @@ use Rattle.memory.specs.Parts.{splice}
 use Rattle.memory.proofs.Tests.{and-left, and-right}
 use Rattle.memory.proofs.Parts.{sets-splice}
 use Rattle.characters.specs.Control.{cr}
-use Rattle.record.specs.Records.{onto, records}
-use Rattle.record.specs.Faults.{isMessage}
-use Rattle.record.specs.declared.Delimiters.{Delimiters}
+use Rattle.records.specs.Records.{onto, records}
+use Rattle.faults.specs.Faults.{isMessage}
+use Rattle.kinds.specs.declared.Delimiters.{Delimiters}
 use Rattle.owner.specs.declared.Reading.the-variants.{Read, NoMessage, Short}
 use Rattle.owner.specs.Nearest.{nearestOwners}
 use Rattle.owner.specs.Owners.{typesOf, ownersOf}

@@ -3,8 +3,8 @@
 use mathlib.Core.Path.{_≡_, sym, ap, _∙_}
 use mathlib.Core.List.{List}
 use Prim.Native.Nat.{ℕ}
-use Rattle.record.specs.Records.{records}
-use Rattle.record.specs.declared.Delimiters.{Delimiters}
+use Rattle.records.specs.Records.{records}
+use Rattle.kinds.specs.declared.Delimiters.{Delimiters}
 use Rattle.owner.specs.Owners.{typesOf, ownersOf}
 use Rattle.owner.specs.Reading.{offsetsOf, lengthsOf, laid, ReadAs}
 use Rattle.owner.specs.declared.Reading.{Reading}

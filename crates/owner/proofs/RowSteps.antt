@@ -11,9 +11,9 @@ use lib.Seq.{sets, drop-cons}
 use borrow.Author.Tests.{eqb-true}
 use Rattle.memory.specs.Tests.{is, find}
 use Rattle.characters.specs.Control.{cr}
-use Rattle.record.specs.Records.{records}
-use Rattle.record.proofs.Scans.{tailAt, rest-part, cut-length}
-use Rattle.record.proofs.Front.{front}
+use Rattle.records.specs.Records.{records}
+use Rattle.records.proofs.Scans.{tailAt, rest-part, cut-length}
+use Rattle.records.proofs.Front.{front}
 use Rattle.owner.specs.Owners.{typesOf}
 use Rattle.owner.specs.Reading.{offsetsOf, lengthsOf}
 

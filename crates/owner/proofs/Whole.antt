@@ -8,9 +8,9 @@ use native.Mathlib.Nat.{add-suc, suc-add, add-zero, zero-add}
 use native.Mathlib.Decide.{decLt}
 use lib.ListN.{length, getD, drop, List·getD-append}
 use lib.Seq.{sets, sets-eq, length-sets, ext-getD, getD-append-add, getD-drop}
-use Rattle.record.specs.Kinds.{kindOf}
-use Rattle.record.specs.declared.Letter.{Letter}
-use Rattle.record.specs.declared.Letter.the-variants.{Known, Unknown}
+use Rattle.kinds.specs.Kinds.{kindOf}
+use Rattle.kinds.specs.declared.Letter.{Letter}
+use Rattle.kinds.specs.declared.Letter.the-variants.{Known, Unknown}
 use Rattle.owner.specs.Levels.{depthBy, depthOf}
 use Rattle.owner.specs.Nearest.{nearestOwner, nearestFrom, nearestOwners, Ran}
 

@@ -5,11 +5,11 @@ use mathlib.Core.Path.{_≡_}
 use mathlib.Core.Logic.{_⊎_}
 use mathlib.Core.List.{List, [], _∷_}
 use lib.ListN.{getD}
-use Rattle.record.specs.Kinds.{kindOf}
-use Rattle.record.specs.declared.Kind.{Kind}
-use Rattle.record.specs.declared.Kind.the-variants.{Header, Patient, Order, Result, Query, Terminator, Comment, Manufacturer}
-use Rattle.record.specs.declared.Letter.{Letter}
-use Rattle.record.specs.declared.Letter.the-variants.{Known, Unknown}
+use Rattle.kinds.specs.Kinds.{kindOf}
+use Rattle.kinds.specs.declared.Kind.{Kind}
+use Rattle.kinds.specs.declared.Kind.the-variants.{Header, Patient, Order, Result, Query, Terminator, Comment, Manufacturer}
+use Rattle.kinds.specs.declared.Letter.{Letter}
+use Rattle.kinds.specs.declared.Letter.the-variants.{Known, Unknown}
 
 -- H and L 0, P and Q 1, O 2, R 3; C and M one below the last other record, whose level is given
 abbrev pub levelOf : ℕ → Kind → ℕ

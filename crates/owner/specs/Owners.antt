@@ -6,10 +6,10 @@ use mathlib.Core.Bool.{cond}
 use lib.Dec.{eqb}
 use lib.ListN.{getD}
 use Rattle.characters.specs.Control.{cr}
-use Rattle.record.specs.Kinds.{kindOf}
-use Rattle.record.specs.declared.Letter.{Letter}
-use Rattle.record.specs.declared.Letter.the-variants.{Known, Unknown}
-use Rattle.record.specs.declared.Kind.the-variants.{Header, Patient, Order, Result, Query, Terminator, Comment, Manufacturer}
+use Rattle.kinds.specs.Kinds.{kindOf}
+use Rattle.kinds.specs.declared.Letter.{Letter}
+use Rattle.kinds.specs.declared.Letter.the-variants.{Known, Unknown}
+use Rattle.kinds.specs.declared.Kind.the-variants.{Header, Patient, Order, Result, Query, Terminator, Comment, Manufacturer}
 
 -- a record's type is its first byte (an empty record, which no message has, would show its CR)
 abbrev pub typesOf : List (List ℕ) → List ℕ

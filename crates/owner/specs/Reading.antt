@@ -8,9 +8,9 @@ use lib.Dec.{leb}
 use lib.ListN.{length}
 use Rattle.memory.specs.Tests.{unless}
 use Rattle.memory.specs.Parts.{splice}
-use Rattle.record.specs.Records.{records}
-use Rattle.record.specs.Faults.{isMessage}
-use Rattle.record.specs.declared.Delimiters.{Delimiters}
+use Rattle.records.specs.Records.{records}
+use Rattle.faults.specs.Faults.{isMessage}
+use Rattle.kinds.specs.declared.Delimiters.{Delimiters}
 use Rattle.owner.specs.Owners.{typesOf, ownersOf}
 use Rattle.owner.specs.declared.Reading.{Reading}
 use Rattle.owner.specs.declared.Reading.the-variants.{Read, NoMessage, Short}

@@ -1,7 +1,7 @@
 // Reading a message: each record with its type, offset, length and owner.
 ghost use mathlib.Core.Path.{_≡_};
 ghost use Rattle.owner.specs.Reading.{roomFor, ReadAs};
-use record::Delimiters;
+use kinds::Delimiters;
 
 mod rows; // rows.rt: types, offsets and lengths
 mod runs; // runs.rt: owners, by the runs of records that they own
@@ -40,10 +40,10 @@ pub fn read(
 ) -> Reading
     ensures { λ r. ⌜ ReadAs d (now (text .entry)) (now (types .entry)) (now (offsets .entry)) (now (lengths .entry)) (now (owners .entry)) (now (types .exit)) (now (offsets .exit)) (now (lengths .exit)) (now (owners .exit)) r ⌝ }
 {
-    if !record::is_message_by(d, text) {
+    if !message::is_message_by(d, text) {
         return Reading::NoMessage;
     }
-    let n = record::count_records(text);
+    let n = records::count_records(text);
     if !has_room(n, types.len(), offsets.len(), lengths.len(), owners.len()) {
         return Reading::Short;
     }

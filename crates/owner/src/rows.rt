@@ -3,7 +3,7 @@ ghost use mathlib.Core.Path.{_≡_};
 ghost use Prim.Native.Nat.{_<_, _≤_};
 ghost use lib.ListN.{length};
 ghost use lib.Seq.{sets};
-ghost use Rattle.record.specs.Records.{records};
+ghost use Rattle.records.specs.Records.{records};
 ghost use Rattle.owner.specs.Owners.{typesOf};
 ghost use Rattle.owner.specs.Reading.{offsetsOf, lengthsOf};
 
@@ -17,7 +17,7 @@ pub fn fill_rows(text: &[u8], types: &mut [u8], offsets: &mut [u16], lengths: &m
     let mut n: usize = 0;
     while at < text.len() {
         let tail = &text[at..];
-        let e = record::index_of(tail, record::CR);
+        let e = records::index_of(tail, records::CR);
         types[n] = text[at];
         offsets[n] = at as u16;
         lengths[n] = e as u16;

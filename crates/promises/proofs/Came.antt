@@ -9,9 +9,9 @@ use lib.Dec.{eqb}
 use lib.ListN.{length}
 use Rattle.memory.specs.Sizes.{lines}
 use Rattle.memory.proofs.Tests.{clash}
-use Rattle.record.specs.Delimiters.{standard}
-use Rattle.record.specs.Faults.{isMessage}
-use Rattle.record.proofs.Messages.{message-some, message-short}
+use Rattle.kinds.specs.Delimiters.{standard}
+use Rattle.faults.specs.Faults.{isMessage}
+use Rattle.faults.proofs.Messages.{message-some, message-short}
 use Rattle.room.specs.Room.{todaysShares}
 use Rattle.journal_laws.specs.Runs.{State as Store}
 use Rattle.journal.specs.declared.Verdict.the-variants.{Fits, NoRoom as Full}

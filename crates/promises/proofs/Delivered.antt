@@ -20,9 +20,9 @@ use Rattle.frame.specs.Shape.{aroundText}
 use Rattle.frame.specs.Writing.{frameOf}
 use Rattle.frame.specs.declared.End.{End}
 use Rattle.frame.proofs.ReadBack.{early, long}
-use Rattle.record.specs.Delimiters.{standard}
-use Rattle.record.specs.Faults.{isMessage}
-use Rattle.record.proofs.Messages.{message-short, message-allowed}
+use Rattle.kinds.specs.Delimiters.{standard}
+use Rattle.faults.specs.Faults.{isMessage}
+use Rattle.faults.proofs.Messages.{message-short, message-allowed}
 use Rattle.line.specs.Line.{acceptedLine}
 use Rattle.line.specs.Turn.{isLast}
 use Rattle.line.specs.declared.Line.{Line}

@@ -7,9 +7,10 @@ use Rattle.characters.specs.Allowed.{allowed}
 use Rattle.digits.specs.Check.{total, checkOf, hexDigit, digitsOf}
 use Rattle.digits.specs.Number.{nextNumber}
 use Rattle.frame.specs.Writing.{bodyOf, tailOf, collectedOf, frameOf}
-use Rattle.record.specs.Faults.{kindStep, recordStep, isHeader, headerStep, recordsFault, fault}
-use Rattle.record.specs.Kinds.{kindOf, typeOf, mayFollow}
-use Rattle.record.specs.Numbers.{numberOf}
+use Rattle.kinds.specs.Header.{isHeader}
+use Rattle.faults.specs.Faults.{kindStep, recordStep, headerStep, recordsFault, fault}
+use Rattle.kinds.specs.Kinds.{kindOf, typeOf, mayFollow}
+use Rattle.sequence.specs.Numbers.{numberOf}
 use Rattle.cutting.specs.Frames.{cutOf}
 use Rattle.cutting.specs.Pieces.{piecesOf}
 use Rattle.header.specs.Header.{headSize}

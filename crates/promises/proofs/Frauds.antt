@@ -11,8 +11,8 @@ use Rattle.memory.specs.Sizes.{frameLimit, journalSize, unfinishedSize, framesS
 use Rattle.digits.specs.Check.{checkOf, hexDigit, digitsOf, total}
 use Rattle.digits.specs.Number.{nextNumber}
 use Rattle.frame.specs.Writing.{bodyOf, tailOf, collectedOf, frameOf}
-use Rattle.record.specs.Delimiters.{standard}
-use Rattle.record.specs.Faults.{isMessage}
+use Rattle.kinds.specs.Delimiters.{standard}
+use Rattle.faults.specs.Faults.{isMessage}
 use Rattle.cutting.specs.Frames.{cutOf}
 use Rattle.cutting.specs.Pieces.{piecesOf}
 use Rattle.header.specs.Header.{headSize}

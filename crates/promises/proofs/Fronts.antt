@@ -7,11 +7,11 @@ use Prim.Native.Nat.{ℕ}
 use Rattle.memory.specs.Tests.{all}
 use Rattle.memory.proofs.Tests.{and-left, and-right}
 use Rattle.characters.specs.Control.{cr}
-use Rattle.record.specs.Faults.{isMessage}
-use Rattle.record.specs.Records.{records, joined, none, isNotCr, endsWithCr, endsWithL}
-use Rattle.record.specs.declared.Delimiters.{Delimiters}
-use Rattle.record.proofs.Joined.{every, no-cr, records-first, joined-records}
-use Rattle.record.proofs.Messages.{cut-decided}
+use Rattle.faults.specs.Faults.{isMessage}
+use Rattle.records.specs.Records.{records, joined, none, isNotCr, endsWithCr, endsWithL}
+use Rattle.kinds.specs.declared.Delimiters.{Delimiters}
+use Rattle.records.proofs.Joined.{every, no-cr, records-first, joined-records}
+use Rattle.faults.proofs.Messages.{cut-decided}
 
 -- records that are joined are read back in front of anything
 records-front : (rs : List (List ℕ)) (t : List ℕ) → every (all isNotCr) rs ≡ true → records (joined rs ++ t) ≡ rs ++ records t

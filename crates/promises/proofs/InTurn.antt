@@ -9,8 +9,8 @@ use borrow.Author.Tests.{eq-eqb}
 use lib.ListN.{length, getD}
 use Rattle.memory.specs.Sizes.{lines, frameLimit}
 use Rattle.memory.specs.Parts.{splice}
-use Rattle.record.specs.Delimiters.{standard}
-use Rattle.record.specs.Faults.{isMessage}
+use Rattle.kinds.specs.Delimiters.{standard}
+use Rattle.faults.specs.Faults.{isMessage}
 use Rattle.header.specs.Entry.{Entry}
 use Rattle.journal.specs.Entries.{from}
 use Rattle.room.specs.Room.{todaysShares}

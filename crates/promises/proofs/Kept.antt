@@ -10,8 +10,8 @@ use native.Mathlib.Omega.{arith}
 use lib.ListN.{length-set, length-replicate, getD-replicate}
 use lib.Seq.{getD-set-other, getD-set-same}
 use Rattle.memory.specs.Sizes.{lines}
-use Rattle.record.specs.Delimiters.{standard}
-use Rattle.record.proofs.Messages.{message-some, message-short}
+use Rattle.kinds.specs.Delimiters.{standard}
+use Rattle.faults.proofs.Messages.{message-some, message-short}
 use Rattle.header.specs.Entry.{Entry}
 use Rattle.room.specs.Room.{todaysShares}
 use Rattle.journal_laws.specs.Held.{Held}

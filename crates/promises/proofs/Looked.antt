@@ -10,10 +10,10 @@ use lib.Seq.{getD-append-add}
 use Rattle.memory.specs.Tests.{is}
 use Rattle.characters.specs.Control.{cr}
 use Rattle.frame.specs.declared.End.the-variants.{Etb, Etx}
-use Rattle.record.specs.Delimiters.{standard}
-use Rattle.record.specs.Faults.{isMessage}
-use Rattle.record.specs.Records.{records, none, onto, endsWithCr}
-use Rattle.record.proofs.Messages.{message-ends, message-decided}
+use Rattle.kinds.specs.Delimiters.{standard}
+use Rattle.faults.specs.Faults.{isMessage}
+use Rattle.records.specs.Records.{records, none, onto, endsWithCr}
+use Rattle.faults.proofs.Messages.{message-ends, message-decided}
 use Rattle.cutting.specs.Pieces.{endAfter}
 use Rattle.gateway.specs.Looks.{endLook}
 use Rattle.gateway.specs.declared.Look.the-variants.{Done, Decides}

@@ -9,9 +9,9 @@ use native.Mathlib.Omega.{arith}
 use lib.Dec.{eqb}
 use lib.ListN.{length}
 use Rattle.memory.specs.Sizes.{lines}
-use Rattle.record.specs.Delimiters.{standard}
-use Rattle.record.specs.Faults.{isMessage}
-use Rattle.record.proofs.Messages.{message-some, message-short}
+use Rattle.kinds.specs.Delimiters.{standard}
+use Rattle.faults.specs.Faults.{isMessage}
+use Rattle.faults.proofs.Messages.{message-some, message-short}
 use Rattle.journal.specs.Answers.{isFits}
 use Rattle.room.specs.Room.{todaysShares}
 use Rattle.journal.specs.Storage.{grown, appended, AfterStoring, afterStoring, storeOf as storeEntry}

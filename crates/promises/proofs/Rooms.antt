@@ -10,8 +10,8 @@ use native.Mathlib.Omega.{arith}
 use borrow.Author.Tests.{le-leb, leb-true}
 use lib.ListN.{length, getD, length-set}
 use Rattle.memory.specs.Sizes.{lines, journalSize}
-use Rattle.record.specs.Delimiters.{standard}
-use Rattle.record.proofs.Messages.{message-some, message-short}
+use Rattle.kinds.specs.Delimiters.{standard}
+use Rattle.faults.proofs.Messages.{message-some, message-short}
 use Rattle.header.specs.Header.{entrySize}
 use Rattle.header.specs.Entry.{Entry}
 use Rattle.room.specs.Room.{claims, fits, raised, todaysShares}

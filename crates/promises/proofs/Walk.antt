@@ -14,12 +14,12 @@ use Rattle.frame.specs.Shape.{aroundText}
 use Rattle.frame.specs.Writing.{frameOf}
 use Rattle.frame.specs.declared.End.{End}
 use Rattle.frame.proofs.ReadBack.{early, long}
-use Rattle.record.specs.Delimiters.{standard}
-use Rattle.record.specs.Faults.{isMessage}
+use Rattle.kinds.specs.Delimiters.{standard}
+use Rattle.faults.specs.Faults.{isMessage}
 use Rattle.cutting.specs.Pieces.{Piece, piece, pieceSize, piecesOf, endAfter, throughCr}
 use Rattle.cutting.specs.Frames.{framesFrom}
 use Rattle.cutting.proofs.Steps.{turn, firstPiece}
-use Rattle.record.proofs.Scans.{tailAt, rest-part}
+use Rattle.records.proofs.Scans.{tailAt, rest-part}
 use Rattle.line.specs.declared.Line.{Line}
 use Rattle.line.specs.declared.Answer.{Answer}
 use Rattle.line.specs.declared.Answer.the-variants.{Nothing, Accepted, Stored}

@@ -7,8 +7,8 @@ use lib.ListN.{length, getD, replicate, set}
 use Rattle.memory.specs.Sizes.{lines, frameLimit}
 use Rattle.characters.specs.Control.{etb, etx}
 use Rattle.digits.specs.Check.{checkOf, digitsOf}
-use Rattle.record.specs.Delimiters.{standard}
-use Rattle.record.specs.Faults.{isMessage}
+use Rattle.kinds.specs.Delimiters.{standard}
+use Rattle.faults.specs.Faults.{isMessage}
 use Rattle.cutting.specs.Frames.{cutOf}
 use Rattle.header.specs.Header.{entrySize}
 use Rattle.room.specs.Room.{todaysShares, fits}

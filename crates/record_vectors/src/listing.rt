@@ -1,13 +1,13 @@
 // The lines of a case.
 ghost use Prim.Native.Nat.{_<_, _≤_};
 ghost use lib.ListN.{length};
-ghost use Rattle.record.specs.Records.{records};
+ghost use Rattle.records.specs.Records.{records};
 use component::Put;
 use component::ResultField;
+use faults::Checked;
+use faults::Fault;
+use kinds::Delimiters;
 use owner::Reading;
-use record::Checked;
-use record::Delimiters;
-use record::Fault;
 
 pub fn show(kind: u8, text: &[u8]) {
     match kind {
@@ -41,11 +41,11 @@ fn small(n: u16) {
 fn message(text: &[u8]) {
     let d = Delimiters::standard();
     number(text.len());
-    found(record::check(d, text));
-    if record::is_message(text) {
+    found(faults::check(d, text));
+    if message::is_message(text) {
         io::write_all(1, b" message");
     }
-    if record::ends_with_l(text) {
+    if records::joined_ends_with_l(text, &text[..0]) {
         io::write_all(1, b" L");
     }
     if text.len() < 100 {
@@ -67,7 +67,7 @@ fn no_fault() {
     io::write_all(1, b" none");
 }
 
-fn fault(f: Fault, place: usize) {
+fn fault(f: Fault, place: u16) {
     match f {
         Fault::NoHeader => number(50),
         Fault::UnknownType => number(51),
@@ -76,7 +76,7 @@ fn fault(f: Fault, place: usize) {
         Fault::Unended => number(54),
     }
     io::write_all(1, b" at");
-    number(place);
+    small(place);
 }
 
 // At how many places the text can be cut in two so that the two pieces, joined, end with an L record.
@@ -84,7 +84,7 @@ fn splits(text: &[u8]) -> usize {
     let mut n: usize = 0;
     let mut k: usize = 0;
     while k < text.len() {
-        let ends = record::joined_ends_with_l(&text[..k], &text[k..]);
+        let ends = records::joined_ends_with_l(&text[..k], &text[k..]);
         k += 1;
         if ends {
             n += 1;
@@ -124,7 +124,7 @@ fn list(
     let mut i: usize = 0;
     while at < text.len() {
         let tail = &text[at..];
-        let e = record::index_of(tail, record::CR);
+        let e = records::index_of(tail, records::CR);
         row(i, types[i], offsets[i], lengths[i], owners[i]);
         fields(d, types[i], &tail[..e]);
         at = at + (e + 1);

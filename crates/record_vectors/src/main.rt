@@ -2,7 +2,7 @@
 //   m  a text: its first fault or none, whether its last record begins with L, and for a message each record with its owner, R's fields
 //   s  a text that is read into memory with room for two records
 //   e  a text that is escaped        u  a component that is unescaped        c  a text whose components are looked for
-use record::Delimiters;
+use kinds::Delimiters;
 
 mod decode; // decode.rt: bytes from hex
 mod listing; // listing.rt: the lines of a case
@@ -18,7 +18,7 @@ fn run(input: &[u8]) {
     let mut at: usize = 0;
     while at < input.len() {
         let rest = &input[at..];
-        let e = record::index_of(rest, b'\n');
+        let e = records::index_of(rest, b'\n');
         case(&rest[..e]);
         at = at + (e + 1);
     }

@@ -28,7 +28,7 @@ fn first(rest: &[u8], at: usize) -> Next
     if is_usual(rest) {
         return Next::Whole(listing::read(&rest[..USUAL]), at + USUAL + 1);
     }
-    let n = record::index_of(rest, NEWLINE);
+    let n = records::index_of(rest, NEWLINE);
     if n == rest.len() {
         return Next::Unended;
     }

@@ -5,8 +5,8 @@ use mathlib.Core.Path.{_≡_, refl}
 use Prim.Native.Nat.{_+_, _≤_}
 use native.Mathlib.Omega.{arith}
 use lib.ListN.{length, drop}
-use Rattle.record.specs.Fields.{fieldOf}
-use Rattle.record.proofs.Scans.{tailAt, cut-length, tail-within}
+use Rattle.records.specs.Fields.{fieldOf}
+use Rattle.records.proofs.Scans.{tailAt, cut-length, tail-within}
 use Rattle.component.proofs.Fields.{field-zero, past-end, next-field, this-field}
 use Rattle.component.proofs.field_of.Statement.{statement}
 use Rattle.component.proofs.field_of.Tie as tie

@@ -2,7 +2,7 @@
 -- Assumes nothing.
 use mathlib.Core.Path.{_∙_, ap}
 use Prim.Native.Nat.{ℕ}
-use Rattle.record.specs.Fields.{fieldOf}
+use Rattle.records.specs.Fields.{fieldOf}
 use borrow.Author.Needs.{needs}
 use Rattle.component.proofs.result_field.Statement.{statement}
 use Rattle.component.proofs.result_field.Tie as tie

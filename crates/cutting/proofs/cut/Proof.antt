@@ -7,9 +7,9 @@ use borrow.Author.Needs.{needs}
 use borrow.Author.Tests.{not-true, not-false}
 use denote.Ref.{now}
 use lib.ListN.{length}
-use Rattle.record.specs.Delimiters.{standard}
-use Rattle.record.specs.Faults.{isMessage}
-use Rattle.record.proofs.Messages.{message-short, message-ends}
+use Rattle.kinds.specs.Delimiters.{standard}
+use Rattle.faults.specs.Faults.{isMessage}
+use Rattle.faults.proofs.Messages.{message-short, message-ends}
 use Rattle.cutting.specs.Frames.{cutOf}
 use Rattle.cutting.proofs.Written.{no-message, no-room, cut-written, limit-small, by-message}
 use Rattle.cutting.proofs.Laws.{cut-long}

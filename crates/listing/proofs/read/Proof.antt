@@ -8,7 +8,7 @@ use borrow.Author.Needs.{needs}
 use lib.ListN.{getD, drop}
 use denote.Ref.{now}
 use Rattle.memory.proofs.Told.{told}
-use Rattle.record.specs.Numbers.{isDigit}
+use Rattle.sequence.specs.Numbers.{isDigit}
 use Rattle.listing.specs.Items.{operandAt, operandOf, isLaidOut, itemOf}
 use Rattle.listing.proofs.Operands.{inside, outside, no-digit, no-space, no-second-space, laid-out}
 use Rattle.listing.proofs.read.Statement.{statement}

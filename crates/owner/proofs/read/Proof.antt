@@ -7,9 +7,9 @@ use native.Mathlib.Omega.{arith}
 use lib.ListN.{length, take}
 use lib.Seq.{length-take-le}
 use borrow.Author.Tests.{not-true, not-false}
-use Rattle.record.specs.Records.{records}
-use Rattle.record.specs.Faults.{isMessage}
-use Rattle.record.proofs.Messages.{message-short}
+use Rattle.records.specs.Records.{records}
+use Rattle.faults.specs.Faults.{isMessage}
+use Rattle.faults.proofs.Messages.{message-short}
 use Rattle.owner.specs.Reading.{roomFor}
 use Rattle.owner.proofs.Answers.{records-few, room-all, read-none, read-short, read-done}
 use borrow.Author.Needs.{needs}

@@ -4,12 +4,12 @@ use borrow.Author.Needs.{needs}
 use Prim.Native.Nat.{_+_, _-_, _≤_}
 use native.Mathlib.Omega.{arith}
 use lib.ListN.{length}
-use Rattle.record.proofs.Scans.{tailAt, cut-length, tail-within}
+use Rattle.records.proofs.Scans.{tailAt, cut-length, tail-within}
 use Rattle.record_vectors.proofs.run.Statement.{statement}
 use Rattle.record_vectors.proofs.run.Tie as tie
 use Rattle.record_vectors.proofs.run.Reads as reads
 use Rattle.record_vectors.proofs.run.Lts as lts
-use Rattle.record.proofs.index_of.Reads as index-of-reads
+use Rattle.records.proofs.index_of.Reads as index-of-reads
 use Rattle.record_vectors.proofs.case.Reads as case-reads
 
 abbrev Inv-loop : tie.InvT-loop

@@ -5,7 +5,7 @@ use mathlib.Core.Bool.{true}
 use Prim.Native.Nat.{ℕ}
 use native.Mathlib.Decide.{ℕ-discrete}
 use borrow.Author.Tests.{eq-eqb, ne-eqb}
-use Rattle.record.specs.declared.Delimiters.{Delimiters}
+use Rattle.kinds.specs.declared.Delimiters.{Delimiters}
 use Rattle.component.specs.Component.{isOneOf}
 use Rattle.component.specs.Unescape.{Keep, Held, letters, turnOpen}
 use Rattle.memory.proofs.Tests.{never-both}

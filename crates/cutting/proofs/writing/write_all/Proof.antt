@@ -9,7 +9,7 @@ use lib.ListN.{length, length-drop}
 use Rattle.memory.specs.Parts.{splice}
 use Rattle.memory.proofs.Parts.{splice-nil}
 use Rattle.digits.specs.Number.{mostNumber}
-use Rattle.record.proofs.Scans.{tailAt, rest-part}
+use Rattle.records.proofs.Scans.{tailAt, rest-part}
 use Rattle.cutting.specs.Frames.{cutOf}
 use Rattle.cutting.proofs.Steps.{Turn, turn, ended-tail}
 use Rattle.cutting.proofs.Written.{left, left-long, written-on, left-none}

@@ -8,9 +8,9 @@ use native.Mathlib.Omega.{arith}
 use lib.ListN.{length, drop, drop-of-length-le, length-set}
 use lib.Seq.{sets}
 use Rattle.characters.specs.Control.{cr}
-use Rattle.record.specs.Records.{records}
-use Rattle.record.proofs.Scans.{tail-within}
-use Rattle.record.proofs.Front.{count-front}
+use Rattle.records.specs.Records.{records}
+use Rattle.records.proofs.Scans.{tail-within}
+use Rattle.records.proofs.Front.{count-front}
 use Rattle.owner.specs.Owners.{typesOf}
 use Rattle.owner.specs.Reading.{offsetsOf, lengthsOf}
 use Rattle.owner.proofs.RowSteps.{one-more, types-front, lengths-front, offsets-front}

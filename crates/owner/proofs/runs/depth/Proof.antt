@@ -1,7 +1,7 @@
 -- `owner::runs::depth` meets its contract: each arm knows the byte, and the last that it is none of the eight.
 -- Assumes nothing.
 use borrow.Author.Tests.{ne-eqb}
-use Rattle.record.specs.Kinds.{kindOf}
+use Rattle.kinds.specs.Kinds.{kindOf}
 use Rattle.owner.specs.Levels.{depthOf}
 use Rattle.owner.proofs.runs.depth.Statement.{statement}
 use Rattle.owner.proofs.runs.depth.Tie as tie

@@ -11,7 +11,7 @@ use Rattle.record_vectors.proofs.listing.components.Tie as tie
 use Rattle.record_vectors.proofs.listing.components.Reads as reads
 use Rattle.record_vectors.proofs.listing.components.Lts as lts
 use Rattle.component.proofs.component_end.Reads as component-end-reads
-use Rattle.record.proofs.Delimiters.standard.Reads as standard-reads
+use Rattle.kinds.proofs.Delimiters.standard.Reads as standard-reads
 use Rattle.record_vectors.proofs.listing.end_of_line.Reads as end-of-line-reads
 use Rattle.record_vectors.proofs.listing.number.Reads as number-reads
 

@@ -6,15 +6,15 @@ use mathlib.Core.Path.{_≡_}
 use native.Mathlib.Omega.{arith}
 use lib.ListN.{length, drop}
 use Rattle.characters.specs.Control.{cr}
-use Rattle.record.specs.Records.{records}
-use Rattle.record.proofs.Scans.{tailAt, cut-length, tail-within}
-use Rattle.record.proofs.Front.{count-front}
+use Rattle.records.specs.Records.{records}
+use Rattle.records.proofs.Scans.{tailAt, cut-length, tail-within}
+use Rattle.records.proofs.Front.{count-front}
 use Rattle.owner.proofs.RowSteps.{one-more}
 use Rattle.record_vectors.proofs.listing.list.Statement.{statement}
 use Rattle.record_vectors.proofs.listing.list.Tie as tie
 use Rattle.record_vectors.proofs.listing.list.Reads as reads
 use Rattle.record_vectors.proofs.listing.list.Lts as lts
-use Rattle.record.proofs.index_of.Reads as index-of-reads
+use Rattle.records.proofs.index_of.Reads as index-of-reads
 use Rattle.record_vectors.proofs.listing.fields.Reads as fields-reads
 use Rattle.record_vectors.proofs.listing.row.Reads as row-reads
 

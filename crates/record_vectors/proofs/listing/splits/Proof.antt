@@ -10,7 +10,7 @@ use Rattle.record_vectors.proofs.listing.splits.Statement.{statement}
 use Rattle.record_vectors.proofs.listing.splits.Tie as tie
 use Rattle.record_vectors.proofs.listing.splits.Reads as reads
 use Rattle.record_vectors.proofs.listing.splits.Lts as lts
-use Rattle.record.proofs.joined_ends_with_l.Reads as joined-ends-with-l-reads
+use Rattle.records.proofs.joined_ends_with_l.Reads as joined-ends-with-l-reads
 
 abbrev Inv-loop : tie.InvT-loop
 Inv-loop text n₀ k₀ n k = (n ≤ k) × (k ≤ length text)

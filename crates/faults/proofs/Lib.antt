@@ -1,0 +1,6 @@
+pub mod Messages
+pub mod Chain
+pub mod Head
+pub mod FirstRecord
+pub mod Walked
+pub mod OneOutcome

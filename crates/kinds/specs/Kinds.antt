@@ -1,0 +1,89 @@
+-- The eight record types, and what may follow what.
+-- Assumes nothing.
+use Prim.Native.Nat.{ℕ}
+use mathlib.Core.List.{List, [], _∷_}
+use mathlib.Core.Bool.{Bool, false, true, cond, _||_}
+use lib.Dec.{eqb}
+use lib.ListN.{length, getD}
+use Rattle.memory.specs.Tests.{is}
+use Rattle.kinds.specs.declared.Kind.{Kind}
+use Rattle.kinds.specs.declared.Kind.the-variants.{Header, Patient, Order, Result, Query, Terminator, Comment, Manufacturer}
+use Rattle.kinds.specs.declared.Letter.{Letter}
+use Rattle.kinds.specs.declared.Letter.the-variants.{Known, Unknown}
+
+-- H P O R Q L C M
+abbrev pub letterOf : Kind → ℕ
+letterOf Header = 0x48
+letterOf Patient = 0x50
+letterOf Order = 0x4f
+letterOf Result = 0x52
+letterOf Query = 0x51
+letterOf Terminator = 0x4c
+letterOf Comment = 0x43
+letterOf Manufacturer = 0x4d
+
+-- the type that a letter names
+unfoldable pub kindOf : ℕ → Letter
+kindOf b =
+    cond (is (letterOf Header) b) (Known Header)
+    (cond (is (letterOf Patient) b) (Known Patient)
+    (cond (is (letterOf Order) b) (Known Order)
+    (cond (is (letterOf Result) b) (Known Result)
+    (cond (is (letterOf Query) b) (Known Query)
+    (cond (is (letterOf Terminator) b) (Known Terminator)
+    (cond (is (letterOf Comment) b) (Known Comment)
+    (cond (is (letterOf Manufacturer) b) (Known Manufacturer) Unknown)))))))
+
+-- the type that a record's first field names: the field is exactly the letter
+unfoldable pub typeOf : List ℕ → Letter
+typeOf f = cond (eqb (length f) 1) (kindOf (getD f 0 0)) Unknown
+
+-- the types that may follow a type, C and M passed over: H, P: P O Q L; O, R: O R P Q L; Q: Q P L; L: nothing.
+-- C and M may follow any but L. They are passed over themselves, so their own rows are never asked.
+abbrev pub followersOf : Kind → List Kind
+followersOf Header = Patient ∷ Order ∷ Query ∷ Terminator ∷ Comment ∷ Manufacturer ∷ []
+followersOf Patient = Patient ∷ Order ∷ Query ∷ Terminator ∷ Comment ∷ Manufacturer ∷ []
+followersOf Order = Order ∷ Result ∷ Patient ∷ Query ∷ Terminator ∷ Comment ∷ Manufacturer ∷ []
+followersOf Result = Result ∷ Order ∷ Patient ∷ Query ∷ Terminator ∷ Comment ∷ Manufacturer ∷ []
+followersOf Query = Query ∷ Patient ∷ Terminator ∷ Comment ∷ Manufacturer ∷ []
+followersOf Terminator = []
+followersOf Comment = []
+followersOf Manufacturer = []
+
+abbrev pub among : Kind → List Kind → Bool
+among k [] = false
+among k (x ∷ xs) = eqb (letterOf k) (letterOf x) || among k xs
+
+-- k may stand where `other` is the last record that is neither C nor M
+unfoldable pub mayFollow : Kind → Kind → Bool
+mayFollow other k = among k (followersOf other)
+
+-- the row of a type in the table of followers
+abbrev pub rowOf : Kind → ℕ
+rowOf Header = 0
+rowOf Patient = 1
+rowOf Order = 2
+rowOf Result = 3
+rowOf Query = 4
+rowOf Terminator = 5
+rowOf Comment = 6
+rowOf Manufacturer = 7
+
+-- and the type of a row
+abbrev pub kindAt : ℕ → Kind
+kindAt i = getD (Header ∷ Patient ∷ Order ∷ Result ∷ Query ∷ Terminator ∷ Comment ∷ Manufacturer ∷ []) i Header
+
+-- the row of what a letter names; 8 where it names no type
+abbrev pub letterRow : Letter → ℕ
+letterRow (Known k) = rowOf k
+letterRow Unknown = 8
+
+abbrev pub isTerminator : Kind → Bool
+isTerminator Header = false
+isTerminator Patient = false
+isTerminator Order = false
+isTerminator Result = false
+isTerminator Query = false
+isTerminator Terminator = true
+isTerminator Comment = false
+isTerminator Manufacturer = false

@@ -1,0 +1,120 @@
+// The delimiters of a message, the types of its records, and what may follow what.
+ghost use mathlib.Core.Path.{_≡_};
+ghost use Rattle.kinds.specs.Delimiters.{standard};
+ghost use Rattle.kinds.specs.Kinds.{kindOf, mayFollow, rowOf};
+ghost use Rattle.kinds.specs.Header.{isHeader};
+
+// The delimiters of a message: between fields, between repeats, between components, and around an escape.
+pub struct Delimiters {
+    pub field: u8,
+    pub repeat: u8,
+    pub component: u8,
+    pub escape: u8,
+}
+
+impl Delimiters {
+    // | \ ^ &
+    pub fn standard() -> Delimiters
+        ensures { λ r. ⌜ r ≡ standard ⌝ }
+    {
+        Delimiters {
+            field: b'|',
+            repeat: 0x5c,
+            component: b'^',
+            escape: b'&',
+        }
+    }
+}
+
+// The record types, in the order of their rows: H P O R Q L C M.
+pub enum Kind {
+    Header,
+    Patient,
+    Order,
+    Result,
+    Query,
+    Terminator,
+    Comment,
+    Manufacturer,
+}
+
+// What a letter names.
+pub enum Letter {
+    Known(Kind),
+    Unknown,
+}
+
+// The type that a letter names.
+pub fn kind_of(b: u8) -> Letter
+    ensures { λ r. ⌜ r ≡ kindOf b ⌝ }
+{
+    match b {
+        b'H' => Letter::Known(Kind::Header),
+        b'P' => Letter::Known(Kind::Patient),
+        b'O' => Letter::Known(Kind::Order),
+        b'R' => Letter::Known(Kind::Result),
+        b'Q' => Letter::Known(Kind::Query),
+        b'L' => Letter::Known(Kind::Terminator),
+        b'C' => Letter::Known(Kind::Comment),
+        b'M' => Letter::Known(Kind::Manufacturer),
+        _ => Letter::Unknown,
+    }
+}
+
+// A row for each type, H P O R Q L C M: the types that may follow it. C and M are passed over, so their own rows are not asked.
+pub const FOLLOWERS: [[bool; 8]; 8] = [
+    [false, true, true, false, true, true, true, true],
+    [false, true, true, false, true, true, true, true],
+    [false, true, true, true, true, true, true, true],
+    [false, true, true, true, true, true, true, true],
+    [false, true, false, false, true, true, true, true],
+    [false, false, false, false, false, false, false, false],
+    [false, false, false, false, false, false, false, false],
+    [false, false, false, false, false, false, false, false],
+];
+
+fn row_of(k: Kind) -> usize
+    ensures { λ r. ⌜ r ≡ rowOf k ⌝ }
+{
+    match k {
+        Kind::Header => 0,
+        Kind::Patient => 1,
+        Kind::Order => 2,
+        Kind::Result => 3,
+        Kind::Query => 4,
+        Kind::Terminator => 5,
+        Kind::Comment => 6,
+        Kind::Manufacturer => 7,
+    }
+}
+
+// Whether a record of type k may stand where `other` is the last record that is neither C nor M.
+pub fn may_follow(other: Kind, k: Kind) -> bool
+    ensures { λ r. ⌜ r ≡ mayFollow other k ⌝ }
+{
+    let i = row_of(other);
+    let j = row_of(k);
+    FOLLOWERS[i][j]
+}
+
+// Whether the record begins with H and the four delimiters.
+pub fn is_header(d: Delimiters, rec: &[u8]) -> bool
+    ensures { λ r. ⌜ r ≡ isHeader d (now (rec .entry)) ⌝ }
+{
+    if rec.len() < 5 {
+        return false;
+    }
+    if rec[0] != b'H' {
+        return false;
+    }
+    if rec[1] != d.field {
+        return false;
+    }
+    if rec[2] != d.repeat {
+        return false;
+    }
+    if rec[3] != d.component {
+        return false;
+    }
+    rec[4] == d.escape
+}

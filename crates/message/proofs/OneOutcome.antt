@@ -1,0 +1,16 @@
+-- Any two outcomes that a contract of this crate allows are equal.
+-- Assumes nothing.
+use mathlib.Core.Path.{_≡_, sym, _∙_}
+use mathlib.Core.Bool.{Bool}
+use mathlib.Core.List.{List}
+use Prim.Native.Nat.{ℕ}
+use Rattle.kinds.specs.Delimiters.{standard}
+use Rattle.kinds.specs.declared.Delimiters.{Delimiters}
+use Rattle.faults.specs.Faults.{isMessage}
+
+-- `is_message_by` and, at the standard delimiters, `is_message`
+pub message-once : (d : Delimiters) (text : List ℕ) {r q : Bool} → r ≡ isMessage d text → q ≡ isMessage d text → r ≡ q
+message-once d text a b = a ∙ sym b
+
+pub standard-message-once : (text : List ℕ) {r q : Bool} → r ≡ isMessage standard text → q ≡ isMessage standard text → r ≡ q
+standard-message-once text a b = message-once standard text a b

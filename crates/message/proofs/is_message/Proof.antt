@@ -1,0 +1,22 @@
+-- `message::is_message` meets its contract: it is the check at the standard delimiters.
+-- Assumes nothing.
+use mathlib.Core.Path.{_∙_, ap}
+use borrow.Author.Needs.{needs}
+use Rattle.faults.specs.Faults.{isMessage}
+use Rattle.kinds.specs.declared.Delimiters.{Delimiters}
+use Rattle.message.proofs.is_message.Statement.{statement}
+use Rattle.message.proofs.is_message.Tie as tie
+
+standard-requires : tie.Need-standard-requires
+standard-requires c κs = search needs
+
+is-message-by-requires : tie.Need-is-message-by-requires
+is-message-by-requires c κs = search needs
+
+returns : tie.Need-returns
+returns c =
+    let text = c .before .before .before .args .text .now in
+    c .is-message-by .ensures ∙ ap (λ (d : Delimiters). isMessage d text) (c .before .standard .ensures)
+
+pub is-message-spec : {M : Type 1} → statement M
+is-message-spec = tie.close (tie.spec standard-requires is-message-by-requires returns)

@@ -1,0 +1,40 @@
+// Whether a text is a message, in one walk that asks for no fault and no place.
+ghost use mathlib.Core.Path.{_≡_};
+ghost use Rattle.kinds.specs.Delimiters.{standard};
+ghost use Rattle.faults.specs.Faults.{isMessage};
+use kinds::Delimiters;
+use records::CR;
+
+mod whole; // whole.rt: the records behind the header, to the first fault
+
+// Whether a text is a message by these delimiters: the walk ends at the first fault, whatever it is.
+pub fn is_message_by(d: Delimiters, text: &[u8]) -> bool
+    ensures { λ r. ⌜ r ≡ isMessage d (now (text .entry)) ⌝ }
+{
+    let n = text.len();
+    if n == 0 {
+        return false;
+    }
+    if memory::MESSAGE_LIMIT < n {
+        return false;
+    }
+    if text[n - 1] != CR {
+        return false;
+    }
+    let classes = characters::classes();
+    let e = whole::end_of(&classes, text);
+    if text[e] != CR {
+        return false;
+    }
+    if !kinds::is_header(d, &text[..e]) {
+        return false;
+    }
+    whole::is_right(d, &classes, &text[e + 1..])
+}
+
+// Whether a text is a message, by the delimiters | \ ^ &.
+pub fn is_message(text: &[u8]) -> bool
+    ensures { λ r. ⌜ r ≡ isMessage standard (now (text .entry)) ⌝ }
+{
+    is_message_by(Delimiters::standard(), text)
+}

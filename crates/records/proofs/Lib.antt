@@ -1,0 +1,6 @@
+pub mod Scans
+pub mod Front
+pub mod RecordCount
+pub mod LastRecord
+pub mod Joined
+pub mod OneOutcome
