@@ -1,7 +1,7 @@
 // Bytes that come on a line. Equal answers in a row are counted and shown as one.
-use gateway::Event;
+use looking::Event;
 use gateway::Gateway;
-use gateway::Kind;
+use looking::Kind;
 
 // The gateway, its last answer's number, and how often it has come in a row.
 struct Told {

@@ -10,10 +10,10 @@
 //   l L N, c, j, s, n, r    line L as an accepted frame N leaves it; its collected, joined and second count, next number, refusing
 ghost use Prim.Native.Nat.{_≤_, _<_};
 ghost use lib.ListN.{length};
-use gateway::Event;
+use looking::Event;
 use gateway::Gateway;
 use gateway::Handled;
-use gateway::Kind;
+use looking::Kind;
 
 mod showing;
 

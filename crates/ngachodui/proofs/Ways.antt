@@ -16,26 +16,27 @@ use Rattle.line.specs.Line.{mostCollected}
 use Rattle.line.specs.declared.Answer.{Answer}
 use Rattle.line.specs.declared.Answer.the-variants.{Nothing, NoLine, WrongSize, BeyondLimits}
 use Rattle.line.specs.declared.Line.{Line}
-use Rattle.gateway.specs.Views.{frameStart}
-use Rattle.gateway.specs.Looks.{byteLook, insideLook}
-use Rattle.gateway.specs.Verdicts.{ownWork, rightLengths, verdictOf}
-use Rattle.gateway.specs.Events.{Memory, AfterStep, Leaves, memoryOf, settle, stepOf}
-use Rattle.gateway.specs.Alone.{SteppingAlone, decideOf}
-use Rattle.gateway.specs.declared.Alone.the-variants.{After, Asks}
-use Rattle.gateway.specs.declared.Stepped.{Stepped}
+use Rattle.looking.specs.Views.{frameStart}
+use Rattle.looking.specs.Looks.{byteLook, insideLook}
+use Rattle.receiving.specs.Verdicts.{ownWork, verdictOf}
+use Rattle.looking.specs.Lent.{rightLengths}
+use Rattle.receiving.specs.Steps.{Memory, AfterStep, Leaves, memoryOf, settle, stepOf}
+use Rattle.receiving.specs.Alone.{SteppingAlone, decideOf}
+use Rattle.receiving.specs.declared.Alone.the-variants.{After, Asks}
+use Rattle.receiving.specs.declared.Stepped.{Stepped}
 use Rattle.journal.specs.declared.Ledger.{Ledger}
 use Rattle.journal.specs.declared.Taking.{Taking}
 use Rattle.journal.specs.Removal.{takeOf, TakenFrom}
 use Rattle.line.specs.declared.State.the-variants.{Inside}
-use Rattle.gateway.specs.declared.Event.{Event}
-use Rattle.gateway.specs.declared.Kind.the-variants.{Byte}
-use Rattle.gateway.specs.declared.Verdict.{Verdict}
-use Rattle.gateway.specs.declared.Verdict.the-variants.{Collects}
+use Rattle.looking.specs.declared.Event.{Event}
+use Rattle.looking.specs.declared.Kind.the-variants.{Byte}
+use Rattle.looking.specs.declared.Verdict.{Verdict}
+use Rattle.looking.specs.declared.Verdict.the-variants.{Collects}
 use Rattle.ngachodui.specs.Plain.{inside, firstAt, numberAt, stateOf, withLine, withSerial, withUsed, withinNumbers, onlyCollects, oneMore, quick, lineOf, ledgerOf, told, toldTaking}
 use Rattle.ngachodui.specs.Calls.{AfterCall, refused, putBack, callOf, Called, Calling, Stepping, Deciding, Taken}
 use Rattle.ngachodui.specs.declared.Answered.{Answered}
 use Rattle.ngachodui.proofs.Numbers.{told-within, used-back, serial-back, count-back}
-use Rattle.gateway.proofs.Steps.{step-after, alone-asks, step-decides}
+use Rattle.receiving.proofs.Steps.{step-after, alone-asks, step-decides}
 use Rattle.ngachodui.proofs.Narrow.{Narrow, decide-narrow, taking-narrow}
 
 as-called : {s t : AfterCall} {r : Answered} {ns us j u f : List ℕ} → s ≡ t → Called t r ns us j u f → Called s r ns us j u f

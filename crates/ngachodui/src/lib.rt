@@ -6,14 +6,14 @@ ghost use Prim.Native.Nat.{_<_};
 ghost use mathlib.Core.Path.{_≡_};
 ghost use mathlib.Core.Bool.{true};
 ghost use lib.ListN.{length};
-ghost use Rattle.gateway.specs.Verdicts.{rightLengths};
-ghost use Rattle.gateway.specs.declared.Kind.the-variants.{Byte, Seconds};
+ghost use Rattle.looking.specs.Lent.{rightLengths};
+ghost use Rattle.looking.specs.declared.Kind.the-variants.{Byte, Seconds};
 ghost use Rattle.memory.specs.Sizes.{lines};
 ghost use Rattle.ngachodui.specs.Plain.{withinNumbers};
 ghost use Rattle.ngachodui.specs.Calls.{Calling, Stepping, Deciding, Taken, Fresh};
-use gateway::Alone;
-use gateway::Event;
-use gateway::Kind;
+use receiving::Alone;
+use looking::Event;
+use looking::Kind;
 use line::Answer;
 use line::Line;
 
@@ -124,7 +124,7 @@ fn step(
 {
     let i = e.line as usize;
     let record = plain::record_of(numbers, i);
-    match gateway::step_alone(record, e, journal.len(), unfinished, frames) {
+    match receiving::step_alone(record, e, journal.len(), unfinished, frames) {
         Alone::After(after, answer) => {
             plain::put_record(numbers, i, after);
             plain::told(answer)
@@ -150,7 +150,7 @@ fn decide(
 {
     let i = e.line as usize;
     let ledger = plain::ledger_of(numbers, used);
-    let s = gateway::decide(line, ledger, e, n, journal, unfinished, frames);
+    let s = receiving::decide(line, ledger, e, n, journal, unfinished, frames);
     let after = s.line;
     let booked = s.ledger;
     let answer = s.answer;

@@ -15,10 +15,12 @@ use Rattle.journal.specs.Removal.{takeOf as takeEntry}
 use Rattle.line.specs.Paper.{numberOf}
 use Rattle.line.specs.declared.Answer.{Answer}
 use Rattle.line.specs.declared.Answer.the-variants.{Nothing, Opened, Accepted, Repeated, Stored, Ended, Dropped, TimedOut, Taken, Busy, Unended, Torn, WrongCheck, BadText, BadNumber, Refusing, OutOfTurn, TooLong, NoCr, NoMessage, NoRoom, NoLine, WrongSize, BeyondLimits, Broken, NothingWaiting, BufferShort, Malformed, NotFitting}
-use Rattle.gateway.specs.Verdicts.{rightSizes, verdictOf}
-use Rattle.gateway.specs.Events.{Memory, AfterStep, AfterTake, stepOf, takeOf}
-use Rattle.gateway.specs.declared.Event.{Event}
-use Rattle.gateway.specs.declared.Verdict.the-variants.{Left}
+use Rattle.looking.specs.Lent.{rightSizes}
+use Rattle.receiving.specs.Verdicts.{verdictOf}
+use Rattle.receiving.specs.Steps.{Memory, AfterStep, stepOf}
+use Rattle.gateway.specs.Events.{AfterTake, takeOf}
+use Rattle.looking.specs.declared.Event.{Event}
+use Rattle.looking.specs.declared.Verdict.the-variants.{Left}
 use Rattle.gateway_laws.specs.Classes.{classOf, quiet}
 use Rattle.gateway_laws.proofs.Laws.{left-unchanged, refused-unchanged}
 use Rattle.gateway_laws.proofs.Takings.{taking-refused}

@@ -11,15 +11,17 @@ use Rattle.journal.specs.Runs.{State as Store}
 use Rattle.line.specs.Paper.{ack, numberOf, replyOf}
 use Rattle.line.specs.declared.Line.{Line}
 use Rattle.line.specs.declared.Reply.the-variants.{Byte}
-use Rattle.gateway.specs.Views.{framesOf, textsOf, joinedText}
-use Rattle.gateway.specs.Looks.{lookOf}
-use Rattle.gateway.specs.Verdicts.{decided, ownWork, answerOf}
-use Rattle.gateway.specs.Events.{Memory, lineAt}
-use Rattle.gateway.specs.declared.Kind.{Kind}
-use Rattle.gateway.specs.declared.Look.{Look}
-use Rattle.gateway.specs.declared.Look.the-variants.{Decides}
-use Rattle.gateway.specs.declared.Verdict.{Verdict}
-use Rattle.gateway.specs.declared.Verdict.the-variants.{Left, Opens, Closes, Begins, Counts, Collects, Refuses, Accepts, Stores, Against}
+use Rattle.looking.specs.Views.{framesOf, textsOf, joinedText}
+use Rattle.looking.specs.Looks.{lookOf}
+use Rattle.receiving.specs.Verdicts.{decided, ownWork}
+use Rattle.looking.specs.Answers.{answerOf}
+use Rattle.receiving.specs.Steps.{Memory}
+use Rattle.gateway.specs.Events.{lineAt}
+use Rattle.looking.specs.declared.Kind.{Kind}
+use Rattle.looking.specs.declared.Look.{Look}
+use Rattle.looking.specs.declared.Look.the-variants.{Decides}
+use Rattle.looking.specs.declared.Verdict.{Verdict}
+use Rattle.looking.specs.declared.Verdict.the-variants.{Left, Opens, Closes, Begins, Counts, Collects, Refuses, Accepts, Stores, Against}
 use Rattle.serial.specs.Serial.{event, final, Every}
 use Rattle.promises.specs.Machine.{State, GatewayItem, step, Parts, partsOf, storeOf, left, Sound, May}
 use Rattle.promises.specs.Runs.{RightSizes, fresh, answered, replied, isAck, Completes}

@@ -24,14 +24,16 @@ use Rattle.journal.proofs.Keeps.{store-held}
 use Rattle.line.specs.Paper.{numberOf}
 use Rattle.line.specs.declared.Line.{Line}
 use Rattle.line.specs.declared.Answer.the-variants.{NoMessage, NoRoom}
-use Rattle.gateway.specs.Views.{joinedText}
-use Rattle.gateway.specs.Verdicts.{roomVerdict, decisionOf, decided, answerOf}
-use Rattle.gateway.specs.Settled.{ledgerAfter, journalAfter}
-use Rattle.gateway.specs.declared.Look.{Look}
-use Rattle.gateway.specs.declared.Look.the-variants.{Done, Decides}
-use Rattle.gateway.specs.declared.Verdict.{Verdict}
-use Rattle.gateway.specs.declared.Verdict.the-variants.{Stores, Against}
-use Rattle.gateway.proofs.Fits.{LookFits, quiet-keeps}
+use Rattle.looking.specs.Views.{joinedText}
+use Rattle.receiving.specs.Verdicts.{roomVerdict, decisionOf, decided}
+use Rattle.looking.specs.Answers.{answerOf}
+use Rattle.receiving.specs.Settled.{ledgerAfter, journalAfter}
+use Rattle.looking.specs.declared.Look.{Look}
+use Rattle.looking.specs.declared.Look.the-variants.{Done, Decides}
+use Rattle.looking.specs.declared.Verdict.{Verdict}
+use Rattle.looking.specs.declared.Verdict.the-variants.{Stores, Against}
+use Rattle.looking.proofs.Fits.{LookFits}
+use Rattle.receiving.proofs.Fits.{quiet-keeps}
 use Rattle.gateway_laws.specs.Classes.{classOf}
 use Rattle.promises.specs.Machine.{isDecision}
 

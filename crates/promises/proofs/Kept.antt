@@ -16,14 +16,15 @@ use Rattle.journal.proofs.Cases.{Gives, Keeps, take-cases}
 use Rattle.journal.proofs.Guarantees.{fresh-today}
 use Rattle.line.specs.Line.{withinLimits, freshLine}
 use Rattle.line.proofs.Limits.{within-facts, within-of, fresh-within}
-use Rattle.gateway.specs.Views.{framesOf, textsOf}
-use Rattle.gateway.specs.Looks.{lookOf}
-use Rattle.gateway.specs.Verdicts.{ownWork}
-use Rattle.gateway.specs.Settled.{lineAfter}
-use Rattle.gateway.specs.Events.{Memory, memoryOf, settle, lineAt, noRecord, AfterEvent, putBack, takeOf}
-use Rattle.gateway.specs.declared.Kind.{Kind}
-use Rattle.gateway.proofs.Views.{own-parts}
-use Rattle.gateway.proofs.Fits.{look-fits}
+use Rattle.looking.specs.Views.{framesOf, textsOf}
+use Rattle.looking.specs.Looks.{lookOf}
+use Rattle.receiving.specs.Verdicts.{ownWork}
+use Rattle.receiving.specs.Settled.{lineAfter}
+use Rattle.receiving.specs.Steps.{Memory, memoryOf, settle}
+use Rattle.gateway.specs.Events.{lineAt, noRecord, AfterEvent, putBack, takeOf}
+use Rattle.looking.specs.declared.Kind.{Kind}
+use Rattle.looking.proofs.Views.{own-parts}
+use Rattle.looking.proofs.Fits.{look-fits}
 use Rattle.gateway_laws.proofs.Laws.{line-within}
 use Rattle.gateway_laws.proofs.Others.{texts-length, frames-length}
 use Rattle.serial.specs.Serial.{event, taking}

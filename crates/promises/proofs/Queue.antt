@@ -27,18 +27,21 @@ use Rattle.journal.proofs.Queue.{fresh-runs}
 use Rattle.line.specs.Paper.{numberOf}
 use Rattle.line.specs.declared.Line.{Line}
 use Rattle.line.specs.declared.Answer.the-variants.{NoMessage}
-use Rattle.gateway.specs.Views.{framesOf, textsOf}
-use Rattle.gateway.specs.Looks.{lookOf}
-use Rattle.gateway.specs.Verdicts.{roomVerdict, decisionOf, decided, ownWork, answerOf}
-use Rattle.gateway.specs.Settled.{ledgerAfter, journalAfter}
-use Rattle.gateway.specs.Events.{Memory, lineAt, tookAnswer, takeOf}
-use Rattle.gateway.specs.declared.Kind.{Kind}
-use Rattle.gateway.specs.declared.Look.{Look}
-use Rattle.gateway.specs.declared.Look.the-variants.{Done, Decides}
-use Rattle.gateway.specs.declared.Verdict.{Verdict}
-use Rattle.gateway.specs.declared.Verdict.the-variants.{Against}
-use Rattle.gateway.proofs.Views.{own-parts}
-use Rattle.gateway.proofs.Fits.{LookFits, look-fits, quiet-keeps}
+use Rattle.looking.specs.Views.{framesOf, textsOf}
+use Rattle.looking.specs.Looks.{lookOf}
+use Rattle.receiving.specs.Verdicts.{roomVerdict, decisionOf, decided, ownWork}
+use Rattle.looking.specs.Answers.{answerOf}
+use Rattle.receiving.specs.Settled.{ledgerAfter, journalAfter}
+use Rattle.receiving.specs.Steps.{Memory}
+use Rattle.gateway.specs.Events.{lineAt, tookAnswer, takeOf}
+use Rattle.looking.specs.declared.Kind.{Kind}
+use Rattle.looking.specs.declared.Look.{Look}
+use Rattle.looking.specs.declared.Look.the-variants.{Done, Decides}
+use Rattle.looking.specs.declared.Verdict.{Verdict}
+use Rattle.looking.specs.declared.Verdict.the-variants.{Against}
+use Rattle.looking.proofs.Views.{own-parts}
+use Rattle.looking.proofs.Fits.{LookFits, look-fits}
+use Rattle.receiving.proofs.Fits.{quiet-keeps}
 use Rattle.serial.specs.Serial.{event, taking, final, Every}
 use Rattle.promises.specs.Machine.{State, Told, told, GatewayItem, step, storeOf, Sound, May}
 use Rattle.promises.specs.Runs.{RightSizes, fresh, answered, textWith}

@@ -21,16 +21,18 @@ use Rattle.journal.proofs.Cases.{Gives, Keeps, take-cases}
 use Rattle.journal.proofs.Totals.{claims-own-share}
 use Rattle.line.specs.Paper.{numberOf}
 use Rattle.line.specs.declared.Line.{Line}
-use Rattle.gateway.specs.Views.{framesOf, textsOf, joinedText}
-use Rattle.gateway.specs.Looks.{lookOf}
-use Rattle.gateway.specs.Verdicts.{decisionOf, decided, ownWork, answerOf}
-use Rattle.gateway.specs.Events.{Memory, lineAt, tookAnswer, takeOf}
-use Rattle.gateway.specs.declared.Kind.{Kind}
-use Rattle.gateway.specs.declared.Look.{Look}
-use Rattle.gateway.specs.declared.Look.the-variants.{Done, Decides}
-use Rattle.gateway.specs.declared.Verdict.{Verdict}
-use Rattle.gateway.proofs.Views.{own-parts}
-use Rattle.gateway.proofs.Cases.{Cases, every-look}
+use Rattle.looking.specs.Views.{framesOf, textsOf, joinedText}
+use Rattle.looking.specs.Looks.{lookOf}
+use Rattle.receiving.specs.Verdicts.{decisionOf, decided, ownWork}
+use Rattle.looking.specs.Answers.{answerOf}
+use Rattle.receiving.specs.Steps.{Memory}
+use Rattle.gateway.specs.Events.{lineAt, tookAnswer, takeOf}
+use Rattle.looking.specs.declared.Kind.{Kind}
+use Rattle.looking.specs.declared.Look.{Look}
+use Rattle.looking.specs.declared.Look.the-variants.{Done, Decides}
+use Rattle.looking.specs.declared.Verdict.{Verdict}
+use Rattle.looking.proofs.Views.{own-parts}
+use Rattle.looking.proofs.Cases.{Cases, every-look}
 use Rattle.serial.specs.Serial.{event, taking, annotate, final, Every}
 use Rattle.promises.specs.Machine.{State, Told, GatewayItem, step, Sound, May}
 use Rattle.promises.specs.Runs.{RightSizes, fresh, answered, isFault, textWith, Completes, Overfull, NoSpace, Space}

@@ -9,15 +9,17 @@ use Rattle.memory.specs.Sizes.{lines, messageLimit, framePart}
 use Rattle.memory.proofs.Lines.{equal-parts}
 use Rattle.journal.specs.Room.{todaysShares}
 use Rattle.journal.specs.Runs.{State as Store}
-use Rattle.gateway.specs.Views.{joinedText}
-use Rattle.gateway.specs.Looks.{lookOf}
-use Rattle.gateway.specs.Verdicts.{decided, ownWork}
-use Rattle.gateway.specs.Events.{Memory, noRecord, takeOf}
-use Rattle.gateway.specs.declared.Kind.{Kind}
-use Rattle.gateway.specs.declared.Look.{Look}
-use Rattle.gateway.specs.declared.Look.the-variants.{Done, Decides}
-use Rattle.gateway.proofs.Views.{own-parts}
-use Rattle.gateway.proofs.Fits.{LookFits, look-fits, quiet-keeps}
+use Rattle.looking.specs.Views.{joinedText}
+use Rattle.looking.specs.Looks.{lookOf}
+use Rattle.receiving.specs.Verdicts.{decided, ownWork}
+use Rattle.receiving.specs.Steps.{Memory}
+use Rattle.gateway.specs.Events.{noRecord, takeOf}
+use Rattle.looking.specs.declared.Kind.{Kind}
+use Rattle.looking.specs.declared.Look.{Look}
+use Rattle.looking.specs.declared.Look.the-variants.{Done, Decides}
+use Rattle.looking.proofs.Views.{own-parts}
+use Rattle.looking.proofs.Fits.{LookFits, look-fits}
+use Rattle.receiving.proofs.Fits.{quiet-keeps}
 use Rattle.serial.specs.Serial.{taking, annotate, serialize, count, Every, OrderOf, Lined, NothingElse, ToldAlike}
 use Rattle.serial.specs.Kept.{Rearranged}
 use Rattle.serial.proofs.Demand as serial

@@ -12,12 +12,13 @@ use Rattle.journal.specs.Room.{todaysShares}
 use Rattle.journal.specs.Held.{Held}
 use Rattle.journal.specs.Runs.{Numbered, numbered, waiting}
 use Rattle.line.specs.Paper.{valuesOf}
-use Rattle.gateway.specs.Views.{framesOf, textsOf}
-use Rattle.gateway.specs.Looks.{lookOf}
-use Rattle.gateway.specs.Events.{Memory, lineAt}
-use Rattle.gateway.specs.declared.Kind.{Kind}
-use Rattle.gateway.specs.declared.Look.{Look}
-use Rattle.gateway.specs.declared.Look.the-variants.{Done, Decides}
+use Rattle.looking.specs.Views.{framesOf, textsOf}
+use Rattle.looking.specs.Looks.{lookOf}
+use Rattle.receiving.specs.Steps.{Memory}
+use Rattle.gateway.specs.Events.{lineAt}
+use Rattle.looking.specs.declared.Kind.{Kind}
+use Rattle.looking.specs.declared.Look.{Look}
+use Rattle.looking.specs.declared.Look.the-variants.{Done, Decides}
 use Rattle.serial.specs.Serial.{event, taking, final}
 use Rattle.promises.specs.Machine.{State, Told, GatewayItem, step}
 use Rattle.promises.specs.Runs.{fresh, answered, textWith}

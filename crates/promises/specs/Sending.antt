@@ -25,7 +25,7 @@ use Rattle.journal.specs.Storage.{newEntry, grown}
 use Rattle.journal.specs.Held.{Held}
 use Rattle.journal.specs.declared.Ledger.{Ledger}
 use Rattle.gateway.specs.Events.{lineAt}
-use Rattle.gateway.specs.declared.Kind.the-variants.{Byte}
+use Rattle.looking.specs.declared.Kind.the-variants.{Byte}
 use Rattle.serial.specs.Serial.{event, taking, annotate, final, Every}
 use Rattle.promises.specs.Machine.{State, Told, told, GatewayItem, step, partsOf}
 

@@ -1,7 +1,7 @@
 // An item of a trace in one number: an event of a line, or a taking that names a line.
 ghost use Prim.Native.Nat.{_<_};
-use gateway::Event;
-use gateway::Kind;
+use looking::Event;
+use looking::Kind;
 
 // What stands in a queue where an item has left it: an item of no queue.
 pub const GONE: u64 = 15 * 1048576;
