@@ -11,9 +11,9 @@ ghost use Rattle.looking.specs.declared.Kind.the-variants.{Byte, Seconds};
 ghost use Rattle.memory.specs.Sizes.{lines};
 ghost use Rattle.ngachodui.specs.Plain.{withinNumbers};
 ghost use Rattle.ngachodui.specs.Calls.{Calling, Stepping, Deciding, Taken, Fresh};
-use receiving::Alone;
 use looking::Event;
 use looking::Kind;
+use looking::Look;
 use line::Answer;
 use line::Line;
 
@@ -124,12 +124,15 @@ fn step(
 {
     let i = e.line as usize;
     let record = plain::record_of(numbers, i);
-    match receiving::step_alone(record, e, journal.len(), unfinished, frames) {
-        Alone::After(after, answer) => {
+    let alone = receiving::step_alone(record, e, journal.len(), unfinished, frames);
+    let after = alone.line;
+    let look = alone.look;
+    match look {
+        Look::Done(v) => {
             plain::put_record(numbers, i, after);
-            plain::told(answer)
+            plain::told(v.answer())
         }
-        Alone::Asks(n) => decide(record, e, n, numbers, used, journal, unfinished, frames),
+        Look::Decides(n) => decide(record, e, n, numbers, used, journal, unfinished, frames),
     }
 }
 
