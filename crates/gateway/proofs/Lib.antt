@@ -1,10 +1,2 @@
-pub mod Joined
-pub mod Views
-pub mod Looks
-pub mod Cases
-pub mod Rows
-pub mod Pieces
-pub mod Decisions
-pub mod Fits
 pub mod Steps
 pub mod OneOutcome

@@ -1,4 +1,4 @@
--- One event on one line, one event on the gateway, and one taking: the whole step, on records and lent bytes.
+-- One event on the gateway, and one taking: on eight records, the ledger and the lent bytes.
 -- Assumes nothing.
 use Prim.Native.Nat.{ℕ}
 use mathlib.Core.Path.{_≡_}
@@ -11,7 +11,6 @@ use Rattle.memory.specs.Tests.{unless}
 use Rattle.journal.specs.Chain.{freshLedger}
 use Rattle.room.specs.Room.{todaysShares}
 use Rattle.journal.specs.Removal.{takeOf as takeEntry}
-use Rattle.journal.specs.declared.Ledger.{Ledger}
 use Rattle.journal.specs.declared.Took.{Took}
 use Rattle.journal.specs.declared.Took.the-variants.{Taken as Got, NothingWaiting as Empty, BufferShort as Short, BrokenJournal, NoSuchLine, WrongSize as OtherSize}
 use Rattle.line.specs.Line.{freshLine}
@@ -20,55 +19,10 @@ use Rattle.line.specs.declared.State.the-variants.{Neutral}
 use Rattle.line.specs.declared.Last.the-variants.{NoneYet}
 use Rattle.line.specs.declared.Answer.{Answer}
 use Rattle.line.specs.declared.Answer.the-variants.{Taken, NoLine, WrongSize, Broken, NothingWaiting, BufferShort}
-use Rattle.gateway.specs.Views.{framesOf, textsOf, joinedText}
-use Rattle.gateway.specs.Verdicts.{verdictOf, answerOf}
-use Rattle.gateway.specs.Settled.{lineAfter, framesAfter, textsAfter, ledgerAfter, journalAfter}
-use Rattle.gateway.specs.declared.Event.{Event}
+use Rattle.looking.specs.declared.Event.{Event}
+use Rattle.receiving.specs.Steps.{Memory, memoryOf, AfterStep, stepOf}
 use Rattle.gateway.specs.declared.Gateway.{Gateway}
 use Rattle.gateway.specs.declared.Handled.{Handled}
-use Rattle.gateway.specs.declared.Stepped.{Stepped}
-use Rattle.gateway.specs.declared.Verdict.{Verdict}
-
--- the lent memory of an event
-pub record Memory : Type 0 where
-  pub journal : List ℕ
-  pub unfinished : List ℕ
-  pub frames : List ℕ
-
-pub record AfterStep : Type 0 where
-  pub stepped : Stepped
-  pub memory : Memory
-
--- what a verdict leaves
-abbrev pub settle : Verdict → Line → Ledger → Event → Memory → AfterStep
-settle v l d e m =
-    let text : ℕ → List ℕ = λ n. joinedText l n (textsOf (e .line) (m .unfinished)) (framesOf (e .line) (m .frames)) in
-    record {
-      stepped = record { line = lineAfter v l; ledger = ledgerAfter v d (e .line) text; answer = answerOf v };
-      memory = record {
-        journal = journalAfter v d (e .line) text (m .journal);
-        unfinished = textsAfter v l (e .line) (m .unfinished) (m .frames);
-        frames = framesAfter v (e .kind) l (e .line) (m .frames);
-      };
-    }
-
--- an event on a line with this record: look, then act
-unfoldable pub stepOf : List ℕ → Line → Ledger → Event → Memory → AfterStep
-stepOf shares l d e m = settle (verdictOf shares l d e (m .journal) (m .unfinished) (m .frames)) l d e m
-
--- what an outcome of a step says
-pub record Leaves (s : AfterStep) (r : Stepped) (j u f : List ℕ) : Type 0 where
-  pub result : r ≡ s .stepped
-  pub journal : j ≡ s .memory .journal
-  pub unfinished : u ≡ s .memory .unfinished
-  pub frames : f ≡ s .memory .frames
-
-abbrev pub memoryOf : List ℕ → List ℕ → List ℕ → Memory
-memoryOf j u f = record { journal = j; unfinished = u; frames = f }
-
--- what a step says
-abbrev pub Stepping : Line → Ledger → Event → List ℕ → List ℕ → List ℕ → Stepped → List ℕ → List ℕ → List ℕ → Type 0
-Stepping l d e j u f r j′ u′ f′ = Leaves (stepOf todaysShares l d e (memoryOf j u f)) r j′ u′ f′
 
 -- every line fresh, the journal empty
 abbrev pub freshGateway : Gateway

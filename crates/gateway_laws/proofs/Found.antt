@@ -14,19 +14,21 @@ use Rattle.line.specs.Line.{withinLimits}
 use Rattle.line.specs.declared.Line.{Line}
 use Rattle.line.specs.declared.Answer.{Answer}
 use Rattle.line.specs.declared.Answer.the-variants.{NoLine, WrongSize, BeyondLimits}
-use Rattle.gateway.specs.Views.{framesOf, textsOf, joinedText, Ready}
-use Rattle.gateway.specs.Looks.{lookOf}
-use Rattle.gateway.specs.Verdicts.{decided, ownWork, workOf, rightSizes, verdictOf}
-use Rattle.gateway.specs.Settled.{Fitting}
-use Rattle.gateway.specs.declared.Event.{Event}
-use Rattle.gateway.specs.declared.Look.{Look}
-use Rattle.gateway.specs.declared.Look.the-variants.{Done, Decides}
-use Rattle.gateway.specs.declared.Verdict.{Verdict}
-use Rattle.gateway.specs.declared.Verdict.the-variants.{Left}
+use Rattle.looking.specs.Views.{framesOf, textsOf, joinedText, Ready}
+use Rattle.looking.specs.Looks.{lookOf}
+use Rattle.receiving.specs.Verdicts.{decided, ownWork, workOf, verdictOf}
+use Rattle.looking.specs.Lent.{rightSizes}
+use Rattle.looking.specs.Fitting.{Fitting}
+use Rattle.looking.specs.declared.Event.{Event}
+use Rattle.looking.specs.declared.Look.{Look}
+use Rattle.looking.specs.declared.Look.the-variants.{Done, Decides}
+use Rattle.looking.specs.declared.Verdict.{Verdict}
+use Rattle.looking.specs.declared.Verdict.the-variants.{Left}
 use Rattle.gateway_laws.specs.Classes.{classOf, quiet}
-use Rattle.gateway.proofs.Views.{own-parts}
-use Rattle.gateway.proofs.Fits.{LookFits, look-fits, decision-fits}
-use Rattle.gateway.proofs.Steps.{lengths-facts}
+use Rattle.looking.proofs.Views.{own-parts}
+use Rattle.looking.proofs.Fits.{LookFits, look-fits}
+use Rattle.receiving.proofs.Fits.{decision-fits}
+use Rattle.looking.proofs.Alone.{lengths-facts}
 
 module _ (shares : List ℕ) (l : Line) (d : Ledger) (e : Event) (j u f : List ℕ) where
   -- past 40 to 42

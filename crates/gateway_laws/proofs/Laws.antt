@@ -19,16 +19,19 @@ use Rattle.line.specs.declared.Line.{Line}
 use Rattle.line.specs.declared.Answer.{Answer}
 use Rattle.line.specs.declared.Answer.the-variants.{Nothing, Stored, NoLine}
 use Rattle.line.proofs.Limits.{Within, within-facts, within-of, fresh-within, opened-within, begun-within, collected-within, counted-within, waiting-within, accepted-within, refusing-within}
-use Rattle.gateway.specs.Views.{framesOf, textsOf, joinedText}
-use Rattle.gateway.specs.Looks.{lookOf}
-use Rattle.gateway.specs.Verdicts.{ownWork, verdictOf, answerOf}
-use Rattle.gateway.specs.Settled.{lineAfter, withByte, Fitting}
-use Rattle.gateway.specs.Events.{Memory, AfterStep, settle, stepOf, lineAt, noRecord, AfterEvent, putBack, eventOf, takeOf}
-use Rattle.gateway.specs.declared.Event.{Event}
+use Rattle.looking.specs.Views.{framesOf, textsOf, joinedText}
+use Rattle.looking.specs.Looks.{lookOf}
+use Rattle.receiving.specs.Verdicts.{ownWork, verdictOf}
+use Rattle.looking.specs.Answers.{answerOf}
+use Rattle.receiving.specs.Settled.{lineAfter, withByte}
+use Rattle.looking.specs.Fitting.{Fitting}
+use Rattle.receiving.specs.Steps.{Memory, AfterStep, settle, stepOf}
+use Rattle.gateway.specs.Events.{lineAt, noRecord, AfterEvent, putBack, eventOf, takeOf}
+use Rattle.looking.specs.declared.Event.{Event}
 use Rattle.gateway.specs.declared.Gateway.{Gateway}
-use Rattle.gateway.specs.declared.Look.the-variants.{Done}
-use Rattle.gateway.specs.declared.Verdict.{Verdict}
-use Rattle.gateway.specs.declared.Verdict.the-variants.{Left, Opens, Closes, Begins, Counts, Collects, Refuses, Accepts, Stores, Against}
+use Rattle.looking.specs.declared.Look.the-variants.{Done}
+use Rattle.looking.specs.declared.Verdict.{Verdict}
+use Rattle.looking.specs.declared.Verdict.the-variants.{Left, Opens, Closes, Begins, Counts, Collects, Refuses, Accepts, Stores, Against}
 use Rattle.gateway_laws.specs.Classes.{Class, quiet, refusing, storing, classOf}
 use Rattle.gateway_laws.proofs.Found.{Found, refused, worked, verdict-found}
 use Rattle.gateway_laws.proofs.Rows.{store-rows, Of, leaves, begins, counts, collects, refuses, stores, of-class}

@@ -12,16 +12,17 @@ use Rattle.journal.specs.declared.Ledger.{Ledger}
 use Rattle.journal.specs.declared.Verdict.{Verdict as Judgement}
 use Rattle.journal.specs.declared.Verdict.the-variants.{Fits, NoRoom as Full, Broken as Damaged, NoLine as Nowhere, OtherSize, NoText}
 use Rattle.line.specs.declared.Line.{Line}
-use Rattle.gateway.specs.Views.{framesOf, textsOf, joinedText, Ready}
-use Rattle.gateway.specs.Looks.{lookOf}
-use Rattle.gateway.specs.Verdicts.{roomVerdict, decisionOf, decided, ownWork, workOf, verdictOf, answerOf}
-use Rattle.gateway.specs.declared.Event.{Event}
-use Rattle.gateway.specs.declared.Look.{Look}
-use Rattle.gateway.specs.declared.Look.the-variants.{Done, Decides}
-use Rattle.gateway.specs.declared.Verdict.{Verdict}
-use Rattle.gateway.specs.declared.Verdict.the-variants.{Left}
-use Rattle.gateway.proofs.Views.{own-parts}
-use Rattle.gateway.proofs.Cases.{Cases, every-look}
+use Rattle.looking.specs.Views.{framesOf, textsOf, joinedText, Ready}
+use Rattle.looking.specs.Looks.{lookOf}
+use Rattle.receiving.specs.Verdicts.{roomVerdict, decisionOf, decided, ownWork, workOf, verdictOf}
+use Rattle.looking.specs.Answers.{answerOf}
+use Rattle.looking.specs.declared.Event.{Event}
+use Rattle.looking.specs.declared.Look.{Look}
+use Rattle.looking.specs.declared.Look.the-variants.{Done, Decides}
+use Rattle.looking.specs.declared.Verdict.{Verdict}
+use Rattle.looking.specs.declared.Verdict.the-variants.{Left}
+use Rattle.looking.proofs.Views.{own-parts}
+use Rattle.looking.proofs.Cases.{Cases, every-look}
 use Rattle.gateway_laws.specs.Classes.{classOf, verdictClass}
 use Rattle.gateway_laws.proofs.Found.{Found, refused, worked, verdict-found}
 

@@ -9,11 +9,12 @@ use Rattle.journal.specs.Storage.{grown, appended}
 use Rattle.journal.specs.declared.Ledger.{Ledger}
 use Rattle.line.specs.declared.Line.{Line}
 use Rattle.line.specs.declared.Answer.{Answer}
-use Rattle.gateway.specs.Views.{framesOf, textsOf, frameText}
-use Rattle.gateway.specs.Settled.{withByte, withText, framesAfter, textsAfter, ledgerAfter, journalAfter, TextFits, Fitting}
-use Rattle.gateway.specs.declared.Kind.{Kind}
-use Rattle.gateway.specs.declared.Verdict.{Verdict}
-use Rattle.gateway.specs.declared.Verdict.the-variants.{Left, Opens, Closes, Begins, Counts, Collects, Refuses, Accepts, Stores, Against}
+use Rattle.looking.specs.Views.{framesOf, textsOf, frameText}
+use Rattle.receiving.specs.Settled.{withByte, withText, framesAfter, textsAfter, ledgerAfter, journalAfter}
+use Rattle.looking.specs.Fitting.{TextFits, Fitting}
+use Rattle.looking.specs.declared.Kind.{Kind}
+use Rattle.looking.specs.declared.Verdict.{Verdict}
+use Rattle.looking.specs.declared.Verdict.the-variants.{Left, Opens, Closes, Begins, Counts, Collects, Refuses, Accepts, Stores, Against}
 use Rattle.gateway_laws.specs.Classes.{Class, verdictClass, quiet, opening, closing, refusing, accepting, storing, against}
 use Rattle.gateway_laws.specs.Own.{ownByte, ownFrames, ownTexts}
 

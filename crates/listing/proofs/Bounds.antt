@@ -8,7 +8,7 @@ use native.Mathlib.Omega.{arith}
 use lib.ListN.{length, getD, drop}
 use lib.Dec.{eqb}
 use Rattle.memory.specs.Sizes.{messageLimit}
-use Rattle.gateway.specs.declared.Kind.the-variants.{Byte}
+use Rattle.looking.specs.declared.Kind.the-variants.{Byte}
 use Rattle.listing.specs.Items.{operandAt, isHex, hexValue, eventOn, byLength, byteItem, secondsItem, takingItem, bySeconds, amountOf, operandOf, isLaidOut, itemOf}
 use Rattle.listing.specs.declared.Item.{Item}
 use Rattle.listing.specs.declared.Item.the-variants.{Event, Taking, NotAnEvent}

@@ -5,7 +5,7 @@ use mathlib.Core.List.{List, [], _∷_, _++_, map}
 use Prim.Native.Nat.{ℕ}
 use Rattle.digits.specs.Check.{hexDigit, digitsOf}
 use Rattle.line.specs.Paper.{replyOf}
-use Rattle.gateway.specs.declared.Kind.the-variants.{Byte, Seconds}
+use Rattle.looking.specs.declared.Kind.the-variants.{Byte, Seconds}
 use Rattle.decimal.specs.Decimal.{digitsIn, decimalOf}
 use Rattle.listing.specs.Items.{hexValue, amountOf, eventOn, byteItem, secondsItem, takingItem, operandOf, isLaidOut, itemOf}
 use Rattle.listing.specs.Texts.{headerText, wordText, lastText, rowText, totalText, faultText}

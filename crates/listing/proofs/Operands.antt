@@ -14,7 +14,7 @@ use Rattle.memory.specs.Tests.{all, between}
 use Rattle.memory.proofs.Tests.{and-right, and-not-right}
 use Rattle.sequence.specs.Numbers.{isDigit, decimal}
 use Rattle.sequence.proofs.Decimal.{between-yes, between-low, between-high}
-use Rattle.gateway.specs.declared.Kind.the-variants.{Byte}
+use Rattle.looking.specs.declared.Kind.the-variants.{Byte}
 use Rattle.listing.specs.Items.{shortest, lineLimit, isLaidOut, itemOf, operandOf, operandAt, notHex, hexValue, eventOn, byteItem, amountOf}
 use Rattle.listing.specs.declared.Item.the-variants.{NotAnEvent}
 use Rattle.listing.specs.declared.reading.Amount.{Amount}

@@ -8,8 +8,8 @@ use lib.Dec.{leb, ltb, eqb}
 use Rattle.memory.specs.Sizes.{messageLimit}
 use Rattle.memory.specs.Tests.{is, between, all, unless}
 use Rattle.sequence.specs.Numbers.{isDigit, decimal}
-use Rattle.gateway.specs.declared.Kind.{Kind}
-use Rattle.gateway.specs.declared.Kind.the-variants.{Byte, Seconds}
+use Rattle.looking.specs.declared.Kind.{Kind}
+use Rattle.looking.specs.declared.Kind.the-variants.{Byte, Seconds}
 use Rattle.listing.specs.declared.Item.{Item}
 use Rattle.listing.specs.declared.Item.the-variants.{Event, Taking, NotAnEvent}
 use Rattle.listing.specs.declared.reading.Amount.{Amount}

@@ -2,7 +2,7 @@
 ghost use mathlib.Core.Path.{_≡_};
 ghost use Rattle.listing.specs.Items.{itemOf};
 ghost use Rattle.listing.specs.Texts.{headerText, rowText, totalText, faultText, TextWritten};
-use gateway::Event;
+use looking::Event;
 
 mod reading; // reading.rt: what stands behind a line's letter
 mod rows; // rows.rt: the columns of an event's row

@@ -5,8 +5,8 @@ ghost use lib.ListN.{length, getD, drop};
 ghost use Rattle.memory.specs.Sizes.{messageLimit};
 ghost use Rattle.listing.specs.Items.{shortest, operandAt, hexValue, operandOf, byteItem, secondsItem, takingItem, amountOf};
 use super::Item;
-use gateway::Event;
-use gateway::Kind;
+use looking::Event;
+use looking::Kind;
 
 // A number up to a limit, or none.
 pub enum Amount {

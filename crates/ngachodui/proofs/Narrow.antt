@@ -28,13 +28,14 @@ use Rattle.journal.proofs.Judged.{fits-facts}
 use Rattle.journal.proofs.Wholes.{kept}
 use Rattle.line.specs.Line.{withinLimits}
 use Rattle.line.specs.declared.Line.{Line}
-use Rattle.gateway.specs.Views.{framesOf, textsOf, joinedText}
-use Rattle.gateway.specs.Verdicts.{roomVerdict, decisionOf, rightSizes}
-use Rattle.gateway.specs.Settled.{ledgerAfter}
-use Rattle.gateway.specs.Events.{Memory}
-use Rattle.gateway.specs.Alone.{textFits, completed, completionOf, decideOf}
-use Rattle.gateway.specs.declared.Event.{Event}
-use Rattle.gateway.specs.declared.Verdict.the-variants.{Left, Against}
+use Rattle.looking.specs.Views.{framesOf, textsOf, joinedText}
+use Rattle.receiving.specs.Verdicts.{roomVerdict, decisionOf}
+use Rattle.looking.specs.Lent.{rightSizes}
+use Rattle.receiving.specs.Settled.{ledgerAfter}
+use Rattle.receiving.specs.Steps.{Memory}
+use Rattle.receiving.specs.Alone.{textFits, completed, completionOf, decideOf}
+use Rattle.looking.specs.declared.Event.{Event}
+use Rattle.looking.specs.declared.Verdict.the-variants.{Left, Against}
 use Rattle.line.specs.declared.Answer.the-variants.{NoMessage, NoLine, WrongSize, BeyondLimits}
 
 -- d's bytes in use fit into 32 bits

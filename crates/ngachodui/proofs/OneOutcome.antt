@@ -3,7 +3,7 @@
 use mathlib.Core.Path.{_≡_, sym, _∙_}
 use mathlib.Core.List.{List}
 use Prim.Native.Nat.{ℕ}
-use Rattle.gateway.specs.declared.Event.{Event}
+use Rattle.looking.specs.declared.Event.{Event}
 use Rattle.ngachodui.specs.Calls.{Calling, Taken, Fresh}
 use Rattle.ngachodui.specs.Texts.{CutFrames, Escaped, Unescaped, RecordsRead}
 use Rattle.ngachodui.specs.declared.Answered.{Answered}

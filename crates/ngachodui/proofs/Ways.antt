@@ -16,26 +16,29 @@ use Rattle.line.specs.Line.{mostCollected}
 use Rattle.line.specs.declared.Answer.{Answer}
 use Rattle.line.specs.declared.Answer.the-variants.{Nothing, NoLine, WrongSize, BeyondLimits}
 use Rattle.line.specs.declared.Line.{Line}
-use Rattle.gateway.specs.Views.{frameStart}
-use Rattle.gateway.specs.Looks.{byteLook, insideLook}
-use Rattle.gateway.specs.Verdicts.{ownWork, rightLengths, verdictOf}
-use Rattle.gateway.specs.Events.{Memory, AfterStep, Leaves, memoryOf, settle, stepOf}
-use Rattle.gateway.specs.Alone.{SteppingAlone, decideOf}
-use Rattle.gateway.specs.declared.Alone.the-variants.{After, Asks}
-use Rattle.gateway.specs.declared.Stepped.{Stepped}
+use Rattle.looking.specs.Views.{frameStart}
+use Rattle.looking.specs.Looks.{byteLook, insideLook}
+use Rattle.receiving.specs.Verdicts.{ownWork, verdictOf}
+use Rattle.looking.specs.Lent.{rightLengths}
+use Rattle.receiving.specs.Steps.{Memory, AfterStep, Leaves, memoryOf, settle, stepOf}
+use Rattle.receiving.specs.Alone.{SteppingAlone, decideOf}
+use Rattle.receiving.specs.declared.Alone.{Alone}
+use Rattle.looking.specs.Answers.{answerOf}
+use Rattle.looking.specs.declared.Look.the-variants.{Done, Decides}
+use Rattle.receiving.specs.declared.Stepped.{Stepped}
 use Rattle.journal.specs.declared.Ledger.{Ledger}
 use Rattle.journal.specs.declared.Taking.{Taking}
 use Rattle.journal.specs.Removal.{takeOf, TakenFrom}
 use Rattle.line.specs.declared.State.the-variants.{Inside}
-use Rattle.gateway.specs.declared.Event.{Event}
-use Rattle.gateway.specs.declared.Kind.the-variants.{Byte}
-use Rattle.gateway.specs.declared.Verdict.{Verdict}
-use Rattle.gateway.specs.declared.Verdict.the-variants.{Collects}
+use Rattle.looking.specs.declared.Event.{Event}
+use Rattle.looking.specs.declared.Kind.the-variants.{Byte}
+use Rattle.looking.specs.declared.Verdict.{Verdict}
+use Rattle.looking.specs.declared.Verdict.the-variants.{Collects}
 use Rattle.ngachodui.specs.Plain.{inside, firstAt, numberAt, stateOf, withLine, withSerial, withUsed, withinNumbers, onlyCollects, oneMore, quick, lineOf, ledgerOf, told, toldTaking}
 use Rattle.ngachodui.specs.Calls.{AfterCall, refused, putBack, callOf, Called, Calling, Stepping, Deciding, Taken}
 use Rattle.ngachodui.specs.declared.Answered.{Answered}
 use Rattle.ngachodui.proofs.Numbers.{told-within, used-back, serial-back, count-back}
-use Rattle.gateway.proofs.Steps.{step-after, alone-asks, step-decides}
+use Rattle.receiving.proofs.Steps.{step-after, alone-asks, step-decides}
 use Rattle.ngachodui.proofs.Narrow.{Narrow, decide-narrow, taking-narrow}
 
 as-called : {s t : AfterCall} {r : Answered} {ns us j u f : List ℕ} → s ≡ t → Called t r ns us j u f → Called s r ns us j u f
@@ -77,11 +80,11 @@ module _ (ns us : List ℕ) (e : Event) (j u f : List ℕ) where
   }
 
   -- a step that is done on the line alone: the ledger stays
-  pub put-after : {l l′ : Line} {a : Answer} {ns′ u′ f′ : List ℕ} {r : Answered} → e .line < lines → l ≡ lineOf ns (e .line) → SteppingAlone l e (length j) u f (After l′ a) u′ f′
-      → ns′ ≡ withLine ns (e .line) l′ → r ≡ told a → Stepping ns us e j u f r ns′ us j u′ f′
-  put-after {l} {l′} {a} {ns′} {u′} {f′} {r} h p s m t =
-      let q : SteppingAlone (lineOf ns (e .line)) e (length j) u f (After l′ a) u′ f′ = rw (← p) s in
-      put-back (step-after (lineOf ns (e .line)) (ledgerOf ns us) e j u f l′ a u′ f′ q) refl (m ∙ sym (serial-back ns us (e .line) l′ h)) (sym (used-back ns us (e .line) h)) t
+  pub put-after : {l : Line} {t : Alone} {v : Verdict} {a : Answer} {ns′ u′ f′ : List ℕ} {r : Answered} → e .line < lines → l ≡ lineOf ns (e .line) → SteppingAlone l e (length j) u f t u′ f′
+      → t .look ≡ Done v → ns′ ≡ withLine ns (e .line) (t .line) → a ≡ answerOf v → r ≡ told a → Stepping ns us e j u f r ns′ us j u′ f′
+  put-after {l} {t} {v} {a} {ns′} {u′} {f′} {r} h p s k m w q =
+      let x : SteppingAlone (lineOf ns (e .line)) e (length j) u f t u′ f′ = rw (← p) s in
+      put-back (step-after (lineOf ns (e .line)) (ledgerOf ns us) e j u f t v x k w) refl (m ∙ sym (serial-back ns us (e .line) (t .line) h)) (sym (used-back ns us (e .line) h)) q
 
   -- a message that is decided
   pub put-decided : (l : Line) (n : ℕ) {d : Ledger} {s : Stepped} {ns₁ ns₂ us′ j′ u′ f′ : List ℕ} {r : Answered} → d ≡ ledgerOf ns us → Leaves (decideOf todaysShares l d e n (memoryOf j u f)) s j′ u′ f′
@@ -90,12 +93,12 @@ module _ (ns us : List ℕ) (e : Event) (j u f : List ℕ) where
       let y : Leaves (decideOf todaysShares l (ledgerOf ns us) e n (memoryOf j u f)) s j′ u′ f′ = rw (← q) x in
       put-back y m o p t
 
-  pub by-decide : {l : Line} {n : ℕ} {u₁ f₁ ns′ us′ j′ u′ f′ : List ℕ} {r : Answered} → l ≡ lineOf ns (e .line) → SteppingAlone l e (length j) u f (Asks n) u₁ f₁
+  pub by-decide : {l : Line} {t : Alone} {n : ℕ} {u₁ f₁ ns′ us′ j′ u′ f′ : List ℕ} {r : Answered} → l ≡ lineOf ns (e .line) → SteppingAlone l e (length j) u f t u₁ f₁ → t .look ≡ Decides n
       → Deciding ns us l e n j u₁ f₁ r ns′ us′ j′ u′ f′ → Stepping ns us e j u f r ns′ us′ j′ u′ f′
-  by-decide {l} {n} {u₁} {f₁} {ns′} {us′} {j′} {u′} {f′} {r} p s c =
-      let (h, x, y) = alone-asks l (ledgerOf ns us) e j u f n u₁ f₁ s in
+  by-decide {l} {t} {n} {u₁} {f₁} {ns′} {us′} {j′} {u′} {f′} {r} p s k c =
+      let (h, x, y) = alone-asks l (ledgerOf ns us) e j u f t s k in
       let z : Deciding ns us l e n j u f r ns′ us′ j′ u′ f′ = rw (← x, ← y) c in
-      rw (← p) (as-called (ap (λ (t : AfterStep). putBack ns us (e .line) t) (step-decides l (ledgerOf ns us) e j u f n h)) z)
+      rw (← p) (as-called (ap (λ (w : AfterStep). putBack ns us (e .line) w) (step-decides l (ledgerOf ns us) e j u f n h)) z)
 
 -- the ledger after a deciding still fits
 pub narrow-after : (l : Line) (d : Ledger) (e : Event) (n : ℕ) (m : Memory) {s : Stepped} → s ≡ decideOf todaysShares l d e n m .stepped → Narrow d → Narrow (s .ledger)

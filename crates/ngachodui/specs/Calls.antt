@@ -12,10 +12,10 @@ use Rattle.journal.specs.Removal.{AfterTaking, takeOf}
 use Rattle.line.specs.declared.Line.{Line}
 use Rattle.line.specs.declared.Answer.{Answer}
 use Rattle.line.specs.declared.Answer.the-variants.{NoLine, WrongSize, BeyondLimits}
-use Rattle.gateway.specs.Verdicts.{rightSizes}
-use Rattle.gateway.specs.Events.{Memory, memoryOf, AfterStep, stepOf}
-use Rattle.gateway.specs.Alone.{decideOf}
-use Rattle.gateway.specs.declared.Event.{Event}
+use Rattle.looking.specs.Lent.{rightSizes}
+use Rattle.receiving.specs.Steps.{Memory, memoryOf, AfterStep, stepOf}
+use Rattle.receiving.specs.Alone.{decideOf}
+use Rattle.looking.specs.declared.Event.{Event}
 use Rattle.ngachodui.specs.Plain.{withinNumbers, lineOf, withLine, ledgerOf, withSerial, withUsed, told, toldTaking, freshNumbers}
 use Rattle.ngachodui.specs.declared.Answered.{Answered}
 

@@ -6,16 +6,16 @@ ghost use Prim.Native.Nat.{_<_};
 ghost use mathlib.Core.Path.{_≡_};
 ghost use mathlib.Core.Bool.{true};
 ghost use lib.ListN.{length};
-ghost use Rattle.gateway.specs.Verdicts.{rightLengths};
-ghost use Rattle.gateway.specs.declared.Kind.the-variants.{Byte, Seconds};
+ghost use Rattle.looking.specs.Lent.{rightLengths};
+ghost use Rattle.looking.specs.declared.Kind.the-variants.{Byte, Seconds};
 ghost use Rattle.memory.specs.Sizes.{lines};
 ghost use Rattle.ngachodui.specs.Plain.{withinNumbers};
 ghost use Rattle.ngachodui.specs.Calls.{Calling, Stepping, Deciding, Taken, Fresh};
-use gateway::Alone;
-use gateway::Event;
-use gateway::Kind;
 use line::Answer;
 use line::Line;
+use looking::Event;
+use looking::Kind;
+use looking::Look;
 
 mod plain; // plain.rt: records, ledger and answers in plain numbers
 pub mod texts; // texts.rt: texts cut, read, escaped and unescaped
@@ -124,12 +124,15 @@ fn step(
 {
     let i = e.line as usize;
     let record = plain::record_of(numbers, i);
-    match gateway::step_alone(record, e, journal.len(), unfinished, frames) {
-        Alone::After(after, answer) => {
+    let alone = receiving::step_alone(record, e, journal.len(), unfinished, frames);
+    let after = alone.line;
+    let look = alone.look;
+    match look {
+        Look::Done(v) => {
             plain::put_record(numbers, i, after);
-            plain::told(answer)
+            plain::told(v.answer())
         }
-        Alone::Asks(n) => decide(record, e, n, numbers, used, journal, unfinished, frames),
+        Look::Decides(n) => decide(record, e, n, numbers, used, journal, unfinished, frames),
     }
 }
 
@@ -150,7 +153,7 @@ fn decide(
 {
     let i = e.line as usize;
     let ledger = plain::ledger_of(numbers, used);
-    let s = gateway::decide(line, ledger, e, n, journal, unfinished, frames);
+    let s = receiving::decide(line, ledger, e, n, journal, unfinished, frames);
     let after = s.line;
     let booked = s.ledger;
     let answer = s.answer;

@@ -13,12 +13,13 @@ use Rattle.line.specs.Paper.{numberOf, valuesOf}
 use Rattle.line.specs.declared.Answer.{Answer}
 use Rattle.line.specs.declared.Answer.the-variants.{NoLine}
 use Rattle.line.proofs.Paper.{every-answer}
-use Rattle.gateway.specs.Verdicts.{verdictOf}
-use Rattle.gateway.specs.Events.{Memory, stepOf, lineAt, putBack, freshGateway, eventOf}
-use Rattle.gateway.specs.declared.Event.{Event}
+use Rattle.receiving.specs.Verdicts.{verdictOf}
+use Rattle.receiving.specs.Steps.{Memory, stepOf}
+use Rattle.gateway.specs.Events.{lineAt, putBack, freshGateway, eventOf}
+use Rattle.looking.specs.declared.Event.{Event}
 use Rattle.gateway.specs.declared.Gateway.{Gateway}
-use Rattle.gateway.specs.declared.Verdict.{Verdict}
-use Rattle.gateway.specs.declared.Verdict.the-variants.{Left, Opens, Closes, Begins, Counts, Collects, Refuses, Accepts, Stores, Against}
+use Rattle.looking.specs.declared.Verdict.{Verdict}
+use Rattle.looking.specs.declared.Verdict.the-variants.{Left, Opens, Closes, Begins, Counts, Collects, Refuses, Accepts, Stores, Against}
 use Rattle.gateway_laws.specs.Classes.{Class, quiet, opening, closing, refusing, accepting, storing, against, taking as gives, classOf, verdictClass}
 use Rattle.gateway_laws.proofs.Proper.{verdict-proper}
 use Rattle.serial.specs.Serial.{event, taking, annotate, final, Every}

@@ -18,9 +18,11 @@ use Rattle.journal.specs.declared.Took.the-variants.{Taken as Got, NothingWaiti
 use Rattle.line.specs.Paper.{replyOf}
 use Rattle.line.specs.declared.Answer.{Answer}
 use Rattle.line.specs.declared.Answer.the-variants.{WrongSize}
-use Rattle.gateway.specs.Verdicts.{rightSizes, verdictOf}
-use Rattle.gateway.specs.Events.{Memory, memoryOf, AfterStep, AfterEvent, stepOf, freshGateway, eventOf, takeOf, tookAnswer, putBack as putLine}
-use Rattle.gateway.specs.declared.Event.{Event}
+use Rattle.looking.specs.Lent.{rightSizes}
+use Rattle.receiving.specs.Verdicts.{verdictOf}
+use Rattle.receiving.specs.Steps.{Memory, memoryOf, AfterStep, stepOf}
+use Rattle.gateway.specs.Events.{AfterEvent, freshGateway, eventOf, takeOf, tookAnswer, putBack as putLine}
+use Rattle.looking.specs.declared.Event.{Event}
 use Rattle.gateway_laws.proofs.Laws.{unchanged, left-unchanged, limits-kept}
 use Rattle.ngachodui.specs.Plain.{lineOf, ledgerOf, withinNumbers, withUsed, told, toldTaking, freshNumbers}
 use Rattle.ngachodui.specs.Calls.{AfterCall, refused, putBack, callOf, Calling, Taken, Fresh}

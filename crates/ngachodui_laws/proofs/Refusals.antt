@@ -16,10 +16,12 @@ use Rattle.line.specs.Paper.{numberOf}
 use Rattle.line.specs.declared.Answer.{Answer}
 use Rattle.line.specs.declared.Answer.the-variants.{Nothing, NoLine, WrongSize, BeyondLimits}
 use Rattle.line.proofs.Paper.{every-answer}
-use Rattle.gateway.specs.Verdicts.{rightSizes, verdictOf}
-use Rattle.gateway.specs.Events.{Memory, AfterStep, AfterTake, stepOf, takeOf}
-use Rattle.gateway.specs.declared.Event.{Event}
-use Rattle.gateway.specs.declared.Verdict.the-variants.{Left}
+use Rattle.looking.specs.Lent.{rightSizes}
+use Rattle.receiving.specs.Verdicts.{verdictOf}
+use Rattle.receiving.specs.Steps.{Memory, AfterStep, stepOf}
+use Rattle.gateway.specs.Events.{AfterTake, takeOf}
+use Rattle.looking.specs.declared.Event.{Event}
+use Rattle.looking.specs.declared.Verdict.the-variants.{Left}
 use Rattle.gateway_laws.specs.Classes.{Class, classOf, quiet, opening, closing, refusing, accepting, storing, against, taking as gives}
 use Rattle.gateway_laws.proofs.Laws.{left-unchanged, refused-unchanged}
 use Rattle.gateway_laws.proofs.Takings.{taking-refused}

@@ -18,11 +18,11 @@ use Rattle.journal.specs.Storage.{grown}
 use Rattle.journal.specs.Removal.{AfterTaking, shrunk, takeAt, takeOldest, takeFrom, takeOf}
 use Rattle.journal.specs.declared.Ledger.{Ledger}
 use Rattle.line.specs.declared.Line.{Line}
-use Rattle.gateway.specs.Settled.{ledgerAfter}
-use Rattle.gateway.specs.Verdicts.{verdictOf}
-use Rattle.gateway.specs.Events.{Memory, stepOf}
-use Rattle.gateway.specs.declared.Event.{Event}
-use Rattle.gateway.specs.declared.Verdict.{Verdict}
+use Rattle.receiving.specs.Settled.{ledgerAfter}
+use Rattle.receiving.specs.Verdicts.{verdictOf}
+use Rattle.receiving.specs.Steps.{Memory, stepOf}
+use Rattle.looking.specs.declared.Event.{Event}
+use Rattle.looking.specs.declared.Verdict.{Verdict}
 use Rattle.gateway_laws.proofs.Rows.{store-rows}
 
 -- one line's used count and serial are set, and nothing of another line

@@ -6,7 +6,7 @@ use mathlib.Core.List.{List, [], _∷_}
 use lib.ListN.{replicate}
 use Rattle.memory.specs.Sizes.{lines}
 use Rattle.journal.specs.Removal.{takeOf as takeEntry}
-use Rattle.gateway.specs.Events.{Memory, memoryOf}
+use Rattle.receiving.specs.Steps.{Memory, memoryOf}
 use Rattle.serial.specs.Serial.{event, taking}
 use Rattle.promises.specs.Machine.{State, Told, GatewayItem, onLine}
 use Rattle.ngachodui.specs.Plain.{ledgerOf, toldTaking, freshNumbers}

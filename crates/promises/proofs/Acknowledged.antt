@@ -10,8 +10,8 @@ use Rattle.memory.specs.Sizes.{lines}
 use Rattle.memory.proofs.Tests.{clash}
 use Rattle.line.specs.Paper.{ack, replyOf}
 use Rattle.line.specs.declared.Reply.the-variants.{Byte}
-use Rattle.gateway.specs.Events.{Memory}
-use Rattle.gateway.specs.declared.Kind.{Kind}
+use Rattle.receiving.specs.Steps.{Memory}
+use Rattle.looking.specs.declared.Kind.{Kind}
 use Rattle.serial.specs.Serial.{final, Every}
 use Rattle.promises.specs.Machine.{State, GatewayItem, came, step, storeOf, May}
 use Rattle.promises.specs.Runs.{RightSizes, fresh, answered, replied, isAck, Completes}

@@ -17,8 +17,8 @@ use Rattle.journal_laws.specs.Runs.{Numbered, numbered, only, texts, waiting}
 use Rattle.journal_laws.proofs.Guarantees.{today-reaches, today-no-more}
 use Rattle.room.proofs.Totals.{raised-own, raised-other}
 use Rattle.journal.proofs.Wholes.{whole-facts}
-use Rattle.gateway.specs.Events.{Memory}
-use Rattle.gateway.specs.declared.Kind.{Kind}
+use Rattle.receiving.specs.Steps.{Memory}
+use Rattle.looking.specs.declared.Kind.{Kind}
 use Rattle.serial.specs.Serial.{final, Every}
 use Rattle.promises.specs.Machine.{State, GatewayItem, came, step, Sound, May}
 use Rattle.promises.specs.Runs.{RightSizes, fresh, answered, Completes, usedBy, usedWith, mostAlone}

@@ -21,17 +21,19 @@ use Rattle.line.specs.declared.Line.{Line}
 use Rattle.line.specs.declared.Answer.{Answer}
 use Rattle.line.specs.declared.Answer.the-variants.{NoMessage, NoRoom}
 use Rattle.line.proofs.Paper.{every-answer}
-use Rattle.gateway.specs.Views.{joinedText}
-use Rattle.gateway.specs.Looks.{lookOf}
-use Rattle.gateway.specs.Verdicts.{roomVerdict, decisionOf, decided, ownWork, answerOf}
-use Rattle.gateway.specs.declared.Kind.{Kind}
-use Rattle.gateway.specs.declared.Look.{Look}
-use Rattle.gateway.specs.declared.Look.the-variants.{Done, Decides}
-use Rattle.gateway.specs.declared.Verdict.{Verdict}
-use Rattle.gateway.specs.declared.Verdict.the-variants.{Stores, Against}
-use Rattle.gateway.proofs.Views.{own-parts}
-use Rattle.gateway.proofs.Cases.{Cases, every-look}
-use Rattle.gateway.proofs.Fits.{LookFits, look-fits, quiet-keeps}
+use Rattle.looking.specs.Views.{joinedText}
+use Rattle.looking.specs.Looks.{lookOf}
+use Rattle.receiving.specs.Verdicts.{roomVerdict, decisionOf, decided, ownWork}
+use Rattle.looking.specs.Answers.{answerOf}
+use Rattle.looking.specs.declared.Kind.{Kind}
+use Rattle.looking.specs.declared.Look.{Look}
+use Rattle.looking.specs.declared.Look.the-variants.{Done, Decides}
+use Rattle.looking.specs.declared.Verdict.{Verdict}
+use Rattle.looking.specs.declared.Verdict.the-variants.{Stores, Against}
+use Rattle.looking.proofs.Views.{own-parts}
+use Rattle.looking.proofs.Cases.{Cases, every-look}
+use Rattle.looking.proofs.Fits.{LookFits, look-fits}
+use Rattle.receiving.proofs.Fits.{quiet-keeps}
 use Rattle.gateway_laws.specs.Classes.{classOf}
 use Rattle.promises.specs.Machine.{State, Told, told, step, isDecision, decides, Parts, partsOf, storeOf, left, Sound, came}
 use Rattle.promises.specs.Runs.{answered, isAck, isFault, isObjection, offeredBy, hasSpace}

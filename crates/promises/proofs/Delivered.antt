@@ -29,9 +29,9 @@ use Rattle.line.specs.declared.Line.{Line}
 use Rattle.line.specs.declared.State.the-variants.{Waiting}
 use Rattle.line.specs.declared.Answer.the-variants.{Accepted}
 use Rattle.journal_laws.specs.Runs.{State as Store}
-use Rattle.gateway.specs.Looks.{endLook}
-use Rattle.gateway.specs.declared.Look.the-variants.{Done}
-use Rattle.gateway.specs.declared.Verdict.the-variants.{Accepts}
+use Rattle.looking.specs.Looks.{endLook}
+use Rattle.looking.specs.declared.Look.the-variants.{Done}
+use Rattle.looking.specs.declared.Verdict.the-variants.{Accepts}
 use Rattle.promises.specs.Machine.{told}
 use Rattle.promises.specs.Sending.{Usable}
 use Rattle.promises.proofs.Feeding.{feed, ended, unanswered, ready, own-text, last, sent}

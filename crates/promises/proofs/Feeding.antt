@@ -30,10 +30,10 @@ use Rattle.line.specs.declared.State.the-variants.{Waiting, Inside}
 use Rattle.line.specs.declared.Answer.the-variants.{Nothing}
 use Rattle.room.specs.Room.{todaysShares}
 use Rattle.journal_laws.specs.Runs.{State as Store}
-use Rattle.gateway.specs.Looks.{waitingLook, insideLook, byteLook, frameLook, endLook, lookOf}
-use Rattle.gateway.specs.Verdicts.{decided, ownWork}
-use Rattle.gateway.specs.declared.Kind.the-variants.{Byte}
-use Rattle.gateway.specs.declared.Look.{Look}
+use Rattle.looking.specs.Looks.{waitingLook, insideLook, byteLook, frameLook, endLook, lookOf}
+use Rattle.receiving.specs.Verdicts.{decided, ownWork}
+use Rattle.looking.specs.declared.Kind.the-variants.{Byte}
+use Rattle.looking.specs.declared.Look.{Look}
 use Rattle.promises.specs.Machine.{Told, told, Parts, left, onEvent}
 use Rattle.promises.specs.Sending.{Usable}
 

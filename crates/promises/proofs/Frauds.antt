@@ -23,8 +23,8 @@ use Rattle.journal.specs.declared.Ledger.{Ledger}
 use Rattle.line.specs.Paper.{enq, valuesOf, replyOf}
 use Rattle.line.specs.declared.Answer.{Answer}
 use Rattle.line.specs.declared.Answer.the-variants.{Nothing, Taken}
-use Rattle.gateway.specs.Events.{Memory, memoryOf}
-use Rattle.gateway.specs.declared.Kind.the-variants.{Byte}
+use Rattle.receiving.specs.Steps.{Memory, memoryOf}
+use Rattle.looking.specs.declared.Kind.the-variants.{Byte}
 use Rattle.serial.specs.Serial.{taking, final}
 use Rattle.promises.specs.Machine.{State, Told, told, GatewayItem, came, step}
 use Rattle.promises.specs.Runs.{RightSizes, fresh, replied, isAck}

@@ -27,8 +27,9 @@ use Rattle.journal.proofs.Wholes.{whole-facts}
 use Rattle.line.specs.Paper.{valuesOf}
 use Rattle.line.specs.declared.Answer.{Answer}
 use Rattle.line.specs.declared.Answer.the-variants.{Taken as Answer8}
-use Rattle.gateway.specs.Events.{Memory, tookAnswer, takeOf}
-use Rattle.gateway.specs.declared.Kind.{Kind}
+use Rattle.receiving.specs.Steps.{Memory}
+use Rattle.gateway.specs.Events.{tookAnswer, takeOf}
+use Rattle.looking.specs.declared.Kind.{Kind}
 use Rattle.serial.specs.Serial.{taking, final, Every}
 use Rattle.promises.specs.Machine.{State, GatewayItem, came, step, Sound, May}
 use Rattle.promises.specs.Runs.{RightSizes, fresh, answered, NoSpace, Larger, usedBy}

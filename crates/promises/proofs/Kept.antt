@@ -22,9 +22,10 @@ use Rattle.journal_laws.proofs.Guarantees.{fresh-today}
 use Rattle.journal_laws.proofs.Keeps.{store-held}
 use Rattle.line.specs.Line.{withinLimits, freshLine}
 use Rattle.line.proofs.Limits.{within-facts, within-of, fresh-within}
-use Rattle.gateway.specs.Settled.{lineAfter}
-use Rattle.gateway.specs.Events.{Memory, memoryOf, settle, lineAt, noRecord, AfterEvent, putBack, takeOf}
-use Rattle.gateway.specs.declared.Kind.{Kind}
+use Rattle.receiving.specs.Settled.{lineAfter}
+use Rattle.receiving.specs.Steps.{Memory, memoryOf, settle}
+use Rattle.gateway.specs.Events.{lineAt, noRecord, AfterEvent, putBack, takeOf}
+use Rattle.looking.specs.declared.Kind.{Kind}
 use Rattle.gateway_laws.proofs.Laws.{line-within}
 use Rattle.gateway_laws.proofs.Others.{texts-length, frames-length}
 use Rattle.serial.specs.Serial.{event, taking}

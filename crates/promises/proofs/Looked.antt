@@ -15,9 +15,9 @@ use Rattle.faults.specs.Faults.{isMessage}
 use Rattle.records.specs.Records.{records, none, onto, endsWithCr}
 use Rattle.faults.proofs.Messages.{message-ends, message-decided}
 use Rattle.cutting.specs.Pieces.{endAfter}
-use Rattle.gateway.specs.Looks.{endLook}
-use Rattle.gateway.specs.declared.Look.the-variants.{Done, Decides}
-use Rattle.gateway.specs.declared.Verdict.the-variants.{Accepts}
+use Rattle.looking.specs.Looks.{endLook}
+use Rattle.looking.specs.declared.Look.the-variants.{Done, Decides}
+use Rattle.looking.specs.declared.Verdict.the-variants.{Accepts}
 use Rattle.promises.proofs.Fronts.{front-decided}
 
 -- the last byte of t stands last in x ++ t

@@ -23,8 +23,9 @@ use Rattle.journal.specs.declared.Took.the-variants.{Taken, NothingWaiting, Buf
 use Rattle.journal.specs.declared.Verdict.the-variants.{Fits}
 use Rattle.journal_laws.proofs.Cases.{store-fits}
 use Rattle.journal_laws.proofs.Queue.{fresh-runs}
-use Rattle.gateway.specs.Events.{Memory, tookAnswer, takeOf}
-use Rattle.gateway.specs.declared.Kind.{Kind}
+use Rattle.receiving.specs.Steps.{Memory}
+use Rattle.gateway.specs.Events.{tookAnswer, takeOf}
+use Rattle.looking.specs.declared.Kind.{Kind}
 use Rattle.serial.specs.Serial.{event, taking, final, Every}
 use Rattle.promises.specs.Machine.{State, told, GatewayItem, came, step, storeOf, Sound, May}
 use Rattle.promises.specs.Runs.{RightSizes, fresh, answered, hasSpace}

@@ -21,8 +21,9 @@ use Rattle.journal.specs.declared.Took.the-variants.{Taken, NothingWaiting, Buf
 use Rattle.journal_laws.proofs.Cases.{Gives, Keeps, take-cases}
 use Rattle.room.proofs.Totals.{claims-own-share}
 use Rattle.line.specs.Paper.{numberOf}
-use Rattle.gateway.specs.Events.{Memory, tookAnswer, takeOf}
-use Rattle.gateway.specs.declared.Kind.{Kind}
+use Rattle.receiving.specs.Steps.{Memory}
+use Rattle.gateway.specs.Events.{tookAnswer, takeOf}
+use Rattle.looking.specs.declared.Kind.{Kind}
 use Rattle.serial.specs.Serial.{event, taking, annotate, final, Every}
 use Rattle.promises.specs.Machine.{State, GatewayItem, came, step, Sound, May}
 use Rattle.promises.specs.Runs.{RightSizes, fresh, answered, isFault, Overfull, NoSpace, Space}

@@ -10,12 +10,14 @@ use lib.Seq.{getD-set-other, getD-set-same}
 use Rattle.memory.specs.Sizes.{lines, journalSize, unfinishedSize, framesSize}
 use Rattle.room.specs.Room.{todaysShares}
 use Rattle.line.specs.declared.Line.{Line}
-use Rattle.gateway.specs.Views.{framesOf, textsOf, Ready}
-use Rattle.gateway.specs.Verdicts.{ownWork, verdictOf}
-use Rattle.gateway.specs.Settled.{lineAfter, Fitting}
-use Rattle.gateway.specs.Events.{settle, stepOf, lineAt, noRecord, AfterEvent, putBack, eventOf}
-use Rattle.gateway.specs.declared.Kind.{Kind}
-use Rattle.gateway.specs.declared.Verdict.{Verdict}
+use Rattle.looking.specs.Views.{framesOf, textsOf, Ready}
+use Rattle.receiving.specs.Verdicts.{ownWork, verdictOf}
+use Rattle.receiving.specs.Settled.{lineAfter}
+use Rattle.looking.specs.Fitting.{Fitting}
+use Rattle.receiving.specs.Steps.{settle, stepOf}
+use Rattle.gateway.specs.Events.{lineAt, noRecord, AfterEvent, putBack, eventOf}
+use Rattle.looking.specs.declared.Kind.{Kind}
+use Rattle.looking.specs.declared.Verdict.{Verdict}
 use Rattle.gateway_laws.proofs.Found.{work-fits}
 use Rattle.gateway_laws.proofs.Others.{texts-other, frames-other}
 use Rattle.gateway_laws.proofs.View.{texts-own, frames-own}

@@ -8,8 +8,9 @@ use lib.Seq.{ext-getD}
 use Rattle.memory.specs.Sizes.{lines, messageLimit, framePart}
 use Rattle.memory.proofs.Lines.{equal-parts}
 use Rattle.memory.proofs.Tests.{never-both}
-use Rattle.gateway.specs.Events.{Memory, noRecord, takeOf}
-use Rattle.gateway.specs.declared.Kind.{Kind}
+use Rattle.receiving.specs.Steps.{Memory}
+use Rattle.gateway.specs.Events.{noRecord, takeOf}
+use Rattle.looking.specs.declared.Kind.{Kind}
 use Rattle.serial.specs.Serial.{taking, annotate, serialize, count, Every, OrderOf, Lined, NothingElse, ToldAlike}
 use Rattle.serial.specs.Kept.{Rearranged}
 use Rattle.serial.proofs.Demand as serial

@@ -26,13 +26,13 @@ use Rattle.room.specs.Room.{todaysShares, fits, raised}
 use Rattle.journal_laws.specs.Held.{Held}
 use Rattle.journal_laws.specs.Runs.{State as Store}
 use Rattle.journal_laws.proofs.Cases.{held-judged}
-use Rattle.gateway.specs.Views.{Own}
+use Rattle.looking.specs.Views.{Own}
 use Rattle.gateway.specs.Events.{lineAt}
-use Rattle.gateway.specs.Looks.{byteLook, neutralLook, waitingLook}
-use Rattle.gateway.specs.Verdicts.{ownWork}
-use Rattle.gateway.specs.declared.Kind.{Kind}
-use Rattle.gateway.specs.declared.Kind.the-variants.{Byte}
-use Rattle.gateway.proofs.Views.{own-parts}
+use Rattle.looking.specs.Looks.{byteLook, neutralLook, waitingLook}
+use Rattle.receiving.specs.Verdicts.{ownWork}
+use Rattle.looking.specs.declared.Kind.{Kind}
+use Rattle.looking.specs.declared.Kind.the-variants.{Byte}
+use Rattle.looking.proofs.Views.{own-parts}
 use Rattle.serial.specs.Serial.{final, Every}
 use Rattle.promises.specs.Machine.{State, Told, told, step, Parts, partsOf, storeOf, onEvent, Sound, May, came}
 use Rattle.promises.specs.Sending.{bytesOn, answersTo, replies, sending, sendingReplies, piecesOfAll, transfer, repliesToAll, transferReplies, newEntries, Messages, sizesOf, HasRoom, Intact, Delivers, Demand2, Usable}

@@ -27,13 +27,13 @@ use Rattle.room.specs.Room.{todaysShares}
 use Rattle.journal.specs.Verdicts.{judgeOf}
 use Rattle.journal_laws.specs.Runs.{State as Store}
 use Rattle.journal.specs.declared.Verdict.the-variants.{Fits}
-use Rattle.gateway.specs.Views.{joinedText}
-use Rattle.gateway.specs.Verdicts.{decisionOf, decided}
-use Rattle.gateway.specs.declared.Kind.the-variants.{Byte}
-use Rattle.gateway.specs.declared.Verdict.{Verdict}
-use Rattle.gateway.specs.declared.Verdict.the-variants.{Stores}
-use Rattle.gateway.specs.declared.Look.{Look}
-use Rattle.gateway.specs.declared.Look.the-variants.{Decides}
+use Rattle.looking.specs.Views.{joinedText}
+use Rattle.receiving.specs.Verdicts.{decisionOf, decided}
+use Rattle.looking.specs.declared.Kind.the-variants.{Byte}
+use Rattle.looking.specs.declared.Verdict.{Verdict}
+use Rattle.looking.specs.declared.Verdict.the-variants.{Stores}
+use Rattle.looking.specs.declared.Look.{Look}
+use Rattle.looking.specs.declared.Look.the-variants.{Decides}
 use Rattle.promises.specs.Machine.{Told, told, Parts, left}
 use Rattle.promises.specs.Came.{storedIn}
 use Rattle.promises.specs.Sending.{lastAnswer, replies, Usable}

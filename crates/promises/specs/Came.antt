@@ -10,7 +10,7 @@ use Rattle.kinds.specs.Delimiters.{standard}
 use Rattle.faults.specs.Faults.{isMessage}
 use Rattle.journal.specs.Storage.{grown, appended}
 use Rattle.journal_laws.specs.Runs.{State as Store}
-use Rattle.gateway.specs.declared.Kind.{Kind}
+use Rattle.looking.specs.declared.Kind.{Kind}
 use Rattle.promises.specs.Machine.{State, Told, step, decides, partsOf, storeOf, onEvent, came}
 use Rattle.promises.specs.Runs.{answered, isFault, isObjection, offered, hasSpace}
 

@@ -15,14 +15,16 @@ use Rattle.journal_laws.specs.Runs.{State as Store}
 use Rattle.line.specs.Line.{withinLimits}
 use Rattle.line.specs.declared.Line.{Line}
 use Rattle.line.specs.declared.Answer.{Answer}
-use Rattle.gateway.specs.Views.{framesOf, textsOf, joinedText}
-use Rattle.gateway.specs.Verdicts.{ownWork, answerOf}
-use Rattle.gateway.specs.Settled.{lineAfter, ledgerAfter, journalAfter}
-use Rattle.gateway.specs.Events.{Memory, memoryOf, AfterEvent, AfterTake, lineAt, eventOf, takeOf, tookAnswer}
-use Rattle.gateway.specs.declared.Event.{Event}
+use Rattle.looking.specs.Views.{framesOf, textsOf, joinedText}
+use Rattle.receiving.specs.Verdicts.{ownWork}
+use Rattle.looking.specs.Answers.{answerOf}
+use Rattle.receiving.specs.Settled.{lineAfter, ledgerAfter, journalAfter}
+use Rattle.receiving.specs.Steps.{Memory, memoryOf}
+use Rattle.gateway.specs.Events.{AfterEvent, AfterTake, lineAt, eventOf, takeOf, tookAnswer}
+use Rattle.looking.specs.declared.Event.{Event}
 use Rattle.gateway.specs.declared.Gateway.{Gateway}
-use Rattle.gateway.specs.declared.Kind.{Kind}
-use Rattle.gateway.specs.declared.Verdict.{Verdict}
+use Rattle.looking.specs.declared.Kind.{Kind}
+use Rattle.looking.specs.declared.Verdict.{Verdict}
 use Rattle.gateway_laws.specs.Classes.{Class, classOf, quiet, opening, closing, refusing, accepting, storing, against, taking as gives}
 use Rattle.gateway_laws.specs.Own.{ownFrames, ownTexts}
 use Rattle.serial.specs.Serial.{Item, event, taking}

@@ -13,8 +13,8 @@ use Rattle.room.specs.Room.{todaysShares}
 use Rattle.journal_laws.specs.Held.{Held}
 use Rattle.journal_laws.specs.Runs.{Numbered, numbered, waiting}
 use Rattle.line.specs.Paper.{valuesOf}
-use Rattle.gateway.specs.Events.{Memory}
-use Rattle.gateway.specs.declared.Kind.{Kind}
+use Rattle.receiving.specs.Steps.{Memory}
+use Rattle.looking.specs.declared.Kind.{Kind}
 use Rattle.serial.specs.Serial.{event, taking, final}
 use Rattle.promises.specs.Machine.{State, Told, GatewayItem, came, step}
 use Rattle.promises.specs.Runs.{fresh, answered, offered}

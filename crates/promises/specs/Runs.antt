@@ -14,12 +14,13 @@ use Rattle.room.specs.Room.{share, todaysShares, fits, raised}
 use Rattle.line.specs.Paper.{ack, numberOf, replyOf}
 use Rattle.line.specs.declared.Reply.{Reply}
 use Rattle.line.specs.declared.Reply.the-variants.{Silence, Byte}
-use Rattle.gateway.specs.Views.{framesOf, textsOf, joinedText}
-use Rattle.gateway.specs.Looks.{lookOf}
-use Rattle.gateway.specs.Events.{Memory, lineAt, freshGateway}
-use Rattle.gateway.specs.declared.Kind.{Kind}
-use Rattle.gateway.specs.declared.Look.{Look}
-use Rattle.gateway.specs.declared.Look.the-variants.{Done, Decides}
+use Rattle.looking.specs.Views.{framesOf, textsOf, joinedText}
+use Rattle.looking.specs.Looks.{lookOf}
+use Rattle.receiving.specs.Steps.{Memory}
+use Rattle.gateway.specs.Events.{lineAt, freshGateway}
+use Rattle.looking.specs.declared.Kind.{Kind}
+use Rattle.looking.specs.declared.Look.{Look}
+use Rattle.looking.specs.declared.Look.the-variants.{Done, Decides}
 use Rattle.promises.specs.Machine.{State, Told}
 
 -- memory of the right sizes, whatever it holds

@@ -26,7 +26,7 @@ use Rattle.journal.specs.Storage.{newEntry, grown}
 use Rattle.journal_laws.specs.Held.{Held}
 use Rattle.journal.specs.declared.Ledger.{Ledger}
 use Rattle.gateway.specs.Events.{lineAt}
-use Rattle.gateway.specs.declared.Kind.the-variants.{Byte}
+use Rattle.looking.specs.declared.Kind.the-variants.{Byte}
 use Rattle.serial.specs.Serial.{taking, annotate, final, Every}
 use Rattle.promises.specs.Machine.{State, Told, told, GatewayItem, came, step, partsOf}
 

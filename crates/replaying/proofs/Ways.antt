@@ -20,8 +20,8 @@ use Rattle.listing.specs.declared.Written.{Written}
 use Rattle.listing.specs.declared.Written.the-variants.{To, NoRoom}
 use Rattle.listing.proofs.Columns.{length-row}
 use Rattle.decimal.proofs.Digits.{most-digits, twenty}
-use Rattle.gateway.specs.declared.Event.{Event as GatewayEvent}
-use Rattle.gateway.specs.declared.Kind.{Kind}
+use Rattle.looking.specs.declared.Event.{Event as GatewayEvent}
+use Rattle.looking.specs.declared.Kind.{Kind}
 use Rattle.ngachodui.specs.Calls.{Calling, Taken}
 use Rattle.ngachodui.specs.declared.Answered.{Answered}
 use Rattle.replaying.specs.Lines.{nextOf}

@@ -4,8 +4,8 @@ use Prim.Native.Nat.{ℕ}
 use mathlib.Core.List.{List, _++_}
 use lib.ListN.{take, drop}
 use Rattle.journal.specs.Removal.{takeOf}
-use Rattle.gateway.specs.Events.{memoryOf}
-use Rattle.gateway.specs.declared.Event.{Event}
+use Rattle.receiving.specs.Steps.{memoryOf}
+use Rattle.looking.specs.declared.Event.{Event}
 use Rattle.ngachodui.specs.Plain.{ledgerOf, toldTaking}
 use Rattle.ngachodui.specs.Calls.{callOf, usedAfter}
 use Rattle.ngachodui.specs.declared.Answered.{Answered}

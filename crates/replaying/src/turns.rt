@@ -9,10 +9,10 @@ use super::Next;
 use super::Stop;
 use super::Turn;
 use super::lines;
-use gateway::Event;
-use gateway::Kind;
 use listing::Item;
 use listing::Written;
+use looking::Event;
+use looking::Kind;
 use ngachodui::Answered;
 
 // The line that starts at `at`, as event `number`, and its row behind `put` bytes of the listing.

@@ -6,8 +6,8 @@ use mathlib.Core.Path.{sym, _∙_}
 use denote.Ref.{now}
 use lib.ListN.{length}
 use borrow.Author.Tests.{not-true, not-false}
-use Rattle.gateway.specs.declared.Kind.the-variants.{Byte}
-use Rattle.gateway.proofs.Steps.{lengths-facts}
+use Rattle.looking.specs.declared.Kind.the-variants.{Byte}
+use Rattle.looking.proofs.Alone.{lengths-facts}
 use Rattle.ngachodui.proofs.Numbers.{numbers-facts}
 use Rattle.ngachodui.proofs.Ways.{no-line, wrong-size, quick-within, by-quick}
 use Rattle.ngachodui.proofs.ngachodui_byte.Statement.{statement}

@@ -5,7 +5,7 @@ use native.Mathlib.Omega.{arith}
 use mathlib.Core.Path.{sym, _∙_}
 use denote.Ref.{now}
 use borrow.Author.Tests.{not-true, not-false}
-use Rattle.gateway.specs.declared.Kind.the-variants.{Seconds}
+use Rattle.looking.specs.declared.Kind.the-variants.{Seconds}
 use Rattle.ngachodui.proofs.Ways.{no-line, wrong-size}
 use Rattle.ngachodui.proofs.ngachodui_seconds.Statement.{statement}
 use Rattle.ngachodui.proofs.ngachodui_seconds.Tie as tie

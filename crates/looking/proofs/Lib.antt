@@ -1,0 +1,6 @@
+pub mod Joined
+pub mod Views
+pub mod Looks
+pub mod Cases
+pub mod Fits
+pub mod Alone

@@ -1,0 +1,38 @@
+-- What acting asks of a verdict: its text lies in the frame and has room, and its counts stay within the limits.
+-- Assumes nothing.
+use Prim.Native.Nat.{ℕ, _+_, _≤_, _<_}
+use mathlib.Core.Bool.{Bool, true, false}
+use Rattle.memory.specs.Sizes.{messageLimit}
+use Rattle.line.specs.Line.{mostCollected, mostSeconds}
+use Rattle.line.specs.declared.Line.{Line}
+use Rattle.looking.specs.declared.Verdict.{Verdict}
+use Rattle.looking.specs.declared.Verdict.the-variants.{Left, Opens, Closes, Begins, Counts, Collects, Refuses, Accepts, Stores, Against}
+
+-- the n bytes of a frame's text lie in what is collected of it, and fit behind the joined text
+abbrev pub TextFits : Line → ℕ → Type 0
+TextFits l n = (n + 5 ≤ l .collected) × (l .joined + n ≤ messageLimit)
+
+abbrev pub Fitting : Verdict → Line → Type 0
+Fitting (Left a) l = Unit {0}
+Fitting Opens l = Unit {0}
+Fitting (Closes a) l = Unit {0}
+Fitting Begins l = Unit {0}
+Fitting (Counts n) l = n ≤ mostSeconds
+Fitting Collects l = l .collected < mostCollected
+Fitting (Refuses a) l = Unit {0}
+Fitting (Accepts n) l = TextFits l n
+Fitting (Stores n) l = TextFits l n
+Fitting (Against a n) l = TextFits l n
+
+-- whether its row writes into the lent memory
+abbrev pub writes : Verdict → Bool
+writes (Left a) = false
+writes Opens = false
+writes (Closes a) = false
+writes Begins = false
+writes (Counts n) = false
+writes Collects = true
+writes (Refuses a) = true
+writes (Accepts n) = true
+writes (Stores n) = true
+writes (Against a n) = true

@@ -1,0 +1,5 @@
+pub mod Views
+pub mod Lent
+pub mod Looks
+pub mod Answers
+pub mod Fitting

@@ -1,0 +1,97 @@
+// The frame that a byte ends: its shape, its turn, and the text that the line would have.
+ghost use mathlib.Core.Path.{_≡_};
+ghost use mathlib.Core.List.{_++_};
+ghost use Prim.Native.Nat.{_+_, _≤_};
+ghost use Rattle.records.specs.Records.{endsWithCr};
+ghost use Rattle.line.specs.Turn.{turnOf};
+ghost use Rattle.looking.specs.Views.{Ready, framesOf, textsOf, joinedText};
+ghost use Rattle.looking.specs.Looks.{frameLook, turnLook, endLook};
+use super::Look;
+use super::Verdict;
+use characters::CR;
+use characters::LF;
+use characters::STX;
+use frame::End;
+use frame::Shape;
+use line::Answer;
+use line::Line;
+use line::Turn;
+
+// Its shape, then its turn.
+pub fn look_frame(line: Line, i: usize, b: u8, unfinished: &[u8], frames: &[u8]) -> Look
+    requires { ⌜ Ready line i (now unfinished) (now frames) ⌝ }
+    ensures { λ r. ⌜ r ≡ frameLook line b (textsOf i (now (unfinished .entry))) (framesOf i (now (frames .entry))) ⌝ }
+{
+    let start = i * memory::FRAME_PART;
+    let end = start + line.collected as usize;
+    match frame::shape_of(memory::FRAME_LIMIT, &frames[start..end], b) {
+        Shape::Unended => Look::Done(Verdict::Refuses(Answer::Unended)),
+        Shape::Torn => Look::Done(Verdict::Refuses(Answer::Torn)),
+        Shape::WrongCheck => Look::Done(Verdict::Refuses(Answer::WrongCheck)),
+        Shape::BadText => Look::Done(Verdict::Refuses(Answer::BadText)),
+        Shape::BadNumber => Look::Done(Verdict::Refuses(Answer::BadNumber)),
+        Shape::Whole(number, end, n) => look_turn(line, i, number, end, n, unfinished, frames),
+    }
+}
+
+// A whole frame: how it stands to the line, then what the line's text would be.
+fn look_turn(
+    line: Line,
+    i: usize,
+    number: u8,
+    end: End,
+    n: usize,
+    unfinished: &[u8],
+    frames: &[u8],
+) -> Look
+    requires { ⌜ Ready line i (now unfinished) (now frames) × (n + 5 ≤ line .collected) ⌝ }
+    ensures { λ r. ⌜ r ≡ turnLook (turnOf line number n) end n (joinedText line n (textsOf i (now (unfinished .entry))) (framesOf i (now (frames .entry)))) ⌝ }
+{
+    match line.in_turn(number, n) {
+        Turn::Refused => Look::Done(Verdict::Refuses(Answer::Refusing)),
+        Turn::Again => Look::Done(Verdict::Refuses(Answer::Repeated)),
+        Turn::Missed => Look::Done(Verdict::Refuses(Answer::OutOfTurn)),
+        Turn::Overlong => Look::Done(Verdict::Refuses(Answer::TooLong)),
+        Turn::InTurn => {
+            let text = i * memory::MESSAGE_LIMIT;
+            let text_end = text + line.joined as usize;
+            let start = i * memory::FRAME_PART + 1;
+            let stop = start + n;
+            look_end(end, n, &unfinished[text..text_end], &frames[start..stop])
+        }
+    }
+}
+
+// A frame in turn, by its end and the text in its two pieces.
+fn look_end(end: End, n: usize, old: &[u8], new: &[u8]) -> Look
+    ensures { λ r. ⌜ r ≡ endLook end n (now (old .entry) ++ now (new .entry)) ⌝ }
+{
+    match end {
+        End::Etb => Look::Done(Verdict::Accepts(n)),
+        End::Etx => look_text(n, old, new),
+    }
+}
+
+fn look_text(n: usize, old: &[u8], new: &[u8]) -> Look
+    ensures { λ r. ⌜ r ≡ endLook End.Etx n (now (old .entry) ++ now (new .entry)) ⌝ }
+{
+    if !ends_with_cr(old, new) {
+        return Look::Done(Verdict::Refuses(Answer::NoCr));
+    }
+    if records::joined_ends_with_l(old, new) {
+        return Look::Decides(n);
+    }
+    Look::Done(Verdict::Accepts(n))
+}
+
+fn ends_with_cr(old: &[u8], new: &[u8]) -> bool
+    ensures { λ r. ⌜ r ≡ endsWithCr (now (old .entry) ++ now (new .entry)) ⌝ }
+{
+    if 0 < new.len() {
+        return new[new.len() - 1] == CR;
+    }
+    if 0 < old.len() {
+        return old[old.len() - 1] == CR;
+    }
+    false
+}

@@ -1,0 +1,93 @@
+// What an event comes to, read off its own line alone: it looks, and changes nothing.
+ghost use mathlib.Core.Path.{_≡_};
+ghost use Rattle.looking.specs.Lent.{rightLengths};
+ghost use Rattle.looking.specs.Looks.{lookAlone};
+ghost use Rattle.looking.specs.Answers.{answerOf};
+use line::Answer;
+use line::Line;
+
+mod judging; // judging.rt: the frame that a byte ends
+mod states; // states.rt: a byte or seconds, by the line's state
+
+// A byte that has come, or seconds that have passed.
+pub enum Kind {
+    Byte(u8),
+    Seconds(u8),
+}
+
+// What happens on a line.
+pub struct Event {
+    pub line: u8,
+    pub kind: Kind,
+}
+
+// What an event comes to: one row of "What is left" for each. The numbers are lengths of a frame's text.
+pub enum Verdict {
+    Left(Answer),
+    Opens,
+    Closes(Answer),
+    Begins,
+    Counts(u8),
+    Collects,
+    Refuses(Answer),
+    Accepts(usize),
+    Stores(usize),
+    Against(Answer, usize),
+}
+
+// What the line alone tells of an event: its verdict, or that a message is complete.
+pub enum Look {
+    Done(Verdict),
+    Decides(usize),
+}
+
+impl Verdict {
+    // The answer that a verdict gives.
+    pub fn answer(self) -> Answer
+        ensures { λ r. ⌜ r ≡ answerOf self ⌝ }
+    {
+        match self {
+            Verdict::Left(a) => a,
+            Verdict::Opens => Answer::Opened,
+            Verdict::Closes(a) => a,
+            Verdict::Begins => Answer::Nothing,
+            Verdict::Counts(_) => Answer::Nothing,
+            Verdict::Collects => Answer::Nothing,
+            Verdict::Refuses(a) => a,
+            Verdict::Accepts(_) => Answer::Accepted,
+            Verdict::Stores(_) => Answer::Stored,
+            Verdict::Against(a, _) => a,
+        }
+    }
+}
+
+// An event on the line whose record this is: 40, 41, 42, then its work. Of the journal only its length is asked.
+pub fn look_alone(line: Line, e: Event, journal: usize, unfinished: &[u8], frames: &[u8]) -> Look
+    ensures { λ r. ⌜ r ≡ lookAlone line e journal (now (unfinished .entry)) (now (frames .entry)) ⌝ }
+{
+    let i = e.line as usize;
+    if memory::LINES <= i {
+        return Look::Done(Verdict::Left(Answer::NoLine));
+    }
+    if !are_right(journal, unfinished.len(), frames.len()) {
+        return Look::Done(Verdict::Left(Answer::WrongSize));
+    }
+    if !line.is_within_limits() {
+        return Look::Done(Verdict::Left(Answer::BeyondLimits));
+    }
+    let kind = e.kind;
+    states::look(line, i, kind, unfinished, frames)
+}
+
+// Whether the three memories have their sizes.
+pub fn are_right(journal: usize, unfinished: usize, frames: usize) -> bool
+    ensures { λ r. ⌜ r ≡ rightLengths journal unfinished frames ⌝ }
+{
+    if journal != memory::JOURNAL_SIZE {
+        return false;
+    }
+    if unfinished != memory::UNFINISHED_SIZE {
+        return false;
+    }
+    frames == memory::FRAMES_SIZE
+}

@@ -1,0 +1,55 @@
+-- What deciding a complete text comes to, by the journal's answer.
+-- Assumes nothing.
+use mathlib.Core.Path.{_≡_, refl, sym, ap, _∙_}
+use mathlib.Core.Bool.{true, false}
+use mathlib.Core.List.{List}
+use Prim.Native.Nat.{ℕ}
+use lib.ListN.{length}
+use Rattle.kinds.specs.Delimiters.{standard}
+use Rattle.faults.specs.Faults.{isMessage}
+use Rattle.room.specs.Room.{todaysShares}
+use Rattle.journal.specs.Verdicts.{judgeOf}
+use Rattle.journal.specs.Storage.{storeBy, storeOf, Stored}
+use Rattle.journal.specs.declared.Ledger.{Ledger}
+use Rattle.journal.specs.declared.Storing.{Storing}
+use Rattle.journal.specs.declared.Verdict.{Verdict as Judgement}
+use Rattle.journal.specs.declared.Verdict.the-variants.{Fits, NoRoom as Full, Broken as Damaged, NoLine as Nowhere, OtherSize, NoText}
+use Rattle.line.specs.declared.Answer.the-variants.{NoMessage}
+use Rattle.receiving.specs.Verdicts.{roomVerdict, decisionOf}
+use Rattle.receiving.specs.Settled.{ledgerAfter, journalAfter}
+use Rattle.receiving.specs.Decided.{Decision}
+use Rattle.looking.specs.declared.Verdict.{Verdict}
+use Rattle.looking.specs.declared.Verdict.the-variants.{Against}
+
+-- what the journal's storing leaves is the row of the verdict that its answer comes to
+pub room-row : (q : Judgement) (d : Ledger) (i n : ℕ) (text j : List ℕ)
+    → (storeBy q d i text j .storing .answer ≡ q)
+    × (storeBy q d i text j .storing .ledger ≡ ledgerAfter (roomVerdict q n) d i (λ n. text))
+    × (storeBy q d i text j .journal ≡ journalAfter (roomVerdict q n) d i (λ n. text) j)
+room-row Fits d i n text j = (refl, refl, refl)
+room-row Full d i n text j = (refl, refl, refl)
+room-row Damaged d i n text j = (refl, refl, refl)
+room-row Nowhere d i n text j = (refl, refl, refl)
+room-row OtherSize d i n text j = (refl, refl, refl)
+room-row NoText d i n text j = (refl, refl, refl)
+
+module _ (d : Ledger) (i n : ℕ) (text j : List ℕ) where
+  pub no-message : isMessage standard text ≡ false → Decision d i n text j (record { verdict = Against NoMessage n; ledger = d }) j
+  unfolding decisionOf
+  no-message e = record { verdict = rw e; ledger = rw e; journal = rw e }
+
+  is-room : isMessage standard text ≡ true → decisionOf todaysShares d i n text j ≡ roomVerdict (judgeOf d todaysShares i (length text) j) n
+  unfolding decisionOf
+  is-room e = rw e
+
+  pub by-store : (s : Storing) (v : Verdict) (j′ : List ℕ) → isMessage standard text ≡ true → Stored d todaysShares i text j s j′ → v ≡ roomVerdict (s .answer) n
+      → Decision d i n text j (record { verdict = v; ledger = s .ledger }) j′
+  unfolding storeOf
+  by-store s v j′ e st w =
+      let q = judgeOf d todaysShares i (length text) j in
+      let (answer, ledger, journal) = room-row q d i n text j in
+      record {
+        verdict = w ∙ ap (λ (x : Storing). roomVerdict (x .answer) n) (st .result) ∙ ap (λ (x : Judgement). roomVerdict x n) answer ∙ sym (is-room e);
+        ledger = ap (λ (x : Storing). x .ledger) (st .result) ∙ ledger ∙ ap (λ (x : Verdict). ledgerAfter x d i (λ n. text)) (sym (is-room e));
+        journal = st .after ∙ journal ∙ ap (λ (x : Verdict). journalAfter x d i (λ n. text) j) (sym (is-room e));
+      }

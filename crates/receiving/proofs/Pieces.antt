@@ -1,0 +1,69 @@
+-- The pieces of a line's text: the frame's text written behind the joined one, and both joined in one place.
+-- Assumes nothing.
+use mathlib.Core.Path.{_≡_, sym, ap, _∙_}
+use mathlib.Core.Bool.{Bool}
+use mathlib.Core.List.{List, _++_}
+use Prim.Native.Nat.{ℕ, _+_, _-_, _≤_}
+use native.Mathlib.Nat.{zero-add}
+use native.Mathlib.Omega.{arith}
+use lib.ListN.{length, take, drop, length-append}
+use Rattle.memory.specs.Sizes.{messageLimit}
+use Rattle.memory.specs.Parts.{splice}
+use Rattle.memory.specs.Moves.{Copied}
+use Rattle.memory.proofs.Parts.{part-lent, part-start, part-splice, length-part, length-splice, splice-join}
+use Rattle.memory.proofs.Moves.{lent-back, copied-fits}
+use Rattle.line.specs.declared.Line.{Line}
+use Rattle.line.proofs.Limits.{within-facts}
+use Rattle.looking.specs.Views.{frameStart, textStart, framesOf, textsOf, frameText, unfinishedText, joinedText, Ready}
+use Rattle.looking.specs.Fitting.{TextFits}
+use Rattle.receiving.specs.Settled.{withText}
+use Rattle.looking.proofs.Views.{own-parts, lent-unfinished, lent-text}
+
+module _ (l : Line) (i n : ℕ) (u f : List ℕ) (ready : Ready l i u f) (fits : TextFits l n) where
+  pub length-text : length (frameText n (framesOf i f)) ≡ n
+  length-text = length-part (framesOf i f) 1 n (omega (arith, fits, own-parts l i u f ready, within-facts l (ready .within)))
+
+  pub length-old : length (unfinishedText l (textsOf i u)) ≡ l .joined
+  length-old = length-part (textsOf i u) 0 (l .joined) (omega (arith, own-parts l i u f ready, within-facts l (ready .within)))
+
+  room : textStart i + l .joined + length (frameText n (framesOf i f)) ≤ length u
+  room = omega (arith, ready, fits, length-text)
+
+  -- the part of the unfinished texts that was lent to the copier is back
+  pub text-written : (at : ℕ) (m b : List ℕ) (r : Bool) → at ≡ textStart i + l .joined → m ≡ take (length u - at) (drop at u)
+      → Copied m 0 (take (frameStart i + 1 + n - (frameStart i + 1)) (drop (frameStart i + 1) f)) r b
+      → take at u ++ (b ++ drop (length u - at) (drop at u)) ≡ withText l i n u f
+  text-written at m b r p e c =
+      let c₁ = rw (part-lent f (frameStart i + 1) n, lent-text l i u f ready n (fits .0)) at c in
+      let here : at + length (frameText n (framesOf i f)) ≤ length u = omega (arith, room, p) in
+      copied-fits u at (frameText n (framesOf i f)) (lent-back u at (frameText n (framesOf i f)) m b r here e c₁) here .1
+      ∙ ap (λ (k : ℕ). splice u k (frameText n (framesOf i f))) p
+
+-- two texts copied one behind the other into a place that holds both
+pub both-copied : (z old new x y : List ℕ) (q r : Bool) → length old + length new ≤ length z → Copied z 0 old q x → Copied x (length old) new r y
+    → (length y ≡ length z) × (take (length old + length new) y ≡ old ++ new)
+both-copied z old new x y q r h c d =
+    let first : x ≡ splice z 0 old = copied-fits z 0 old c (omega arith) .1 in
+    let long : length x ≡ length z = ap length first ∙ length-splice z 0 old (omega arith) in
+    let second : y ≡ splice x (length old) new = copied-fits x (length old) new d (omega arith) .1 in
+    let joined : y ≡ splice z 0 (old ++ new) =
+    second ∙ ap (λ (l : List ℕ). splice l (length old) new) first ∙ ap (λ (k : ℕ). splice (splice z 0 old) k new) (sym (zero-add (length old))) ∙ splice-join z 0 old new (omega arith) in
+    let fits : 0 + length (old ++ new) ≤ length z = rw length-append (omega arith) in (
+      ap length joined ∙ length-splice z 0 (old ++ new) fits,
+      rw (← length-append old new, joined, ← part-start (splice z 0 (old ++ new)) (length (old ++ new))) (part-splice z 0 (old ++ new) fits),
+    )
+
+-- the line's two pieces, lent and copied so
+module _ (l : Line) (i n : ℕ) (u f : List ℕ) (ready : Ready l i u f) (fits : TextFits l n) where
+  pub pieces-joined : (z x y : List ℕ) (q r : Bool) → length z ≡ messageLimit
+      → Copied z 0 (take (textStart i + l .joined - textStart i) (drop (textStart i) u)) q x
+      → Copied x (l .joined) (take (frameStart i + 1 + n - (frameStart i + 1)) (drop (frameStart i + 1) f)) r y
+      → (length y ≡ length z) × (take (l .joined + n) y ≡ joinedText l n (textsOf i u) (framesOf i f))
+  pieces-joined z x y q r h c d =
+      let old : length (unfinishedText l (textsOf i u)) ≡ l .joined = length-old l i n u f ready fits in
+      let new : length (frameText n (framesOf i f)) ≡ n = length-text l i n u f ready fits in
+      let c₁ = rw (part-lent u (textStart i) (l .joined), lent-unfinished l i u f ready) at c in
+      let d₁ = rw (part-lent f (frameStart i + 1) n, lent-text l i u f ready n (fits .0)) at d in
+      let d₂ : Copied x (length (unfinishedText l (textsOf i u))) (frameText n (framesOf i f)) r y = rw old d₁ in
+      let (long, both) = both-copied z (unfinishedText l (textsOf i u)) (frameText n (framesOf i f)) x y q r (omega arith) c₁ d₂ in
+      (long, ap (λ (k : ℕ). take (k + n) y) (sym old) ∙ ap (λ (k : ℕ). take (length (unfinishedText l (textsOf i u)) + k) y) (sym new) ∙ both)

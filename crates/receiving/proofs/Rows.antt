@@ -1,0 +1,22 @@
+-- A verdict is known by its case.
+-- Assumes nothing.
+use mathlib.Core.Path.{_≡_, sym, subst, ap, _∙_}
+use mathlib.Core.Bool.{true}
+use mathlib.Core.List.{List}
+use Prim.Native.Nat.{ℕ}
+use Rattle.line.specs.declared.Line.{Line}
+use Rattle.looking.specs.Views.{Ready}
+use Rattle.looking.specs.Fitting.{Fitting, writes}
+use Rattle.receiving.specs.Settled.{Settled}
+use Rattle.looking.specs.declared.Kind.{Kind}
+use Rattle.looking.specs.declared.Verdict.{Verdict}
+
+pub settled-as : {v w : Verdict} {k : Kind} {l : Line} {i : ℕ} {u f : List ℕ} {r : Line} {u′ f′ : List ℕ} → v ≡ w → Settled w k l i u f r u′ f′ → Settled v k l i u f r u′ f′
+settled-as {v} {w} {k} {l} {i} {u} {f} {r} {u′} {f′} e s = subst (λ (x : Verdict). Settled x k l i u f r u′ f′) (sym e) s
+
+pub fitting-as : {v w : Verdict} (l : Line) → v ≡ w → Fitting v l → Fitting w l
+fitting-as {v} {w} l e s = subst (λ (x : Verdict). Fitting x l) e s
+
+-- what acting asks, where the row of its case writes
+pub ready-as : {v w : Verdict} {l : Line} {i : ℕ} {u f : List ℕ} → v ≡ w → writes w ≡ true → Fitting v l × (writes v ≡ true → Ready l i u f) → Ready l i u f
+ready-as e t p = p .1 (ap writes e ∙ t)

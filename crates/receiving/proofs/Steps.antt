@@ -1,0 +1,208 @@
+-- What each way out of a step says, and of its two parts: the line alone, and the deciding.
+-- Assumes nothing.
+use mathlib.Core.Path.{_≡_, refl, sym, ap, subst, _∙_}
+use mathlib.Core.Bool.{Bool, true, false, cond, _&&_}
+use mathlib.Core.List.{List}
+use Prim.Native.Nat.{ℕ, _+_, _≤_, _<_}
+use native.Mathlib.Omega.{arith}
+use borrow.Author.Tests.{lt-ltb, le-ltb, le-leb, leb-true}
+use lib.ListN.{length}
+use lib.Dec.{ltb, leb}
+use Rattle.memory.specs.Sizes.{lines, messageLimit}
+use Rattle.memory.specs.Tests.{unless}
+use Rattle.memory.proofs.Tests.{and-left, and-right}
+use Rattle.kinds.specs.Delimiters.{standard}
+use Rattle.faults.specs.Faults.{isMessage}
+use Rattle.room.specs.Room.{todaysShares}
+use Rattle.journal.specs.Verdicts.{judgeOf}
+use Rattle.journal.specs.declared.Ledger.{Ledger}
+use Rattle.journal.specs.declared.Verdict.{Verdict as Judgement}
+use Rattle.journal.specs.declared.Verdict.the-variants.{Fits, NoRoom as Full, Broken as Damaged, NoLine as Nowhere, OtherSize, NoText}
+use Rattle.line.specs.Line.{withinLimits}
+use Rattle.line.specs.declared.Line.{Line}
+use Rattle.line.specs.declared.Answer.{Answer}
+use Rattle.line.specs.declared.Answer.the-variants.{NoMessage, NoLine, WrongSize, BeyondLimits}
+use Rattle.looking.specs.Views.{framesOf, textsOf, joinedText}
+use Rattle.looking.specs.Lent.{rightLengths, rightSizes}
+use Rattle.looking.specs.Looks.{lookOf, lookAlone}
+use Rattle.looking.specs.Answers.{answerOf}
+use Rattle.looking.specs.Fitting.{TextFits}
+use Rattle.receiving.specs.Verdicts.{roomVerdict, decisionOf, decided, ownWork, verdictOf}
+use Rattle.receiving.specs.Settled.{lineAfter, textsAfter, framesAfter, ledgerAfter, journalAfter, Settled}
+use Rattle.receiving.specs.Decided.{Decision}
+use Rattle.receiving.specs.Steps.{AfterStep, settle, stepOf, Leaves, memoryOf, Stepping}
+use Rattle.receiving.specs.Alone.{lineAlone, textsAlone, framesAlone, SteppingAlone, textFits, completed, completionOf, decideOf, Deciding, Completing}
+use Rattle.receiving.specs.declared.Alone.{Alone}
+use Rattle.receiving.specs.declared.deciding.Decided.{Decided}
+use Rattle.looking.specs.declared.Event.{Event}
+use Rattle.looking.specs.declared.Look.{Look}
+use Rattle.looking.specs.declared.Look.the-variants.{Done, Decides}
+use Rattle.receiving.specs.declared.Stepped.{Stepped}
+use Rattle.looking.specs.declared.Verdict.{Verdict}
+use Rattle.looking.specs.declared.Verdict.the-variants.{Left, Against}
+use Rattle.looking.proofs.Fits.{Quiet}
+use Rattle.looking.proofs.Alone.{Acts, alone-acts}
+use Rattle.receiving.proofs.Fits.{quiet-keeps}
+
+-- a decision stores the text of its own frame: what the line would have with another length does not matter
+room-text : (q : Judgement) (d : Ledger) (i n : ℕ) (text : ℕ → List ℕ) (j : List ℕ)
+    → (ledgerAfter (roomVerdict q n) d i (λ m. text n) ≡ ledgerAfter (roomVerdict q n) d i text)
+    × (journalAfter (roomVerdict q n) d i (λ m. text n) j ≡ journalAfter (roomVerdict q n) d i text j)
+room-text Fits d i n text j = (refl, refl)
+room-text Full d i n text j = (refl, refl)
+room-text Damaged d i n text j = (refl, refl)
+room-text Nowhere d i n text j = (refl, refl)
+room-text OtherSize d i n text j = (refl, refl)
+room-text NoText d i n text j = (refl, refl)
+
+decision-text : (shares : List ℕ) (d : Ledger) (i n : ℕ) (text : ℕ → List ℕ) (j : List ℕ)
+    → (ledgerAfter (decisionOf shares d i n (text n) j) d i (λ m. text n) ≡ ledgerAfter (decisionOf shares d i n (text n) j) d i text)
+    × (journalAfter (decisionOf shares d i n (text n) j) d i (λ m. text n) j ≡ journalAfter (decisionOf shares d i n (text n) j) d i text j)
+unfolding decisionOf
+decision-text shares d i n text j = by-message (isMessage standard (text n)) (judgeOf d shares i (length (text n)) j)
+  where
+    by-message : (b : Bool) (q : Judgement)
+        → (ledgerAfter (cond b (roomVerdict q n) (Against NoMessage n)) d i (λ m. text n) ≡ ledgerAfter (cond b (roomVerdict q n) (Against NoMessage n)) d i text)
+        × (journalAfter (cond b (roomVerdict q n) (Against NoMessage n)) d i (λ m. text n) j ≡ journalAfter (cond b (roomVerdict q n) (Against NoMessage n)) d i text j)
+    by-message true q = room-text q d i n text j
+    by-message false q = (refl, refl)
+
+-- an event on its line alone: the row of the look's verdict, or a look that decides
+module _ (l : Line) (e : Event) (n : ℕ) (u f : List ℕ) where
+  pub alone-settled : {v : Verdict} {l′ : Line} {u′ f′ : List ℕ} → Done v ≡ lookAlone l e n u f → Settled v (e .kind) l (e .line) u f l′ u′ f′
+      → SteppingAlone l e n u f (record { line = l′; look = Done v }) u′ f′
+  alone-settled h s = record {
+    look = h;
+    line = s .line ∙ ap (λ (x : Look). lineAlone x l) h;
+    unfinished = s .texts ∙ ap (λ (x : Look). textsAlone x l (e .line) u f) h;
+    frames = s .frames ∙ ap (λ (x : Look). framesAlone x (e .kind) l (e .line) f) h;
+  }
+
+  pub alone-decides : {k : Look} {m : ℕ} → k ≡ lookAlone l e n u f → k ≡ Decides m → SteppingAlone l e n u f (record { line = l; look = k }) u f
+  alone-decides h p =
+      let q = sym p ∙ h in
+      record {
+        look = h;
+        line = ap (λ (x : Look). lineAlone x l) q;
+        unfinished = ap (λ (x : Look). textsAlone x l (e .line) u f) q;
+        frames = ap (λ (x : Look). framesAlone x (e .kind) l (e .line) f) q;
+      }
+
+-- that a text fits is two tests
+fits-test : (l : Line) (n : ℕ) → TextFits l n → textFits l n ≡ true
+fits-test l n t = rw (le-leb (n + 5) (l .collected) (t .0), le-leb (l .joined + n) messageLimit (t .1))
+
+pub test-fits : (l : Line) (n : ℕ) → textFits l n ≡ true → TextFits l n
+test-fits l n h =
+    let a = and-left (leb (n + 5) (l .collected)) (leb (l .joined + n) messageLimit) h in
+    let b = and-right (leb (n + 5) (l .collected)) (leb (l .joined + n) messageLimit) h in
+    (leb-true (n + 5) (l .collected) a, leb-true (l .joined + n) messageLimit b)
+
+module _ (l : Line) (d : Ledger) (e : Event) (j u f : List ℕ) where
+  abbrev by : Look → Verdict
+  by k = decided k todaysShares l d (e .line) j (textsOf (e .line) u) (framesOf (e .line) f)
+
+  -- the step is what the line alone comes to, with the decision where it asks for one
+  verdict-alone : verdictOf todaysShares l d e j u f ≡ by (lookAlone l e (length j) u f)
+  unfolding verdictOf ownWork lookAlone
+  verdict-alone = by-tests (ltb (e .line) lines) (rightSizes j u f) (withinLimits l) (lookOf l (e .kind) (textsOf (e .line) u) (framesOf (e .line) f))
+    where
+      by-tests : (a b c : Bool) (k : Look) → unless a (Left NoLine) (unless b (Left WrongSize) (unless c (Left BeyondLimits) (by k)))
+          ≡ by (unless a (Done (Left NoLine)) (unless b (Done (Left WrongSize)) (unless c (Done (Left BeyondLimits)) k)))
+      by-tests true true true k = refl
+      by-tests true true false k = refl
+      by-tests true false c k = refl
+      by-tests false b c k = refl
+
+  verdict-by : {k : Look} → lookAlone l e (length j) u f ≡ k → verdictOf todaysShares l d e j u f ≡ by k
+  verdict-by h = verdict-alone ∙ ap by h
+
+  -- a step that is done on the line alone leaves the ledger and the journal
+  pub step-after : (s : Alone) (v : Verdict) {a : Answer} {u′ f′ : List ℕ} → SteppingAlone l e (length j) u f s u′ f′ → s .look ≡ Done v → a ≡ answerOf v
+      → Stepping l d e j u f (record { line = s .line; ledger = d; answer = a }) j u′ f′
+  unfolding stepOf
+  step-after s v {a} {u′} {f′} t h p =
+      let k : lookAlone l e (length j) u f ≡ Done v = sym (t .look) ∙ h in
+      let w : v ≡ verdictOf todaysShares l d e j u f = sym (verdict-by k) in
+      let (ledger, journal) = quiet-keeps v d (e .line) (λ n. joinedText l n (textsOf (e .line) u) (framesOf (e .line) f)) j (subst (λ (x : Look). Acts x l (e .line) u f) k (alone-acts l e (length j) u f) .1) in
+      let after : s .line ≡ lineAfter v l = t .line ∙ ap (λ (x : Look). lineAlone x l) k in
+      record {
+        result = rw (after, p) (ap (λ (z : Ledger). record { line = lineAfter v l; ledger = z; answer = answerOf v }) (sym ledger) ∙ ap (λ (z : Verdict). settle z l d e (memoryOf j u f) .stepped) w);
+        journal = sym journal ∙ ap (λ (z : Verdict). settle z l d e (memoryOf j u f) .memory .journal) w;
+        unfinished = t .unfinished ∙ ap (λ (x : Look). textsAlone x l (e .line) u f) k ∙ ap (λ (x : Verdict). textsAfter x l (e .line) u f) w;
+        frames = t .frames ∙ ap (λ (x : Look). framesAlone x (e .kind) l (e .line) f) k ∙ ap (λ (x : Verdict). framesAfter x (e .kind) l (e .line) f) w;
+      }
+
+  -- where it decides, nothing is changed
+  pub alone-asks : (s : Alone) {n : ℕ} {u′ f′ : List ℕ} → SteppingAlone l e (length j) u f s u′ f′ → s .look ≡ Decides n → (lookAlone l e (length j) u f ≡ Decides n) × (u′ ≡ u) × (f′ ≡ f)
+  alone-asks s t h =
+      let k = sym (t .look) ∙ h in
+      (k, t .unfinished ∙ ap (λ (x : Look). textsAlone x l (e .line) u f) k, t .frames ∙ ap (λ (x : Look). framesAlone x (e .kind) l (e .line) f) k)
+
+  -- and the deciding is the step
+  completion-is : (n : ℕ) → lookAlone l e (length j) u f ≡ Decides n → textFits l n ≡ true → completionOf todaysShares l d e n (memoryOf j u f) ≡ completed todaysShares l d e n (memoryOf j u f)
+  unfolding lookAlone completionOf
+  completion-is n h t = by-tests (ltb (e .line) lines) (rightSizes j u f) (withinLimits l) (lookOf l (e .kind) (textsOf (e .line) u) (framesOf (e .line) f)) (completed todaysShares l d e n (memoryOf j u f)) h
+    where
+      by-tests : (a b c : Bool) (k : Look) (v : Verdict) → unless a (Done (Left NoLine)) (unless b (Done (Left WrongSize)) (unless c (Done (Left BeyondLimits)) k)) ≡ Decides n
+          → unless a (Left NoLine) (unless b (Left WrongSize) (unless (c && textFits l n) (Left BeyondLimits) v)) ≡ v
+      by-tests true true true k v h = rw t
+      by-tests true true false k v h = let z : _≡_ {A = ℕ} 0 1 = cc in absurd (omega arith)
+      by-tests true false c k v h = let z : _≡_ {A = ℕ} 0 1 = cc in absurd (omega arith)
+      by-tests false b c k v h = let z : _≡_ {A = ℕ} 0 1 = cc in absurd (omega arith)
+
+  pub step-decides : (n : ℕ) → lookAlone l e (length j) u f ≡ Decides n → stepOf todaysShares l d e (memoryOf j u f) ≡ decideOf todaysShares l d e n (memoryOf j u f)
+  unfolding stepOf decideOf
+  step-decides n h =
+      let t = subst (λ (x : Look). Acts x l (e .line) u f) h (alone-acts l e (length j) u f) in
+      ap (λ (v : Verdict). settle v l d e (memoryOf j u f)) (verdict-by h ∙ sym (completion-is n h (fits-test l n (t .0))))
+
+  pub step-asks : (s : Alone) {n : ℕ} {u₁ f₁ : List ℕ} {r : Stepped} {j′ u′ f′ : List ℕ} → SteppingAlone l e (length j) u f s u₁ f₁ → s .look ≡ Decides n → Deciding l d e n j u₁ f₁ r j′ u′ f′
+      → Stepping l d e j u f r j′ u′ f′
+  step-asks s {n} {u₁} {f₁} {r} {j′} {u′} {f′} a h t =
+      let (k, p, q) = alone-asks s a h in
+      let x : Deciding l d e n j u f r j′ u′ f′ = rw (← p, ← q) t in
+      subst (λ (y : AfterStep). Leaves y r j′ u′ f′) (sym (step-decides n k)) x
+
+-- deciding: 40, 41, 42, then the decision
+module _ (l : Line) (d : Ledger) (e : Event) (n : ℕ) (j u f : List ℕ) where
+  decide-by : (v : Verdict) {r : Stepped} {j′ u′ f′ : List ℕ} → completionOf todaysShares l d e n (memoryOf j u f) ≡ v → Leaves (settle v l d e (memoryOf j u f)) r j′ u′ f′ → Deciding l d e n j u f r j′ u′ f′
+  unfolding decideOf
+  decide-by v {r} {j′} {u′} {f′} h s = subst (λ (x : Verdict). Leaves (settle x l d e (memoryOf j u f)) r j′ u′ f′) (sym h) s
+
+  decide-left : (a : Answer) (r : Stepped) → completionOf todaysShares l d e n (memoryOf j u f) ≡ Left a → r ≡ record { line = l; ledger = d; answer = a } → Deciding l d e n j u f r j u f
+  decide-left a r h s = decide-by (Left a) h (record { result = s; journal = refl; unfinished = refl; frames = refl })
+
+  module _ (r : Stepped) where
+    pub decide-no-line : lines ≤ e .line → r ≡ record { line = l; ledger = d; answer = NoLine } → Deciding l d e n j u f r j u f
+    unfolding completionOf
+    decide-no-line h s = decide-left NoLine r (rw (le-ltb (e .line) lines h)) s
+
+    pub decide-size : e .line < lines → rightLengths (length j) (length u) (length f) ≡ false → r ≡ record { line = l; ledger = d; answer = WrongSize } → Deciding l d e n j u f r j u f
+    unfolding completionOf
+    decide-size h k s = decide-left WrongSize r (rw (lt-ltb (e .line) lines h, k)) s
+
+    pub decide-beyond : e .line < lines → rightLengths (length j) (length u) (length f) ≡ true → withinLimits l && textFits l n ≡ false → r ≡ record { line = l; ledger = d; answer = BeyondLimits }
+        → Deciding l d e n j u f r j u f
+    unfolding completionOf
+    decide-beyond h k w s = decide-left BeyondLimits r (rw (lt-ltb (e .line) lines h, k, w)) s
+
+    pub decide-work : (j′ u′ f′ : List ℕ) → e .line < lines → rightLengths (length j) (length u) (length f) ≡ true → withinLimits l && textFits l n ≡ true → Completing l d e n j u f r j′ u′ f′
+        → Deciding l d e n j u f r j′ u′ f′
+    unfolding completionOf
+    decide-work j′ u′ f′ h k w s = decide-by (completed todaysShares l d e n (memoryOf j u f)) (rw (lt-ltb (e .line) lines h, k, w)) s
+
+    -- what the decision and its row leave
+    pub decision-settled : (c : Decided) (k : Line) (a : Answer) (j′ u′ f′ : List ℕ) → Decision d (e .line) n (joinedText l n (textsOf (e .line) u) (framesOf (e .line) f)) j c j′
+        → Settled (c .verdict) (e .kind) l (e .line) u f k u′ f′ → a ≡ answerOf (c .verdict) → r ≡ record { line = k; ledger = c .ledger; answer = a } → Completing l d e n j u f r j′ u′ f′
+    decision-settled c k a j′ u′ f′ t s p q =
+        let text : ℕ → List ℕ = λ m. joinedText l m (textsOf (e .line) u) (framesOf (e .line) f) in
+        let v : Verdict = decisionOf todaysShares d (e .line) n (text n) j in
+        let (ledger, journal) = decision-text todaysShares d (e .line) n text j in
+        let booked : c .ledger ≡ ledgerAfter v d (e .line) text = t .ledger ∙ ledger in
+        record {
+          result = q ∙ rw (s .line, p, booked) (ap (λ (x : Verdict). record { line = lineAfter x l; ledger = ledgerAfter v d (e .line) text; answer = answerOf x }) (t .verdict));
+          journal = t .journal ∙ journal;
+          unfinished = s .texts ∙ ap (λ (x : Verdict). textsAfter x l (e .line) u f) (t .verdict);
+          frames = s .frames ∙ ap (λ (x : Verdict). framesAfter x (e .kind) l (e .line) f) (t .verdict);
+        }

@@ -1,0 +1,77 @@
+-- An event on its line alone, and the deciding that it leaves where it completes a message: the step in two parts.
+-- Assumes nothing.
+use Prim.Native.Nat.{ℕ, _+_}
+use mathlib.Core.Path.{_≡_}
+use mathlib.Core.Bool.{Bool, _&&_}
+use mathlib.Core.List.{List}
+use lib.Dec.{ltb, leb}
+use Rattle.memory.specs.Sizes.{lines, messageLimit}
+use Rattle.memory.specs.Tests.{unless}
+use Rattle.room.specs.Room.{todaysShares}
+use Rattle.journal.specs.declared.Ledger.{Ledger}
+use Rattle.line.specs.Line.{withinLimits}
+use Rattle.line.specs.declared.Line.{Line}
+use Rattle.line.specs.declared.Answer.the-variants.{NoLine, WrongSize, BeyondLimits}
+use Rattle.looking.specs.Views.{framesOf, textsOf, joinedText}
+use Rattle.looking.specs.Lent.{rightSizes}
+use Rattle.looking.specs.Looks.{lookAlone}
+use Rattle.looking.specs.declared.Event.{Event}
+use Rattle.looking.specs.declared.Kind.{Kind}
+use Rattle.looking.specs.declared.Look.{Look}
+use Rattle.looking.specs.declared.Look.the-variants.{Done, Decides}
+use Rattle.looking.specs.declared.Verdict.{Verdict}
+use Rattle.looking.specs.declared.Verdict.the-variants.{Left}
+use Rattle.receiving.specs.Verdicts.{decisionOf}
+use Rattle.receiving.specs.Settled.{lineAfter, framesAfter, textsAfter}
+use Rattle.receiving.specs.Steps.{Memory, memoryOf, AfterStep, settle, Leaves}
+use Rattle.receiving.specs.declared.Alone.{Alone}
+use Rattle.receiving.specs.declared.Stepped.{Stepped}
+
+-- what a look leaves: the row of its verdict, or everything as it was where a message is complete
+abbrev pub lineAlone : Look → Line → Line
+lineAlone (Done v) l = lineAfter v l
+lineAlone (Decides n) l = l
+
+abbrev pub textsAlone : Look → Line → ℕ → List ℕ → List ℕ → List ℕ
+textsAlone (Done v) l i unfinished frames = textsAfter v l i unfinished frames
+textsAlone (Decides n) l i unfinished frames = unfinished
+
+abbrev pub framesAlone : Look → Kind → Line → ℕ → List ℕ → List ℕ
+framesAlone (Done v) k l i frames = framesAfter v k l i frames
+framesAlone (Decides n) k l i frames = frames
+
+pub record LeavesAlone (k : Look) (l : Line) (e : Event) (u f : List ℕ) (r : Alone) (u′ f′ : List ℕ) : Type 0 where
+  pub look : r .look ≡ k
+  pub line : r .line ≡ lineAlone k l
+  pub unfinished : u′ ≡ textsAlone k l (e .line) u f
+  pub frames : f′ ≡ framesAlone k (e .kind) l (e .line) f
+
+-- what a step on the line alone says
+abbrev pub SteppingAlone : Line → Event → ℕ → List ℕ → List ℕ → Alone → List ℕ → List ℕ → Type 0
+SteppingAlone l e journal u f r u′ f′ = LeavesAlone (lookAlone l e journal u f) l e u f r u′ f′
+
+-- n bytes of a frame's text lie in what the line has collected of it, and fit behind its joined text
+abbrev pub textFits : Line → ℕ → Bool
+textFits l n = leb (n + 5) (l .collected) && leb (l .joined + n) messageLimit
+
+-- the decision on the text that the line has with n bytes of its frame
+abbrev pub completed : List ℕ → Line → Ledger → Event → ℕ → Memory → Verdict
+completed shares l d e n m = decisionOf shares d (e .line) n (joinedText l n (textsOf (e .line) (m .unfinished)) (framesOf (e .line) (m .frames))) (m .journal)
+
+-- 40, 41, 42, then the decision; more bytes than the line has or has room for are beyond its limits
+unfoldable pub completionOf : List ℕ → Line → Ledger → Event → ℕ → Memory → Verdict
+completionOf shares l d e n m =
+    unless (ltb (e .line) lines) (Left NoLine)
+    (unless (rightSizes (m .journal) (m .unfinished) (m .frames)) (Left WrongSize)
+    (unless (withinLimits l && textFits l n) (Left BeyondLimits)
+    (completed shares l d e n m)))
+
+-- what deciding says, and the work of it past 40 to 42
+unfoldable pub decideOf : List ℕ → Line → Ledger → Event → ℕ → Memory → AfterStep
+decideOf shares l d e n m = settle (completionOf shares l d e n m) l d e m
+
+abbrev pub Deciding : Line → Ledger → Event → ℕ → List ℕ → List ℕ → List ℕ → Stepped → List ℕ → List ℕ → List ℕ → Type 0
+Deciding l d e n j u f r j′ u′ f′ = Leaves (decideOf todaysShares l d e n (memoryOf j u f)) r j′ u′ f′
+
+abbrev pub Completing : Line → Ledger → Event → ℕ → List ℕ → List ℕ → List ℕ → Stepped → List ℕ → List ℕ → List ℕ → Type 0
+Completing l d e n j u f r j′ u′ f′ = Leaves (settle (completed todaysShares l d e n (memoryOf j u f)) l d e (memoryOf j u f)) r j′ u′ f′

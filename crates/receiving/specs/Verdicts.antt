@@ -1,0 +1,59 @@
+-- The verdict on an event: 40, 41, 42, then the work; a complete message is decided by the records and the journal: 30, 43, 31, 4.
+-- Assumes nothing.
+use Prim.Native.Nat.{ℕ}
+use mathlib.Core.List.{List}
+use lib.ListN.{length}
+use lib.Dec.{ltb}
+use Rattle.memory.specs.Sizes.{lines}
+use Rattle.memory.specs.Tests.{unless}
+use Rattle.kinds.specs.Delimiters.{standard}
+use Rattle.faults.specs.Faults.{isMessage}
+use Rattle.journal.specs.Verdicts.{judgeOf}
+use Rattle.journal.specs.declared.Ledger.{Ledger}
+use Rattle.journal.specs.declared.Verdict.{Verdict as Judgement}
+use Rattle.journal.specs.declared.Verdict.the-variants.{Fits, NoRoom as Full, Broken as Damaged, NoLine as Nowhere, OtherSize, NoText}
+use Rattle.line.specs.Line.{withinLimits}
+use Rattle.line.specs.declared.Line.{Line}
+use Rattle.line.specs.declared.Answer.the-variants.{NoMessage, NoRoom, NoLine, WrongSize, BeyondLimits, Broken}
+use Rattle.looking.specs.Views.{framesOf, textsOf, joinedText}
+use Rattle.looking.specs.Looks.{lookOf}
+use Rattle.looking.specs.Lent.{rightSizes}
+use Rattle.looking.specs.declared.Event.{Event}
+use Rattle.looking.specs.declared.Kind.{Kind}
+use Rattle.looking.specs.declared.Look.{Look}
+use Rattle.looking.specs.declared.Look.the-variants.{Done, Decides}
+use Rattle.looking.specs.declared.Verdict.{Verdict}
+use Rattle.looking.specs.declared.Verdict.the-variants.{Left, Stores, Against}
+
+-- what the journal says of a message: 43, 31, or it is stored. That it has no line, no right size or no text is never asked here.
+abbrev pub roomVerdict : Judgement → ℕ → Verdict
+roomVerdict Fits n = Stores n
+roomVerdict Full n = Against NoRoom n
+roomVerdict Damaged n = Left Broken
+roomVerdict Nowhere n = Left NoLine
+roomVerdict OtherSize n = Left WrongSize
+roomVerdict NoText n = Against NoMessage n
+
+-- a complete text: 30, then the journal
+unfoldable pub decisionOf : List ℕ → Ledger → ℕ → ℕ → List ℕ → List ℕ → Verdict
+decisionOf shares d i n text journal =
+    unless (isMessage standard text) (Against NoMessage n) (roomVerdict (judgeOf d shares i (length text) journal) n)
+
+abbrev pub decided : Look → List ℕ → Line → Ledger → ℕ → List ℕ → List ℕ → List ℕ → Verdict
+decided (Done v) shares l d i journal texts frames = v
+decided (Decides n) shares l d i journal texts frames = decisionOf shares d i n (joinedText l n texts frames) journal
+
+-- the work on the line's own parts: the look, and the decision where the look comes to one
+unfoldable pub ownWork : List ℕ → Line → Ledger → ℕ → Kind → List ℕ → List ℕ → List ℕ → Verdict
+ownWork shares l d i k journal texts frames = decided (lookOf l k texts frames) shares l d i journal texts frames
+
+abbrev pub workOf : List ℕ → Line → Ledger → Event → List ℕ → List ℕ → List ℕ → Verdict
+workOf shares l d e journal unfinished frames =
+    ownWork shares l d (e .line) (e .kind) journal (textsOf (e .line) unfinished) (framesOf (e .line) frames)
+
+unfoldable pub verdictOf : List ℕ → Line → Ledger → Event → List ℕ → List ℕ → List ℕ → Verdict
+verdictOf shares l d e journal unfinished frames =
+    unless (ltb (e .line) lines) (Left NoLine)
+    (unless (rightSizes journal unfinished frames) (Left WrongSize)
+    (unless (withinLimits l) (Left BeyondLimits)
+    (workOf shares l d e journal unfinished frames)))

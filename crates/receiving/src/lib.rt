@@ -1,0 +1,124 @@
+// One event on one line: look, then act.
+ghost use mathlib.Core.Path.{_≡_};
+ghost use Rattle.receiving.specs.Steps.{Stepping};
+ghost use Rattle.receiving.specs.Alone.{SteppingAlone, Deciding};
+use journal::Ledger;
+use line::Answer;
+use line::Line;
+use looking::Event;
+use looking::Look;
+
+mod completing; // completing.rt: a complete message decided, and what is left after that
+mod deciding; // deciding.rt: its decision
+mod settling; // settling.rt: what is left after a verdict
+
+// The line's record and the ledger after an event, with its answer.
+pub struct Stepped {
+    pub line: Line,
+    pub ledger: Ledger,
+    pub answer: Answer,
+}
+
+// The line's record after an event, as far as its line alone goes, and the look at it: where that comes to a decision nothing has changed yet.
+pub struct Alone {
+    pub line: Line,
+    pub look: Look,
+}
+
+// One event on the line whose record this is, by value.
+pub fn step(
+    line: Line,
+    ledger: Ledger,
+    e: Event,
+    journal: &mut [u8],
+    unfinished: &mut [u8],
+    frames: &mut [u8],
+) -> Stepped
+    ensures { λ r. ⌜ Stepping line ledger e (now (journal .entry)) (now (unfinished .entry)) (now (frames .entry)) r (now (journal .exit)) (now (unfinished .exit)) (now (frames .exit)) ⌝ }
+{
+    let alone = step_alone(line, e, journal.len(), unfinished, frames);
+    let after = alone.line;
+    let look = alone.look;
+    match look {
+        Look::Done(v) => left(after, ledger, v.answer()),
+        Look::Decides(n) => decide(line, ledger, e, n, journal, unfinished, frames),
+    }
+}
+
+// The same on the line alone: of the journal only its length is asked. An event that completes a message is left to `decide`.
+pub fn step_alone(
+    line: Line,
+    e: Event,
+    journal: usize,
+    unfinished: &mut [u8],
+    frames: &mut [u8],
+) -> Alone
+    ensures { λ r. ⌜ SteppingAlone line e journal (now (unfinished .entry)) (now (frames .entry)) r (now (unfinished .exit)) (now (frames .exit)) ⌝ }
+{
+    let i = e.line as usize;
+    let kind = e.kind;
+    let look = looking::look_alone(line, e, journal, unfinished, frames);
+    match look {
+        Look::Done(v) => {
+            let after = settling::settle(line, i, kind, v, unfinished, frames);
+            Alone { line: after, look }
+        }
+        Look::Decides(_) => Alone { line, look },
+    }
+}
+
+// An event that completes a message, with n bytes of its frame's text: the message is decided. More bytes than the line has of it, or has room for, are beyond its limits.
+pub fn decide(
+    line: Line,
+    ledger: Ledger,
+    e: Event,
+    n: usize,
+    journal: &mut [u8],
+    unfinished: &mut [u8],
+    frames: &mut [u8],
+) -> Stepped
+    ensures { λ r. ⌜ Deciding line ledger e n (now (journal .entry)) (now (unfinished .entry)) (now (frames .entry)) r (now (journal .exit)) (now (unfinished .exit)) (now (frames .exit)) ⌝ }
+{
+    if memory::LINES <= e.line as usize {
+        return left(line, ledger, Answer::NoLine);
+    }
+    if !looking::are_right(journal.len(), unfinished.len(), frames.len()) {
+        return left(line, ledger, Answer::WrongSize);
+    }
+    if !line.is_within_limits() {
+        return left(line, ledger, Answer::BeyondLimits);
+    }
+    if !completing::fits(line, n) {
+        return left(line, ledger, Answer::BeyondLimits);
+    }
+    completing::by_decision(line, ledger, e, n, journal, unfinished, frames)
+}
+
+// The same where the line's record and the ledger lie: the step by value, and its outcome stored.
+pub fn step_in_place(
+    line: &mut Line,
+    ledger: &mut Ledger,
+    event: Event,
+    journal: &mut [u8],
+    unfinished: &mut [u8],
+    frames: &mut [u8],
+) -> Answer
+    ensures { λ r. ⌜ Stepping (now (line .entry)) (now (ledger .entry)) event (now (journal .entry)) (now (unfinished .entry)) (now (frames .entry))
+        (record { line = now (line .exit); ledger = now (ledger .exit); answer = r }) (now (journal .exit)) (now (unfinished .exit)) (now (frames .exit)) ⌝ }
+{
+    let s = step(*line, *ledger, event, journal, unfinished, frames);
+    *line = s.line;
+    *ledger = s.ledger;
+    s.answer
+}
+
+// Nothing changed.
+fn left(line: Line, ledger: Ledger, answer: Answer) -> Stepped
+    ensures { λ r. ⌜ r ≡ record { line = line; ledger = ledger; answer = answer } ⌝ }
+{
+    Stepped {
+        line,
+        ledger,
+        answer,
+    }
+}

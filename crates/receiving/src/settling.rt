@@ -1,0 +1,81 @@
+// What is left after a verdict, row by row.
+ghost use mathlib.Core.Path.{_≡_};
+ghost use mathlib.Core.Bool.{true};
+ghost use Prim.Native.Nat.{_<_};
+ghost use lib.ListN.{length};
+ghost use Rattle.memory.specs.Sizes.{lines, framesSize};
+ghost use Rattle.line.specs.Line.{withinLimits};
+ghost use Rattle.looking.specs.Views.{Ready};
+ghost use Rattle.looking.specs.Fitting.{TextFits, Fitting, writes};
+ghost use Rattle.receiving.specs.Settled.{withByte, withText, Settled};
+use line::Line;
+use looking::Kind;
+use looking::Verdict;
+
+pub fn settle(
+    line: Line,
+    i: usize,
+    kind: Kind,
+    v: Verdict,
+    unfinished: &mut [u8],
+    frames: &mut [u8],
+) -> Line
+    requires { ⌜ Fitting v line × (writes v ≡ true → Ready line i (now unfinished) (now frames)) ⌝ }
+    ensures { λ r. ⌜ Settled v kind line i (now (unfinished .entry)) (now (frames .entry)) r (now (unfinished .exit)) (now (frames .exit)) ⌝ }
+{
+    match v {
+        Verdict::Left(_) => line,
+        Verdict::Opens => Line::opened(),
+        Verdict::Closes(_) => Line::fresh(),
+        Verdict::Begins => line.begun(),
+        Verdict::Counts(n) => line.with_seconds(n),
+        Verdict::Collects => {
+            add_byte(line, i, kind, frames);
+            line.with_collected(line.collected + 1)
+        }
+        Verdict::Refuses(_) => {
+            add_byte(line, i, kind, frames);
+            line.waiting()
+        }
+        Verdict::Accepts(n) => {
+            write_text(line, i, n, unfinished, frames);
+            add_byte(line, i, kind, frames);
+            line.accepted((line.joined as usize + n) as u16)
+        }
+        Verdict::Stores(n) => {
+            write_text(line, i, n, unfinished, frames);
+            add_byte(line, i, kind, frames);
+            line.accepted(0)
+        }
+        Verdict::Against(_, n) => {
+            write_text(line, i, n, unfinished, frames);
+            add_byte(line, i, kind, frames);
+            line.against()
+        }
+    }
+}
+
+// The byte behind those collected.
+fn add_byte(line: Line, i: usize, kind: Kind, frames: &mut [u8])
+    requires { ⌜ (i < lines) × (withinLimits line ≡ true) × (length (now frames) ≡ framesSize) ⌝ }
+    ensures { λ _. ⌜ now (frames .exit) ≡ withByte kind line i (now (frames .entry)) ⌝ }
+{
+    match kind {
+        Kind::Byte(b) => {
+            let at = i * memory::FRAME_PART + line.collected as usize;
+            frames[at] = b;
+        }
+        Kind::Seconds(_) => {}
+    }
+}
+
+// The frame's text behind the joined text: the part from there on is lent to the copier.
+fn write_text(line: Line, i: usize, n: usize, unfinished: &mut [u8], frames: &[u8])
+    requires { ⌜ Ready line i (now unfinished) (now frames) × TextFits line n ⌝ }
+    ensures { λ _. ⌜ now (unfinished .exit) ≡ withText line i n (now (unfinished .entry)) (now (frames .entry)) ⌝ }
+{
+    let at = i * memory::MESSAGE_LIMIT + line.joined as usize;
+    let start = i * memory::FRAME_PART + 1;
+    let stop = start + n;
+    memory::copy(&mut unfinished[at..], &frames[start..stop]);
+}
