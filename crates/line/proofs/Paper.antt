@@ -1,18 +1,19 @@
--- The paper's number and values tell the answer: no two answers share both.
+-- The list of all answers: the paper's number and values tell the answer, and what a test finds of each in the list it finds of every answer.
 -- Assumes nothing.
-use mathlib.Core.Path.{_≡_, refl, sym, ap₂, _∙_}
-use mathlib.Core.Bool.{cond}
+use mathlib.Core.Path.{_≡_, refl, sym, ap, ap₂, _∙_}
+use mathlib.Core.Bool.{Bool, true, false, cond, _&&_}
 use mathlib.Core.List.{List, [], _∷_}
 use mathlib.Core.Option.{Option, none, some}
 use Prim.Native.Nat.{ℕ}
 use lib.Dec.{eqb}
 use lib.ListN.{getD}
+use Rattle.memory.proofs.Tests.{clash, and-left, and-right}
 use Rattle.line.specs.Paper.{numberOf, valuesOf}
 use Rattle.line.specs.declared.Answer.{Answer}
 use Rattle.line.specs.declared.Answer.the-variants.{Nothing, Opened, Accepted, Repeated, Stored, Ended, Dropped, TimedOut, Taken, Busy, Unended, Torn, WrongCheck, BadText, BadNumber, Refusing, OutOfTurn, TooLong, NoCr, NoMessage, NoRoom, NoLine, WrongSize, BeyondLimits, Broken, NothingWaiting, BufferShort, Malformed, NotFitting}
 
--- the answers that carry these values
-answers : List ℕ → List Answer
+-- all answers: those that carry values carry these
+abbrev pub answers : List ℕ → List Answer
 answers vs =
     Nothing
     ∷ Opened
@@ -51,7 +52,7 @@ first n [] = none
 first n (a ∷ more) = cond (eqb (numberOf a) n) (some a) (first n more)
 
 told : (a : Answer) → first (numberOf a) (answers (valuesOf a)) ≡ some a
-unfolding first answers
+unfolding first
 told Nothing = refl
 told Opened = refl
 told Accepted = refl
@@ -82,6 +83,27 @@ told BufferShort = refl
 told Malformed = refl
 told NotFitting = refl
 
+-- each answer of a list passes a test
+abbrev pub passes : (Answer → Bool) → List Answer → Bool
+passes test [] = true
+passes test (a ∷ more) = test a && passes test more
+
+found : (test : Answer → Bool) (a : Answer) (n : ℕ) (list : List Answer) → passes test list ≡ true → first n list ≡ some a → test a ≡ true
+unfolding first
+found test a n [] p q = clash cc
+found test a n (b ∷ more) p q = by-number (eqb (numberOf b) n) q (found test a n more (and-right (test b) (passes test more) p))
+  where
+    by-number : (t : Bool) → cond t (some b) (first n more) ≡ some a → (first n more ≡ some a → test a ≡ true) → test a ≡ true
+    by-number true e later =
+        let same : b ≡ a = cc e in
+        ap test (sym same) ∙ and-left (test b) (passes test more) p
+    by-number false e later = later e
+
+-- a test that each answer of the list passes, whatever values stand in it, every answer passes
+pub every-answer : (test : Answer → Bool) → ((vs : List ℕ) → passes test (answers vs) ≡ true) → (a : Answer) → test a ≡ true
+every-answer test h a = found test a (numberOf a) (answers (valuesOf a)) (h (valuesOf a)) (told a)
+
+-- no two answers share number and values
 pub paper-injective : (a b : Answer) → numberOf a ≡ numberOf b → valuesOf a ≡ valuesOf b → a ≡ b
 paper-injective a b n v =
     let same : some a ≡ some b = sym (told a) ∙ ap₂ (λ (m : ℕ) (vs : List ℕ). first m (answers vs)) n v ∙ told b in

@@ -10,6 +10,10 @@ use lib.ListN.{length, getD, drop, drop-of-length-le}
 use lib.Seq.{drop-cons}
 use Rattle.memory.specs.Tests.{all, find}
 
+-- what cannot be: a fact that makes 0 equal to 1 proves anything. Where a wrong case is met, `clash cc` closes it
+pub clash : {A : Type 0} → _≡_ {A = ℕ} 0 1 → A
+clash z = absurd (omega arith)
+
 -- both sides of `&&`, and one side that fails
 pub and-left : (a b : Bool) → a && b ≡ true → a ≡ true
 and-left true b e = refl
@@ -17,7 +21,7 @@ and-left false b e = e
 
 pub and-right : (a b : Bool) → a && b ≡ true → b ≡ true
 and-right true b e = e
-and-right false b e = let z : _≡_ {A = ℕ} 0 1 = cc in absurd (omega arith)
+and-right false b e = clash cc
 
 pub and-both : (a b : Bool) → a ≡ true → b ≡ true → a && b ≡ true
 and-both a b p q = rw (p, q)
@@ -28,7 +32,7 @@ and-not-right false b e = refl
 
 -- a test is true or false
 pub never-both : {A : Type 0} (b : Bool) → b ≡ true → b ≡ false → A
-never-both b p q = let z : _≡_ {A = ℕ} 0 1 = cc in absurd (omega arith)
+never-both b p q = clash cc
 
 pub is-false : (b : Bool) → (b ≡ true → ⊥) → b ≡ false
 is-false true n = absurd (n refl)
