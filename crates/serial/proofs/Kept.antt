@@ -9,7 +9,7 @@ use native.Mathlib.Omega.{arith}
 use native.Mathlib.Decide.{ℕ-discrete}
 use borrow.Author.Tests.{eq-eqb, ne-eqb}
 use Rattle.serial.specs.Serial.{Item, event, taking, items, Every, count, OrderOf, upd, stretch, out, left, rests, serial, serialize}
-use Rattle.serial.specs.Kept.{only, OnLine, isOf, isTaking, isEnd, Part, finished, took, Undecided, Proper, tell, Whole, Rearranged}
+use Rattle.serial.specs.Kept.{only, OnLine, isOf, isEnd, Part, finished, took, Undecided, Proper, tell, Whole, Rearranged}
 use Rattle.serial.proofs.Updates.{upd-all, upd-own, upd-other, stretch-append}
 use Rattle.serial.proofs.Lists.{only-append, count-append, mine, own-stretch, other-stretch, rests-own, rests-count}
 
@@ -127,9 +127,6 @@ module _ {K N A : Type 0} (decides : A → Bool) (p : Item K N × A → Bool) (p
 module _ {K N A : Type 0} (decides : A → Bool) (order : List ℕ) (xs : List (Item K N × A)) where
   pub ends-kept : only (isEnd decides) (serialize decides order xs) ≡ only (isEnd decides) xs
   ends-kept = serial-passes decides (isEnd decides) (λ i k a q. q) order xs (λ i. []) (λ i. tt)
-
-  pub takings-kept : only (λ x. isTaking (x .0)) (serialize decides order xs) ≡ only (λ x. isTaking (x .0)) xs
-  takings-kept = serial-passes decides (λ x. isTaking (x .0)) (λ i k a q. refl) order xs (λ i. []) (λ i. tt)
 
 -- ---- stretches stand whole, and rests at the end
 

@@ -7,5 +7,3 @@ pub mod Kept
 pub mod Unique
 pub mod Demand
 pub mod Orders
-pub mod Model
-pub mod Toy

@@ -12,6 +12,10 @@ use Rattle.serial.specs.Serial.{Item, event, upd, count, times, stretch,
 use Rattle.serial.specs.Kept.{only, isOf}
 use Rattle.serial.proofs.Updates.{upd-own, upd-other, times-own, times-other}
 
+-- a wrong case: what makes 0 equal to 1 proves anything
+pub clash : {A : Type 0} → _≡_ {A = ℕ} 0 1 → A
+clash z = absurd (omega arith)
+
 pub only-append : {X : Type 0} (p : X → Bool) (xs ys : List X) → only p (xs ++ ys) ≡ only p xs ++ only p ys
 only-append p [] ys = refl
 only-append p (x ∷ xs) ys = go (p x) (only-append p xs ys)

@@ -4,7 +4,7 @@ use mathlib.Core.Path.{_≡_, _∙_}
 use mathlib.Core.Bool.{Bool}
 use mathlib.Core.List.{List}
 use Prim.Native.Nat.{ℕ}
-use Rattle.serial.specs.Serial.{Item, annotate, final, items, Every, ToldAlike, OrderOf, serialize, Lined, Same, NothingElse}
+use Rattle.serial.specs.Serial.{Item, annotate, final, items, Every, ToldAlike, OrderOf, serialize, Lined, NothingElse}
 use Rattle.serial.proofs.Runs.{runs-annotate, runs-final}
 use Rattle.serial.proofs.Behind.{Reaches, tells-run, final-sound}
 
@@ -21,10 +21,6 @@ module _ {S P J K N A : Type 0} (lineOf : S → ℕ → P) (journalOf : S → J)
     -- every event and every taking has the same answer
     pub serial-answers : annotate step s (items (serialize decides order (annotate step s es))) ≡ serialize decides order (annotate step s es)
     serial-answers = runs-annotate step told s (runs .0) (runs .1)
-
-    -- every line and the journal are the same at the end
-    pub serial-same : Same lineOf journalOf (final step s (items (serialize decides order (annotate step s es)))) (final step s es)
-    serial-same = rw (runs-final step told s (runs .0) (runs .1)) (runs .3)
 
     -- where the lines and the journal are all that a state holds, it is the same state
     pub serial-final : NothingElse lineOf journalOf Sound

@@ -4,14 +4,14 @@ use mathlib.Core.Path.{_≡_, refl, sym, _∙_, ap}
 use mathlib.Core.Logic.{_≢_}
 use mathlib.Core.Bool.{Bool, true, false, true≢false}
 use mathlib.Core.List.{List, [], _∷_, _++_, append-nil, append-assoc, map}
-use Prim.Native.Nat.{ℕ, _+_, _≤_, _<_}
+use Prim.Native.Nat.{ℕ, _≤_, _<_}
 use native.Mathlib.Omega.{arith}
 use native.Mathlib.Decide.{ℕ-discrete, decLt}
 use borrow.Author.Tests.{eq-eqb, ne-eqb}
 use Rattle.serial.specs.Serial.{Item, event, taking, items, Every, times, OrderOf, upd, stretch, out, left, rests, serial, serialize}
 use Rattle.serial.specs.Kept.{only, OnLine, isEnd, Part, finished, took, Undecided, Proper, tell, tellAll, Rearranged}
 use Rattle.serial.proofs.Updates.{upd-own, upd-other, stretch-append, times-own}
-use Rattle.serial.proofs.Lists.{only-append, mine, own-stretch, other-stretch, rests-own}
+use Rattle.serial.proofs.Lists.{clash, only-append, mine, own-stretch, other-stretch, rests-own}
 use Rattle.serial.proofs.Kept.{shift, left-undecided, stretch-passes, rests-passes}
 
 -- the last of a part
@@ -30,8 +30,8 @@ same-event {K} {N} {A} i l k m a b e =
 module _ {K N A : Type 0} (i : ℕ) where
   stretch-same : (xs ys : List (K × A)) → stretch {N = N} i xs ≡ stretch i ys → xs ≡ ys
   stretch-same [] [] e = refl
-  stretch-same [] (y ∷ ys) e = absurd (let z : _≡_ {A = ℕ} 0 1 = cc in omega arith)
-  stretch-same (x ∷ xs) [] e = absurd (let z : _≡_ {A = ℕ} 0 1 = cc in omega arith)
+  stretch-same [] (y ∷ ys) e = clash cc
+  stretch-same (x ∷ xs) [] e = clash cc
   stretch-same (x ∷ xs) (y ∷ ys) e =
       let t : stretch {N = N} i xs ≡ stretch i ys = cc in
       let (n, k, a) = same-event {N = N} i i (x .0) (y .0) (x .1) (y .1) (cc) in
@@ -133,11 +133,11 @@ module _ {K N A : Type 0} (decides : A → Bool) (lines : ℕ) (order : List ℕ
       → ((l : ℕ) → Undecided decides (pending l)) → (bs : List (Part K N A)) → Every (Proper decides) bs
       → Lines (tellAll bs (rests rest order)) pending ((taking i n, a) ∷ xs) → map lastOf bs ≡ (taking i n, a) ∷ only (isEnd decides) xs
       → tellAll bs (rests rest order) ≡ (taking i n, a) ∷ serial decides order pending xs
-  takes xs ih i n a pending h [] proper line ends = absurd (let z : _≡_ {A = ℕ} 0 1 = cc in omega arith)
+  takes xs ih i n a pending h [] proper line ends = clash cc
   takes xs ih i n a pending h (finished l ys k b ∷ bs) proper line ends =
       let e : _≡_ {A = Item K N × A} (event l k, b) (taking i n, a) = cc in
       let f : _≡_ {A = Item K N} (event l k) (taking i n) = ap (λ (x : Item K N × A). x .0) e in
-      absurd (let z : _≡_ {A = ℕ} 0 1 = cc in omega arith)
+      clash cc
   takes xs ih i n a pending h (took l m b ∷ bs) proper line ends =
       let e : _≡_ {A = Item K N × A} (taking l m, b) (taking i n, a) = cc in
       let behind : map lastOf bs ≡ only (isEnd decides) xs = cc in
@@ -149,11 +149,11 @@ module _ {K N A : Type 0} (decides : A → Bool) (lines : ℕ) (order : List ℕ
       → ((l : ℕ) → Undecided decides (pending l)) → (bs : List (Part K N A)) → Every (Proper decides) bs
       → Lines (tellAll bs (rests rest order)) pending ((event i k, a) ∷ xs) → map lastOf bs ≡ (event i k, a) ∷ only (isEnd decides) xs
       → tellAll bs (rests rest order) ≡ stretch i (pending i ++ ((k, a) ∷ [])) ++ serial decides order (upd pending i []) xs
-  stops xs ih i k a q o pending h [] proper line ends = absurd (let z : _≡_ {A = ℕ} 0 1 = cc in omega arith)
+  stops xs ih i k a q o pending h [] proper line ends = clash cc
   stops xs ih i k a q o pending h (took l n b ∷ bs) proper line ends =
       let e : _≡_ {A = Item K N × A} (taking l n, b) (event i k, a) = cc in
       let f : _≡_ {A = Item K N} (taking l n) (event i k) = ap (λ (x : Item K N × A). x .0) e in
-      absurd (let z : _≡_ {A = ℕ} 0 1 = cc in omega arith)
+      clash cc
   stops xs ih i k a q o pending h (finished l ys m b ∷ bs) proper line ends =
       let e : _≡_ {A = Item K N × A} (event l m, b) (event i k, a) = cc in
       let (line-same, kind-same, answer-same) = same-event {N = N} l i m k b a e in
@@ -167,7 +167,7 @@ module _ {K N A : Type 0} (decides : A → Bool) (lines : ℕ) (order : List ℕ
 
   alone : (xs : List (Item K N × A)) → Every (OnLine lines) (items xs) → Alone xs
   alone [] o pending h [] proper line ends = rests-only pending (λ i g. line i g ∙ append-nil _)
-  alone [] o pending h (b ∷ bs) proper line ends = absurd (let z : _≡_ {A = ℕ} 0 1 = cc in omega arith)
+  alone [] o pending h (b ∷ bs) proper line ends = clash cc
   alone (x ∷ xs) o pending h bs proper line ends = go (x .0) (x .1) (decides (x .1)) refl (o .0) (alone xs (o .1)) line ends
     where
       go : (e : Item K N) (a : A) (d : Bool) → decides a ≡ d → OnLine lines e → Alone xs

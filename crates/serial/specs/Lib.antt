@@ -1,4 +1,2 @@
 pub mod Serial
 pub mod Kept
-pub mod Model
-pub mod Toy
