@@ -29,9 +29,10 @@ use Rattle.gateway.specs.declared.Gateway.{Gateway}
 use Rattle.gateway.specs.declared.Look.the-variants.{Done}
 use Rattle.gateway.specs.declared.Verdict.{Verdict}
 use Rattle.gateway.specs.declared.Verdict.the-variants.{Left, Opens, Closes, Begins, Counts, Collects, Refuses, Accepts, Stores, Against}
-use Rattle.gateway_laws.specs.Classes.{quiet, refusing, classOf}
+use Rattle.gateway_laws.specs.Classes.{Class, quiet, refusing, storing, classOf}
 use Rattle.gateway_laws.proofs.Found.{Found, refused, worked, verdict-found}
-use Rattle.gateway_laws.proofs.Proper.{Proper, verdict-proper}
+use Rattle.gateway_laws.proofs.Rows.{store-rows, Of, leaves, begins, counts, collects, refuses, stores, of-class}
+use Rattle.gateway_laws.proofs.Proper.{verdict-proper}
 use Rattle.gateway_laws.proofs.Others.{texts-length, frames-length, texts-other, frames-other}
 
 -- nothing changed, with an answer
@@ -45,9 +46,6 @@ judged l d e m a = record {
   memory = record { journal = m .journal; unfinished = m .unfinished; frames = withByte (e .kind) l (e .line) (m .frames) };
 }
 
-nothing-else : {A : Type 0} → _≡_ {A = ℕ} 0 1 → A
-nothing-else z = absurd (omega arith)
-
 module _ (shares : List ℕ) (l : Line) (d : Ledger) (e : Event) (m : Memory) where
   abbrev found : Verdict
   found = verdictOf shares l d e (m .journal) (m .unfinished) (m .frames)
@@ -56,53 +54,34 @@ module _ (shares : List ℕ) (l : Line) (d : Ledger) (e : Event) (m : Memory) wh
   unfolding stepOf
   step-is v h = ap (λ (x : Verdict). settle x l d e m) h
 
-  is-proper : (v : Verdict) → found ≡ v → Proper v
-  is-proper v h = subst Proper h (verdict-proper shares l d e (m .journal) (m .unfinished) (m .frames))
+  -- the verdict is of its answer's class
+  found-of : (c : Class) → classOf (stepOf shares l d e m .stepped .answer) ≡ c → Of c found
+  unfolding stepOf
+  found-of c h = subst (λ (x : Class). Of x found) (sym (verdict-proper shares l d e (m .journal) (m .unfinished) (m .frames)) ∙ h) (of-class found)
 
   -- an ignored event, 20 and 40 to 43 change nothing at all
   pub left-unchanged : (a : Answer) → found ≡ Left a → stepOf shares l d e m ≡ unchanged l d m a
   left-unchanged a h = step-is (Left a) h
 
   pub refused-unchanged : (a : Answer) → stepOf shares l d e m .stepped .answer ≡ a → classOf a ≡ quiet → a ≢ Nothing → stepOf shares l d e m ≡ unchanged l d m a
-  refused-unchanged a h q n = by-verdict found refl
+  refused-unchanged a h q n = row found refl (found-of quiet (ap classOf h ∙ q))
     where
-      by-verdict : (v : Verdict) → found ≡ v → stepOf shares l d e m ≡ unchanged l d m a
-      by-verdict v p = row v (step-is v p) (is-proper v p) (sym (ap (λ (s : AfterStep). s .stepped .answer) (step-is v p)) ∙ h)
-        where
-          row : (v : Verdict) → stepOf shares l d e m ≡ settle v l d e m → Proper v → answerOf v ≡ a → stepOf shares l d e m ≡ unchanged l d m a
-          row (Left b) s c r = s ∙ ap (unchanged l d m) r
-          row Opens s c r = nothing-else (cc (ap classOf r))
-          row (Closes b) s c r = nothing-else (cc (ap classOf r))
-          row Begins s c r = absurd (n (sym r))
-          row (Counts k) s c r = absurd (n (sym r))
-          row Collects s c r = absurd (n (sym r))
-          row (Refuses b) s c r = nothing-else (cc (ap classOf r))
-          row (Accepts k) s c r = nothing-else (cc (ap classOf r))
-          row (Stores k) s c r = nothing-else (cc (ap classOf r))
-          row (Against b k) s c r = nothing-else (cc (ap classOf r))
+      answered : (v : Verdict) → found ≡ v → answerOf v ≡ a
+      answered v p = sym (ap (λ (s : AfterStep). s .stepped .answer) (step-is v p)) ∙ h
+
+      row : (v : Verdict) → found ≡ v → Of quiet v → stepOf shares l d e m ≡ unchanged l d m a
+      row (Left b) p (leaves c) = step-is (Left b) p ∙ ap (unchanged l d m) (answered (Left b) p)
+      row Begins p begins = absurd (n (sym (answered Begins p)))
+      row (Counts k) p (counts c) = absurd (n (sym (answered (Counts k) p)))
+      row Collects p collects = absurd (n (sym (answered Collects p)))
 
   -- only 4 changes the ledger and the journal
   pub only-stored : stepOf shares l d e m .stepped .answer ≢ Stored
       → (stepOf shares l d e m .stepped .ledger ≡ d) × (stepOf shares l d e m .memory .journal ≡ m .journal)
-  only-stored n = by-verdict found refl
-    where
-      row : (v : Verdict) → answerOf v ≢ Stored → (settle v l d e m .stepped .ledger ≡ d) × (settle v l d e m .memory .journal ≡ m .journal)
-      row (Left a) n = (refl, refl)
-      row Opens n = (refl, refl)
-      row (Closes a) n = (refl, refl)
-      row Begins n = (refl, refl)
-      row (Counts k) n = (refl, refl)
-      row Collects n = (refl, refl)
-      row (Refuses a) n = (refl, refl)
-      row (Accepts k) n = (refl, refl)
-      row (Stores k) n = absurd (n refl)
-      row (Against a k) n = (refl, refl)
-
-      by-verdict : (v : Verdict) → found ≡ v → (stepOf shares l d e m .stepped .ledger ≡ d) × (stepOf shares l d e m .memory .journal ≡ m .journal)
-      by-verdict v p =
-          let s = step-is v p in
-          let (ledger, journal) = row v (λ r. n (ap (λ (x : AfterStep). x .stepped .answer) s ∙ r)) in
-          (ap (λ (x : AfterStep). x .stepped .ledger) s ∙ ledger, ap (λ (x : AfterStep). x .memory .journal) s ∙ journal)
+  unfolding stepOf
+  only-stored n =
+      store-rows d (e .line) (λ k. joinedText l k (textsOf (e .line) (m .unfinished)) (framesOf (e .line) (m .frames))) (m .journal)
+      (λ v ledger journal. answerOf v ≢ Stored → (ledger ≡ d) × (journal ≡ m .journal)) (λ v o. (refl, refl)) (λ k o. absurd (o refl)) found n
 
   -- what 4 appends is the joined text, as the line's newest entry under its next serial
   pub record Storing : Type 0 where
@@ -112,47 +91,23 @@ module _ (shares : List ℕ) (l : Line) (d : Ledger) (e : Event) (m : Memory) wh
     pub verdict : found ≡ Stores length-of
 
   pub stored-appends : stepOf shares l d e m .stepped .answer ≡ Stored → Storing
-  stored-appends h = by-verdict found refl
+  stored-appends h = row found refl (found-of storing (ap classOf h))
     where
-      by-verdict : (v : Verdict) → found ≡ v → Storing
-      by-verdict v p = row v p (is-proper v p) (sym (ap (λ (s : AfterStep). s .stepped .answer) (step-is v p)) ∙ h)
-        where
-          row : (v : Verdict) → found ≡ v → Proper v → answerOf v ≡ Stored → Storing
-          row (Left a) p c r = nothing-else (cc (ap classOf r))
-          row Opens p c r = nothing-else (cc (ap classOf r))
-          row (Closes a) p c r = nothing-else (cc (ap classOf r))
-          row Begins p c r = nothing-else (cc (ap classOf r))
-          row (Counts k) p c r = nothing-else (cc (ap classOf r))
-          row Collects p c r = nothing-else (cc (ap classOf r))
-          row (Refuses a) p c r = nothing-else (cc (ap classOf r))
-          row (Accepts k) p c r = nothing-else (cc (ap classOf r))
-          row (Stores k) p c r = record {
-            length-of = k;
-            ledger = ap (λ (x : AfterStep). x .stepped .ledger) (step-is (Stores k) p);
-            journal = ap (λ (x : AfterStep). x .memory .journal) (step-is (Stores k) p);
-            verdict = p;
-          }
-          row (Against a k) p c r = nothing-else (cc (ap classOf r))
+      row : (v : Verdict) → found ≡ v → Of storing v → Storing
+      row (Stores k) p (stores c) = record {
+        length-of = k;
+        ledger = ap (λ (x : AfterStep). x .stepped .ledger) (step-is (Stores k) p);
+        journal = ap (λ (x : AfterStep). x .memory .journal) (step-is (Stores k) p);
+        verdict = p;
+      }
 
   -- a refused frame, a repeat among them, changes only what every judged frame changes
   pub refused-frame : (a : Answer) → stepOf shares l d e m .stepped .answer ≡ a → classOf a ≡ refusing
       → stepOf shares l d e m ≡ judged l d e m a
-  refused-frame a h q = by-verdict found refl
+  refused-frame a h q = row found refl (found-of refusing (ap classOf h ∙ q))
     where
-      by-verdict : (v : Verdict) → found ≡ v → stepOf shares l d e m ≡ judged l d e m a
-      by-verdict v p = row v (step-is v p) (is-proper v p) (sym (ap (λ (s : AfterStep). s .stepped .answer) (step-is v p)) ∙ h)
-        where
-          row : (v : Verdict) → stepOf shares l d e m ≡ settle v l d e m → Proper v → answerOf v ≡ a → stepOf shares l d e m ≡ judged l d e m a
-          row (Left b) s c r = nothing-else (cc (ap classOf r))
-          row Opens s c r = nothing-else (cc (ap classOf r))
-          row (Closes b) s c r = nothing-else (cc (ap classOf r))
-          row Begins s c r = nothing-else (cc (ap classOf r))
-          row (Counts k) s c r = nothing-else (cc (ap classOf r))
-          row Collects s c r = nothing-else (cc (ap classOf r))
-          row (Refuses b) s c r = s ∙ ap (judged l d e m) r
-          row (Accepts k) s c r = nothing-else (cc (ap classOf r))
-          row (Stores k) s c r = nothing-else (cc (ap classOf r))
-          row (Against b k) s c r = nothing-else (cc (ap classOf r))
+      row : (v : Verdict) → found ≡ v → Of refusing v → stepOf shares l d e m ≡ judged l d e m a
+      row (Refuses b) p (refuses c) = step-is (Refuses b) p ∙ ap (judged l d e m) (sym (ap (λ (s : AfterStep). s .stepped .answer) (step-is (Refuses b) p)) ∙ h)
 
   -- sizes and limits are kept
   pub sizes-kept : (length (stepOf shares l d e m .memory .unfinished) ≡ length (m .unfinished)) × (length (stepOf shares l d e m .memory .frames) ≡ length (m .frames))

@@ -16,8 +16,8 @@ use Rattle.gateway.specs.Settled.{withByte, withText, framesAfter, textsAfter, 
 use Rattle.gateway.specs.declared.Kind.{Kind}
 use Rattle.gateway.specs.declared.Kind.the-variants.{Byte, Seconds}
 use Rattle.gateway.specs.declared.Verdict.{Verdict}
-use Rattle.gateway.specs.declared.Verdict.the-variants.{Left, Opens, Closes, Begins, Counts, Collects, Refuses, Accepts, Stores, Against}
 use Rattle.gateway.proofs.Pieces.{length-text}
+use Rattle.gateway_laws.proofs.Rows.{text-rows, frame-rows}
 
 module _ (l : Line) (i : ℕ) (u f : List ℕ) (ready : Ready l i u f) where
   -- where the byte goes
@@ -46,49 +46,13 @@ module _ (l : Line) (i : ℕ) (u f : List ℕ) (ready : Ready l i u f) where
   byte-other (Seconds s) k m = refl
 
   pub texts-length : (v : Verdict) → Fitting v l → length (textsAfter v l i u f) ≡ length u
-  texts-length (Left a) t = refl
-  texts-length Opens t = refl
-  texts-length (Closes a) t = refl
-  texts-length Begins t = refl
-  texts-length (Counts n) t = refl
-  texts-length Collects t = refl
-  texts-length (Refuses a) t = refl
-  texts-length (Accepts n) t = text-length n t
-  texts-length (Stores n) t = text-length n t
-  texts-length (Against a n) t = text-length n t
+  texts-length = text-rows l i u f (λ a own. length a ≡ length u) refl text-length
 
   pub frames-length : (v : Verdict) (kind : Kind) → length (framesAfter v kind l i f) ≡ length f
-  frames-length (Left a) kind = refl
-  frames-length Opens kind = refl
-  frames-length (Closes a) kind = refl
-  frames-length Begins kind = refl
-  frames-length (Counts n) kind = refl
-  frames-length Collects kind = byte-length kind
-  frames-length (Refuses a) kind = byte-length kind
-  frames-length (Accepts n) kind = byte-length kind
-  frames-length (Stores n) kind = byte-length kind
-  frames-length (Against a n) kind = byte-length kind
+  frames-length v kind = frame-rows l i u f (λ a own. length a ≡ length f) kind refl (byte-length kind) v
 
   pub texts-other : (v : Verdict) → Fitting v l → (k : ℕ) → i ≢ k → textsOf k (textsAfter v l i u f) ≡ textsOf k u
-  texts-other (Left a) t k m = refl
-  texts-other Opens t k m = refl
-  texts-other (Closes a) t k m = refl
-  texts-other Begins t k m = refl
-  texts-other (Counts n) t k m = refl
-  texts-other Collects t k m = refl
-  texts-other (Refuses a) t k m = refl
-  texts-other (Accepts n) t k m = text-other n t k m
-  texts-other (Stores n) t k m = text-other n t k m
-  texts-other (Against a n) t k m = text-other n t k m
+  texts-other v t k m = text-rows l i u f (λ a own. textsOf k a ≡ textsOf k u) refl (λ n h. text-other n h k m) v t
 
   pub frames-other : (v : Verdict) (kind : Kind) (k : ℕ) → i ≢ k → framesOf k (framesAfter v kind l i f) ≡ framesOf k f
-  frames-other (Left a) kind k m = refl
-  frames-other Opens kind k m = refl
-  frames-other (Closes a) kind k m = refl
-  frames-other Begins kind k m = refl
-  frames-other (Counts n) kind k m = refl
-  frames-other Collects kind k m = byte-other kind k m
-  frames-other (Refuses a) kind k m = byte-other kind k m
-  frames-other (Accepts n) kind k m = byte-other kind k m
-  frames-other (Stores n) kind k m = byte-other kind k m
-  frames-other (Against a n) kind k m = byte-other kind k m
+  frames-other v kind k m = frame-rows l i u f (λ a own. framesOf k a ≡ framesOf k f) kind refl (byte-other kind k m) v

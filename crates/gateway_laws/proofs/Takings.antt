@@ -6,10 +6,10 @@ use mathlib.Core.Bool.{Bool, true, false, cond}
 use mathlib.Core.List.{List, [], _∷_}
 use mathlib.Core.Option.{Option, none, some}
 use Prim.Native.Nat.{ℕ}
-use native.Mathlib.Omega.{arith}
 use lib.Dec.{leb, ltb, eqb}
 use lib.ListN.{length}
 use Rattle.memory.specs.Sizes.{lines, journalSize}
+use Rattle.memory.proofs.Tests.{clash}
 use Rattle.journal.specs.Entries.{Entry, sizes, before, from}
 use Rattle.journal.specs.Chain.{chain}
 use Rattle.journal.specs.Removal.{AfterTaking, afterTaking, takeAt, takeOldest, takeFrom, takeOf as takeEntry}
@@ -19,9 +19,6 @@ use Rattle.journal.specs.declared.Took.the-variants.{Taken, NothingWaiting, Buf
 use Rattle.gateway.specs.Events.{tookAnswer, AfterTake, takeOf}
 use Rattle.gateway.specs.declared.Gateway.{Gateway}
 use Rattle.gateway_laws.specs.Classes.{classOf, quiet, taking}
-
-nothing-else : {A : Type 0} → _≡_ {A = ℕ} 0 1 → A
-nothing-else z = absurd (omega arith)
 
 module _ (d : Ledger) (j b : List ℕ) where
   -- a refusal is only an answer
@@ -35,7 +32,7 @@ module _ (d : Ledger) (j b : List ℕ) where
   module _ (l : ℕ) where
     unmoved-at : (at : ℕ) (e : Entry) → Unmoved (takeAt d l at e j b)
     unfolding takeAt
-    unmoved-at at e = by-test (leb (length (e .text)) (length b)) _ _ (λ h. nothing-else (cc h)) (λ h. refl)
+    unmoved-at at e = by-test (leb (length (e .text)) (length b)) _ _ (λ h. clash (cc h)) (λ h. refl)
 
     unmoved-oldest : (at : ℕ) (es : List Entry) → Unmoved (takeOldest d l at es j b)
     unmoved-oldest at [] = λ h. refl

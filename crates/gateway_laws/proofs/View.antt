@@ -17,9 +17,9 @@ use Rattle.gateway.specs.declared.Event.{Event}
 use Rattle.gateway.specs.declared.Kind.{Kind}
 use Rattle.gateway.specs.declared.Kind.the-variants.{Byte, Seconds}
 use Rattle.gateway.specs.declared.Verdict.{Verdict}
-use Rattle.gateway.specs.declared.Verdict.the-variants.{Left, Opens, Closes, Begins, Counts, Collects, Refuses, Accepts, Stores, Against}
 use Rattle.gateway.proofs.Pieces.{length-text}
 use Rattle.gateway_laws.specs.Own.{ownByte, ownFrames, ownTexts}
+use Rattle.gateway_laws.proofs.Rows.{text-rows, frame-rows}
 
 -- two memories that agree on the line's parts
 pub same-work : (shares : List ℕ) (l : Line) (d : Ledger) (e : Event) (j u f u′ f′ : List ℕ) → textsOf (e .line) u ≡ textsOf (e .line) u′ → framesOf (e .line) f ≡ framesOf (e .line) f′
@@ -39,25 +39,7 @@ module _ (l : Line) (i : ℕ) (u f : List ℕ) (ready : Ready l i u f) where
   byte-own (Seconds s) = refl
 
   pub texts-own : (v : Verdict) → Fitting v l → textsOf i (textsAfter v l i u f) ≡ ownTexts v l (textsOf i u) (framesOf i f)
-  texts-own (Left a) t = refl
-  texts-own Opens t = refl
-  texts-own (Closes a) t = refl
-  texts-own Begins t = refl
-  texts-own (Counts n) t = refl
-  texts-own Collects t = refl
-  texts-own (Refuses a) t = refl
-  texts-own (Accepts n) t = text-own n t
-  texts-own (Stores n) t = text-own n t
-  texts-own (Against a n) t = text-own n t
+  texts-own = text-rows l i u f (λ a own. textsOf i a ≡ own) refl text-own
 
   pub frames-own : (v : Verdict) (k : Kind) → framesOf i (framesAfter v k l i f) ≡ ownFrames v k l (framesOf i f)
-  frames-own (Left a) k = refl
-  frames-own Opens k = refl
-  frames-own (Closes a) k = refl
-  frames-own Begins k = refl
-  frames-own (Counts n) k = refl
-  frames-own Collects k = byte-own k
-  frames-own (Refuses a) k = byte-own k
-  frames-own (Accepts n) k = byte-own k
-  frames-own (Stores n) k = byte-own k
-  frames-own (Against a n) k = byte-own k
+  frames-own v k = frame-rows l i u f (λ a own. framesOf i a ≡ own) k refl (byte-own k) v

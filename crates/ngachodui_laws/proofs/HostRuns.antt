@@ -1,17 +1,18 @@
 -- A host's run from numbers in order is the gateway's run: the same answers, and at its end the numbers tell the gateway's state. So what is promised of runs holds for hosts.
 -- Assumes nothing.
 use mathlib.Core.Path.{_≡_, refl, sym, ap, subst, _∙_}
-use mathlib.Core.Bool.{Bool, true, false}
+use mathlib.Core.Bool.{Bool, true, false, cond, not, _&&_, _||_}
 use mathlib.Core.List.{List, [], _∷_}
 use Prim.Native.Nat.{ℕ}
-use native.Mathlib.Omega.{arith}
-use lib.Dec.{ltb}
+use lib.Dec.{ltb, eqb}
 use Rattle.memory.specs.Sizes.{lines}
 use Rattle.memory.specs.Tests.{unless}
+use Rattle.memory.proofs.Tests.{clash}
 use Rattle.journal.specs.Room.{todaysShares}
-use Rattle.line.specs.Paper.{replyOf}
+use Rattle.line.specs.Paper.{numberOf, valuesOf}
 use Rattle.line.specs.declared.Answer.{Answer}
-use Rattle.line.specs.declared.Answer.the-variants.{Nothing, Opened, Accepted, Repeated, Stored, Ended, Dropped, TimedOut, Taken, Busy, Unended, Torn, WrongCheck, BadText, BadNumber, Refusing, OutOfTurn, TooLong, NoCr, NoMessage, NoRoom, NoLine, WrongSize, BeyondLimits, Broken, NothingWaiting, BufferShort, Malformed, NotFitting}
+use Rattle.line.specs.declared.Answer.the-variants.{NoLine}
+use Rattle.line.proofs.Paper.{every-answer}
 use Rattle.gateway.specs.Verdicts.{verdictOf}
 use Rattle.gateway.specs.Events.{Memory, stepOf, lineAt, putBack, freshGateway, eventOf}
 use Rattle.gateway.specs.declared.Event.{Event}
@@ -30,9 +31,6 @@ use Rattle.ngachodui_laws.specs.HostRuns.{HostState, gatewayState, InOrd
 use Rattle.ngachodui.specs.declared.Answered.{Answered}
 use Rattle.ngachodui_laws.proofs.Hosts.{hosts-the-gateway, taking-hosts, fresh-hosts}
 
-nothing-else : {A : Type 0} → _≡_ {A = ℕ} 0 1 → A
-nothing-else z = absurd (omega arith)
-
 -- no event is answered 8, so what an event is told has all that its answer has
 abbrev isGiving : Class → Bool
 isGiving quiet = false
@@ -43,6 +41,10 @@ isGiving accepting = false
 isGiving storing = false
 isGiving against = false
 isGiving gives = true
+
+abbrev isNone : List ℕ → Bool
+isNone [] = true
+isNone (v ∷ vs) = false
 
 never-gives : (v : Verdict) → isGiving (verdictClass v) ≡ false
 never-gives (Left a) = refl
@@ -56,37 +58,23 @@ never-gives (Accepts n) = refl
 never-gives (Stores n) = refl
 never-gives (Against a n) = refl
 
+-- and but for 8 no answer carries values
+abbrev isPlain : Answer → Bool
+isPlain a = isGiving (classOf a) || (not (eqb (numberOf a) 8) && isNone (valuesOf a))
+
+plain-values : (gives eight : Bool) (vs : List ℕ) → gives || (not eight && isNone vs) ≡ true → gives ≡ false → cond eight (0 ∷ 0 ∷ []) [] ≡ vs
+plain-values false false [] p q = refl
+plain-values false false (v ∷ vs) p q = clash cc
+plain-values false true vs p q = clash cc
+plain-values true eight vs p q = clash cc
+
 tells-event : (a : Answer) → isGiving (classOf a) ≡ false → Tells (told a) a
-unfolding told replyOf
-tells-event Nothing h = record { number = refl; reply = refl; values = refl }
-tells-event Opened h = record { number = refl; reply = refl; values = refl }
-tells-event Accepted h = record { number = refl; reply = refl; values = refl }
-tells-event Repeated h = record { number = refl; reply = refl; values = refl }
-tells-event Stored h = record { number = refl; reply = refl; values = refl }
-tells-event Ended h = record { number = refl; reply = refl; values = refl }
-tells-event Dropped h = record { number = refl; reply = refl; values = refl }
-tells-event TimedOut h = record { number = refl; reply = refl; values = refl }
-tells-event (Taken n serial) h = nothing-else (cc h)
-tells-event Busy h = record { number = refl; reply = refl; values = refl }
-tells-event Unended h = record { number = refl; reply = refl; values = refl }
-tells-event Torn h = record { number = refl; reply = refl; values = refl }
-tells-event WrongCheck h = record { number = refl; reply = refl; values = refl }
-tells-event BadText h = record { number = refl; reply = refl; values = refl }
-tells-event BadNumber h = record { number = refl; reply = refl; values = refl }
-tells-event Refusing h = record { number = refl; reply = refl; values = refl }
-tells-event OutOfTurn h = record { number = refl; reply = refl; values = refl }
-tells-event TooLong h = record { number = refl; reply = refl; values = refl }
-tells-event NoCr h = record { number = refl; reply = refl; values = refl }
-tells-event NoMessage h = record { number = refl; reply = refl; values = refl }
-tells-event NoRoom h = record { number = refl; reply = refl; values = refl }
-tells-event NoLine h = record { number = refl; reply = refl; values = refl }
-tells-event WrongSize h = record { number = refl; reply = refl; values = refl }
-tells-event BeyondLimits h = record { number = refl; reply = refl; values = refl }
-tells-event Broken h = record { number = refl; reply = refl; values = refl }
-tells-event NothingWaiting h = record { number = refl; reply = refl; values = refl }
-tells-event BufferShort h = record { number = refl; reply = refl; values = refl }
-tells-event Malformed h = record { number = refl; reply = refl; values = refl }
-tells-event NotFitting h = record { number = refl; reply = refl; values = refl }
+unfolding told
+tells-event a h = record {
+  number = refl;
+  reply = refl;
+  values = plain-values (isGiving (classOf a)) (eqb (numberOf a) 8) (valuesOf a) (every-answer isPlain (λ vs. refl) a) h;
+}
 
 event-gives : (g : Gateway) (e : Event) (m : Memory) → isGiving (classOf (eventOf todaysShares g e m .handled .answer)) ≡ false
 unfolding eventOf stepOf

@@ -2,24 +2,25 @@
 -- Assumes nothing.
 use mathlib.Core.Path.{_≡_, refl, sym, ap, _∙_}
 use mathlib.Core.Logic.{_≢_}
-use mathlib.Core.Bool.{Bool, true, false}
+use mathlib.Core.Bool.{Bool, true, false, not, _||_}
 use mathlib.Core.List.{List}
 use Prim.Native.Nat.{ℕ, _<_}
-use native.Mathlib.Omega.{arith}
 use borrow.Author.Tests.{ltb-true}
 use lib.Dec.{ltb}
 use Rattle.memory.specs.Sizes.{lines}
 use Rattle.memory.specs.Tests.{unless}
+use Rattle.memory.proofs.Tests.{clash}
 use Rattle.journal.specs.Room.{todaysShares}
 use Rattle.journal.specs.Removal.{takeOf as takeEntry}
 use Rattle.line.specs.Paper.{numberOf}
 use Rattle.line.specs.declared.Answer.{Answer}
-use Rattle.line.specs.declared.Answer.the-variants.{Nothing, Opened, Accepted, Repeated, Stored, Ended, Dropped, TimedOut, Taken, Busy, Unended, Torn, WrongCheck, BadText, BadNumber, Refusing, OutOfTurn, TooLong, NoCr, NoMessage, NoRoom, NoLine, WrongSize, BeyondLimits, Broken, NothingWaiting, BufferShort, Malformed, NotFitting}
+use Rattle.line.specs.declared.Answer.the-variants.{Nothing, NoLine, WrongSize, BeyondLimits}
+use Rattle.line.proofs.Paper.{every-answer}
 use Rattle.gateway.specs.Verdicts.{rightSizes, verdictOf}
 use Rattle.gateway.specs.Events.{Memory, AfterStep, AfterTake, stepOf, takeOf}
 use Rattle.gateway.specs.declared.Event.{Event}
 use Rattle.gateway.specs.declared.Verdict.the-variants.{Left}
-use Rattle.gateway_laws.specs.Classes.{classOf, quiet}
+use Rattle.gateway_laws.specs.Classes.{Class, classOf, quiet, opening, closing, refusing, accepting, storing, against, taking as gives}
 use Rattle.gateway_laws.proofs.Laws.{left-unchanged, refused-unchanged}
 use Rattle.gateway_laws.proofs.Takings.{taking-refused}
 use Rattle.ngachodui.specs.Plain.{lineOf, ledgerOf, withinNumbers, withUsed, told}
@@ -29,43 +30,33 @@ use Rattle.ngachodui.specs.declared.Answered.{Answered}
 use Rattle.ngachodui.proofs.Numbers.{numbers-back, used-back}
 use Rattle.ngachodui_laws.proofs.Hosts.{put-unchanged, tells}
 
-nothing-else : {A : Type 0} → _≡_ {A = ℕ} 0 1 → A
-nothing-else z = absurd (omega arith)
-
 -- 20 and 40 to 47 are the answers that leave everything, but for an event that is ignored or only collected
+abbrev isQuiet : Class → Bool
+isQuiet quiet = true
+isQuiet opening = false
+isQuiet closing = false
+isQuiet refusing = false
+isQuiet accepting = false
+isQuiet storing = false
+isQuiet against = false
+isQuiet gives = false
+
+the-quiet : (refused : Bool) (c : Class) → not refused || isQuiet c ≡ true → refused ≡ true → c ≡ quiet
+the-quiet true quiet p q = refl
+the-quiet true opening p q = clash cc
+the-quiet true closing p q = clash cc
+the-quiet true refusing p q = clash cc
+the-quiet true accepting p q = clash cc
+the-quiet true storing p q = clash cc
+the-quiet true against p q = clash cc
+the-quiet true gives p q = clash cc
+the-quiet false c p q = clash cc
+
 refusal-class : (a : Answer) → isRefusal (numberOf a) ≡ true → classOf a ≡ quiet
-refusal-class Nothing h = refl
-refusal-class Opened h = nothing-else (cc h)
-refusal-class Accepted h = nothing-else (cc h)
-refusal-class Repeated h = nothing-else (cc h)
-refusal-class Stored h = nothing-else (cc h)
-refusal-class Ended h = nothing-else (cc h)
-refusal-class Dropped h = nothing-else (cc h)
-refusal-class TimedOut h = nothing-else (cc h)
-refusal-class (Taken n serial) h = nothing-else (cc h)
-refusal-class Busy h = refl
-refusal-class Unended h = nothing-else (cc h)
-refusal-class Torn h = nothing-else (cc h)
-refusal-class WrongCheck h = nothing-else (cc h)
-refusal-class BadText h = nothing-else (cc h)
-refusal-class BadNumber h = nothing-else (cc h)
-refusal-class Refusing h = nothing-else (cc h)
-refusal-class OutOfTurn h = nothing-else (cc h)
-refusal-class TooLong h = nothing-else (cc h)
-refusal-class NoCr h = nothing-else (cc h)
-refusal-class NoMessage h = nothing-else (cc h)
-refusal-class NoRoom h = nothing-else (cc h)
-refusal-class NoLine h = refl
-refusal-class WrongSize h = refl
-refusal-class BeyondLimits h = refl
-refusal-class Broken h = refl
-refusal-class NothingWaiting h = refl
-refusal-class BufferShort h = refl
-refusal-class Malformed h = refl
-refusal-class NotFitting h = refl
+refusal-class a h = the-quiet (isRefusal (numberOf a)) (classOf a) (every-answer (λ b. not (isRefusal (numberOf b)) || isQuiet (classOf b)) (λ vs. refl) a) h
 
 not-nothing : (a : Answer) → isRefusal (numberOf a) ≡ true → a ≢ Nothing
-not-nothing a h q = let z : false ≡ true = ap (λ (x : Answer). isRefusal (numberOf x)) (sym q) ∙ h in nothing-else (cc z)
+not-nothing a h q = let z : false ≡ true = ap (λ (x : Answer). isRefusal (numberOf x)) (sym q) ∙ h in clash cc
 
 -- a call that changes neither number nor byte
 abbrev pub same : List ℕ → List ℕ → Memory → AfterCall → AfterCall

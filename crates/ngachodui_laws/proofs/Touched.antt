@@ -22,7 +22,7 @@ use Rattle.gateway.specs.Verdicts.{verdictOf}
 use Rattle.gateway.specs.Events.{Memory, stepOf}
 use Rattle.gateway.specs.declared.Event.{Event}
 use Rattle.gateway.specs.declared.Verdict.{Verdict}
-use Rattle.gateway.specs.declared.Verdict.the-variants.{Left, Opens, Closes, Begins, Counts, Collects, Refuses, Accepts, Stores, Against}
+use Rattle.gateway_laws.proofs.Rows.{store-rows}
 
 -- one line's used count and serial are set, and nothing of another line
 pub record Touched (d : Ledger) (i : ℕ) (d′ : Ledger) : Type 0 where
@@ -47,16 +47,7 @@ module _ (d : Ledger) (i : ℕ) (h : i < lines) (u : length (d .used) ≡ lines)
   by-storing n = record { used = one-set (d .used) i _ u h; serials = one-set (d .serials) i _ s h }
 
   by-verdict : (v : Verdict) (text : ℕ → List ℕ) → Touched d i (ledgerAfter v d i text)
-  by-verdict (Left a) text = as-it-was
-  by-verdict Opens text = as-it-was
-  by-verdict (Closes a) text = as-it-was
-  by-verdict Begins text = as-it-was
-  by-verdict (Counts n) text = as-it-was
-  by-verdict Collects text = as-it-was
-  by-verdict (Refuses a) text = as-it-was
-  by-verdict (Accepts n) text = as-it-was
-  by-verdict (Stores n) text = by-storing (length (text n))
-  by-verdict (Against a n) text = as-it-was
+  by-verdict v text = store-rows d i text [] (λ v ledger journal. Touched d i ledger) (λ v. as-it-was) (λ n. by-storing (length (text n))) v
 
 -- a taking: no serial moves
 module _ (d : Ledger) (i : ℕ) (h : i < lines) (u : length (d .used) ≡ lines) where

@@ -4,9 +4,10 @@ use Prim.Native.Nat.{ℕ, zero, suc, _+_, _*_, _<_}
 use mathlib.Core.Path.{_≡_}
 use mathlib.Core.Bool.{Bool, true, cond, _||_}
 use mathlib.Core.List.{List, [], _∷_}
-use lib.Dec.{leb, eqb}
+use lib.Dec.{eqb}
 use lib.ListN.{length}
 use Rattle.memory.specs.Sizes.{lines}
+use Rattle.memory.specs.Tests.{between}
 use Rattle.line.specs.Paper.{numberOf, valuesOf, replyOf}
 use Rattle.line.specs.declared.Answer.{Answer}
 use Rattle.line.specs.declared.Line.{Line}
@@ -56,4 +57,4 @@ pub record HostsTaking (ns us′ j′ b′ : List ℕ) (r : Answered) (x : After
 
 -- the numbers of refusals: 20 and 40 to 47
 abbrev pub isRefusal : ℕ → Bool
-isRefusal n = eqb n 20 || leb 40 n
+isRefusal n = eqb n 20 || between 40 47 n
