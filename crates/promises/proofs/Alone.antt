@@ -1,10 +1,9 @@
 -- One line alone, over runs: where messages are stored on no other, it can use 18,432 bytes of the journal, and no more.
 -- Assumes nothing.
 use mathlib.Core.Path.{_≡_, refl, sym, ap, _∙_}
-use mathlib.Core.Logic.{_≢_}
 use mathlib.Core.Bool.{Bool, true, false, true≢false, cond}
 use mathlib.Core.List.{List, [], _∷_, _++_}
-use Prim.Native.Nat.{ℕ, _+_, _-_, _≤_, _<_}
+use Prim.Native.Nat.{ℕ, _+_, _≤_, _<_}
 use native.Mathlib.Decide.{decLe}
 use native.Mathlib.Omega.{arith}
 use lib.Dec.{eqb}
@@ -19,9 +18,9 @@ use Rattle.journal.proofs.Totals.{raised-own, raised-other}
 use Rattle.journal.proofs.Wholes.{whole-facts}
 use Rattle.gateway.specs.Events.{Memory}
 use Rattle.gateway.specs.declared.Kind.{Kind}
-use Rattle.serial.specs.Serial.{event, final, Every}
-use Rattle.promises.specs.Machine.{State, GatewayItem, step, Sound, May}
-use Rattle.promises.specs.Runs.{RightSizes, fresh, answered, textWith, Completes, usedBy, usedWith, mostAlone}
+use Rattle.serial.specs.Serial.{final, Every}
+use Rattle.promises.specs.Machine.{State, GatewayItem, came, step, Sound, May}
+use Rattle.promises.specs.Runs.{RightSizes, fresh, answered, Completes, usedBy, usedWith, mostAlone}
 use Rattle.promises.specs.Queue.{allTaken}
 use Rattle.promises.specs.Freed.{Alone}
 use Rattle.promises.proofs.Runs.{no-space, space, always-sound}
@@ -67,12 +66,12 @@ module _ (m : Memory) (sizes : RightSizes m) (es : List GatewayItem) (may : Ever
       grown-others c q x = raised-other (s .gateway .ledger .used) i (entrySize n) (w .held .lines-used) line c x ∙ no-others c q x
 
     -- where messages are stored on one line alone, 31 comes only for what would use more than 18,432 bytes, and 4 only for what does not
-    pub alone-refused : answered ((step s (event i k)) .0) ≡ 31 → Completes s i k (λ n. mostAlone < usedWith s i n)
+    pub alone-refused : answered ((step s (came i k)) .0) ≡ 31 → Completes s i k (λ n. mostAlone < usedWith s i n)
     alone-refused e =
         let x = no-space s w i k line e in
-        let n = length (textWith s i (x .from-frame)) in
+        let n = length (x .text) in
         record {
-          from-frame = x .from-frame;
+          text = x .text;
           complete = x .complete;
           such = elim (decLe (usedWith s i n) mostAlone) [
             | yes within ↦ absurd (true≢false (sym (today-reaches (grown n) i line (grown-others n) (omega (arith, grown-own n, within))) ∙ x .such))
@@ -80,12 +79,12 @@ module _ (m : Memory) (sizes : RightSizes m) (es : List GatewayItem) (may : Ever
           ];
         }
 
-    pub alone-stored : answered ((step s (event i k)) .0) ≡ 4 → Completes s i k (λ n. usedWith s i n ≤ mostAlone)
+    pub alone-stored : answered ((step s (came i k)) .0) ≡ 4 → Completes s i k (λ n. usedWith s i n ≤ mostAlone)
     alone-stored e =
         let x = space s w i k line e in
-        let n = length (textWith s i (x .from-frame)) in
+        let n = length (x .text) in
         record {
-          from-frame = x .from-frame;
+          text = x .text;
           complete = x .complete;
           such = elim (decLe (usedWith s i n) mostAlone) [
             | yes within ↦ within

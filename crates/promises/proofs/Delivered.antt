@@ -4,11 +4,11 @@ use mathlib.Core.Path.{_≡_, refl, sym, ap, _∙_}
 use mathlib.Core.Logic.{_≢_}
 use mathlib.Core.Bool.{true, false}
 use mathlib.Core.List.{List, [], _∷_, _++_, map, append-assoc}
-use Prim.Native.Nat.{ℕ, _+_, _-_, _≤_}
+use Prim.Native.Nat.{ℕ, _+_, _≤_}
 use native.Mathlib.Omega.{arith}
 use borrow.Author.Tests.{ne-eqb}
 use lib.ListN.{length, take, length-append}
-use Rattle.memory.specs.Sizes.{frameLimit, framePart, messageLimit}
+use Rattle.memory.specs.Sizes.{framePart, messageLimit}
 use Rattle.memory.specs.Parts.{part, splice}
 use Rattle.memory.specs.Tests.{all}
 use Rattle.memory.proofs.Parts.{part-start, take-through, length-splice}
@@ -33,6 +33,7 @@ use Rattle.gateway.specs.Looks.{endLook}
 use Rattle.gateway.specs.declared.Look.the-variants.{Done}
 use Rattle.gateway.specs.declared.Verdict.the-variants.{Accepts}
 use Rattle.promises.specs.Machine.{told}
+use Rattle.promises.specs.Sending.{Usable}
 use Rattle.promises.proofs.Feeding.{feed, ended, unanswered, ready, own-text, last, sent}
 
 -- the line waits for a frame with this number, with nothing joined
@@ -77,8 +78,8 @@ pub record Going (x y : List ℕ) (number : ℕ) (l : Line) (texts frames : List
   pub held : part texts 0 (length x) ≡ x
 
 -- one frame of it, with the first n bytes of what is to come
-module _ (i : ℕ) (j : Store) (x t y : List ℕ) (number : ℕ) (end : End) (l : Line) (texts frames : List ℕ) (g : Going x (t ++ y) number l texts frames)
-    (room : length t + aroundText ≤ frameLimit) where
+module _ (limit : ℕ) (usable : Usable limit) (i : ℕ) (j : Store) (x t y : List ℕ) (number : ℕ) (end : End) (l : Line) (texts frames : List ℕ) (g : Going x (t ++ y) number l texts frames)
+    (room : length t + aroundText ≤ limit) where
   pub clean : all allowed t ≡ true
   clean =
       let whole = message-allowed standard (x ++ (t ++ y)) (g .message) in
@@ -92,10 +93,10 @@ module _ (i : ℕ) (j : Store) (x t y : List ℕ) (number : ℕ) (end : End) (l 
   most-joined = rw (g .joined) most
 
   pub one-sent : feed i (ready i j l texts frames) j (frameOf number end t)
-      ≡ ended (map unanswered (stx ∷ early number end t)) (last i j l texts number end t frames room (g .low) clean (g .frames-long) (endLook end (length t) (x ++ t)))
+      ≡ ended (map unanswered (stx ∷ early number end t)) (last i j l texts limit usable number end t frames room (g .low) clean (g .frames-long) (endLook end (length t) (x ++ t)))
   one-sent =
-      sent i j l texts number end t frames room (g .low) clean (g .frames-long) (g .refusing) (g .new) (g .next) most-joined
-      ∙ ap (λ (u : List ℕ). ended (map unanswered (stx ∷ early number end t)) (last i j l texts number end t frames room (g .low) clean (g .frames-long) (endLook end (length t) (u ++ t))))
+      sent i j l texts limit usable number end t frames room (g .low) clean (g .frames-long) (g .refusing) (g .new) (g .next) most-joined
+      ∙ ap (λ (u : List ℕ). ended (map unanswered (stx ∷ early number end t)) (last i j l texts limit usable number end t frames room (g .low) clean (g .frames-long) (endLook end (length t) (u ++ t))))
       (ap (part texts 0) (g .joined) ∙ g .held)
 
   -- a frame that is joined: what is left is a line that waits for the next one
@@ -108,15 +109,15 @@ module _ (i : ℕ) (j : Store) (x t y : List ℕ) (number : ℕ) (end : End) (l 
   abbrev pub frames-then : List ℕ
   frames-then = splice (splice frames 0 (early number end t)) (length (early number end t)) (lf ∷ [])
 
-  pub accepted : last i j l texts number end t frames room (g .low) clean (g .frames-long) (Done (Accepts (length t))) ≡ (told Accepted [], ready i j line-then texts-then frames-then, j)
+  pub accepted : last i j l texts limit usable number end t frames room (g .low) clean (g .frames-long) (Done (Accepts (length t))) ≡ (told Accepted [], ready i j line-then texts-then frames-then, j)
   accepted =
       ap (λ (u : List ℕ). (told Accepted [], ready i j line-then (splice texts (l .joined) u) frames-then, j))
-      (own-text i j l texts number end t frames room (g .low) clean (g .frames-long))
+      (own-text i j l texts limit usable number end t frames room (g .low) clean (g .frames-long))
 
   two-long : length frames-then ≡ framePart
   two-long =
-      let once = length-splice frames 0 (early number end t) (omega (arith, long number end t, g .frames-long)) in
-      length-splice (splice frames 0 (early number end t)) (length (early number end t)) (lf ∷ []) (omega (arith, once, long number end t, g .frames-long)) ∙ once ∙ g .frames-long
+      let once = length-splice frames 0 (early number end t) (omega (arith, usable, long number end t, g .frames-long)) in
+      length-splice (splice frames 0 (early number end t)) (length (early number end t)) (lf ∷ []) (omega (arith, usable, once, long number end t, g .frames-long)) ∙ once ∙ g .frames-long
 
   pub going-on : Going (x ++ t) y (nextNumber number) line-then texts-then frames-then
   going-on =

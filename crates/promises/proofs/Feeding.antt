@@ -35,6 +35,7 @@ use Rattle.gateway.specs.Verdicts.{decided, ownWork}
 use Rattle.gateway.specs.declared.Kind.the-variants.{Byte}
 use Rattle.gateway.specs.declared.Look.{Look}
 use Rattle.promises.specs.Machine.{Told, told, Parts, left, onEvent}
+use Rattle.promises.specs.Sending.{Usable}
 
 -- bytes on line i, one behind the other: the answers, and what is left
 abbrev pub feed : ℕ → Parts → Store → List ℕ → List Told × Parts × Store
@@ -158,13 +159,13 @@ module _ (i : ℕ) (j : Store) (l : Line) (texts : List ℕ) where
       ∙ (λ z. (unanswered b ∷ map unanswered bs, inside (count z) (joined z), j))
 
   -- at its LF a frame that was written by us and is next in turn is whole: its end and the line's text with its own say what comes of it
-  module _ (number : ℕ) (end : End) (text frames : List ℕ) (room : length text + aroundText ≤ frameLimit) (low : number ≤ mostNumber) (clean : all allowed text ≡ true)
+  module _ (limit : ℕ) (usable : Usable limit) (number : ℕ) (end : End) (text frames : List ℕ) (room : length text + aroundText ≤ limit) (low : number ≤ mostNumber) (clean : all allowed text ≡ true)
       (size : length frames ≡ framePart) where
     abbrev held : List ℕ
     held = splice frames 0 (early number end text)
 
     fits : 0 + length (early number end text) ≤ length frames
-    fits = omega (arith, long number end text)
+    fits = omega (arith, usable, long number end text)
 
     all-held : part held 0 (length (early number end text)) ≡ early number end text
     all-held = part-splice frames 0 (early number end text) fits
@@ -180,7 +181,7 @@ module _ (i : ℕ) (j : Store) (l : Line) (texts : List ℕ) where
         → lookOf (inside (length (early number end text)) held .line) (Byte lf) texts held ≡ endLook end (length text) (part texts 0 (l .joined) ++ text)
     unfolding byteLook insideLook frameLook turnOf
     judged kind new next most =
-        let shape = ap (shapeOf frameLimit) (sym (spelt number end text)) ∙ read-back number end text frameLimit low clean room in
+        let shape = ap (shapeOf frameLimit) (sym (spelt number end text)) ∙ read-back number end text frameLimit low clean (omega (arith, usable)) in
         rw (all-held, shape, kind, new, eq-eqb number (l .next) next, le-leb (l .joined + length text) messageLimit most)
         (ap (λ (x : List ℕ). endLook end (length text) (part texts 0 (l .joined) ++ x)) own-text)
 
@@ -197,7 +198,7 @@ module _ (i : ℕ) (j : Store) (l : Line) (texts : List ℕ) where
     sent kind new next most =
         let n = length (early number end text) in
         let opened = begins frames in
-        let all-of-it = collected-all (early number end text) 0 frames (early-clear number end text clean) (omega (arith, long number end text)) fits in
+        let all-of-it = collected-all (early number end text) 0 frames (early-clear number end text clean) (omega (arith, usable, long number end text)) fits in
         let from-none : 0 + n ≡ n = omega arith in
         let look = judged kind new next most in
         ap (λ (bs : List ℕ). feed i (ready frames) j (stx ∷ bs)) (spelt number end text)

@@ -4,10 +4,10 @@ use mathlib.Core.Path.{_≡_, refl, sym, ap, subst, _∙_}
 use mathlib.Core.Bool.{Bool, true, false, true≢false}
 use mathlib.Core.List.{List, [], _∷_, _++_}
 use mathlib.Core.Option.{Option, none, some}
-use Prim.Native.Nat.{ℕ, _+_, _<_}
+use Prim.Native.Nat.{ℕ, _<_}
 use native.Mathlib.Omega.{arith}
 use lib.ListN.{length, getD, replicate, length-append, length-replicate}
-use Rattle.memory.specs.Sizes.{journalSize, unfinishedSize, framesSize}
+use Rattle.memory.specs.Sizes.{frameLimit, journalSize, unfinishedSize, framesSize}
 use Rattle.frame.specs.Check.{checkOf, hexDigit, digitsOf, total}
 use Rattle.frame.specs.Number.{nextNumber}
 use Rattle.frame.specs.Writing.{bodyOf, tailOf, collectedOf, frameOf}
@@ -24,9 +24,9 @@ use Rattle.line.specs.Paper.{enq, valuesOf, replyOf}
 use Rattle.line.specs.declared.Answer.{Answer}
 use Rattle.line.specs.declared.Answer.the-variants.{Nothing, Taken}
 use Rattle.gateway.specs.Events.{Memory, memoryOf}
-use Rattle.gateway.specs.declared.Kind.the-variants.{Byte as Came}
-use Rattle.serial.specs.Serial.{event, taking, final}
-use Rattle.promises.specs.Machine.{State, Told, told, GatewayItem, step}
+use Rattle.gateway.specs.declared.Kind.the-variants.{Byte}
+use Rattle.serial.specs.Serial.{taking, final}
+use Rattle.promises.specs.Machine.{State, Told, told, GatewayItem, came, step}
 use Rattle.promises.specs.Runs.{RightSizes, fresh, replied, isAck}
 use Rattle.promises.specs.Examples.{both, holds}
 use Rattle.promises.specs.Sending.{Runner, bytesOn, sending, sendingReplies, newEntries, HasRoom, Intact, DeliversBy, Demand2, GivesBack}
@@ -57,7 +57,7 @@ intact : Intact (fresh memory)
 intact = sound-intact (fresh memory) (fresh-sound memory right)
 
 module _ (f : Runner) (promise : Demand2 f) where
-  delivered : DeliversBy f (fresh memory) 0 (sending both) (sendingReplies both) (both ∷ []) (intact .entries)
+  delivered : DeliversBy f (fresh memory) 0 (sending frameLimit both) (sendingReplies frameLimit both) (both ∷ []) (intact .entries)
   delivered = promise 0 (omega arith) (fresh memory) intact refl both is-message room
 
 abbrev ackAt : ℕ → List Told → Bool
@@ -79,13 +79,13 @@ longer es fs gs h e = omega (arith, h, length-append es fs, length-append es gs,
 -- NAK to all, or no reply at all: ENQ on a fresh line is to be acknowledged
 pub never-acknowledges : (f : Runner) → ((s : State) (e : GatewayItem) → isAck (replied ((f s e) .0)) ≡ false) → Demand2 f → ⊥
 unfolding replyOf
-never-acknowledges f fraud promise = true≢false (sym (ap (ackAt 0) (delivered f promise .answered)) ∙ fraud (fresh memory) (event 0 (Came enq)))
+never-acknowledges f fraud promise = true≢false (sym (ap (ackAt 0) (delivered f promise .answered)) ∙ fraud (fresh memory) (came 0 (Byte enq)))
 
 -- ACK to all: the bytes within a frame are not to be answered
 pub always-acknowledges : (f : Runner) → ((s : State) (e : GatewayItem) → isAck (replied ((f s e) .0)) ≡ true) → Demand2 f → ⊥
 unfolding replyOf total checkOf hexDigit digitsOf nextNumber bodyOf tailOf collectedOf frameOf cutOf piecesOf
 always-acknowledges f fraud promise =
-    true≢false (sym (fraud ((f (fresh memory) (event 0 (Came enq))) .1) (event 0 (Came 0x02))) ∙ ap (ackAt 1) (delivered f promise .answered))
+    true≢false (sym (fraud ((f (fresh memory) (came 0 (Byte enq))) .1) (came 0 (Byte 0x02))) ∙ ap (ackAt 1) (delivered f promise .answered))
 
 -- doing nothing, whatever is answered, and so acknowledging without storing: the message is to be in the journal
 stays : (f : Runner) → ((s : State) (e : GatewayItem) → (f s e) .1 ≡ s) → (es : List GatewayItem) (s : State) → final f s es ≡ s
@@ -95,7 +95,7 @@ stays f fraud (e ∷ es) s = ap (λ (t : State). final f t es) (fraud s e) ∙ s
 pub changes-nothing : (f : Runner) → ((s : State) (e : GatewayItem) → (f s e) .1 ≡ s) → Demand2 f → ⊥
 changes-nothing f fraud promise =
     let d = fresh memory .gateway .ledger in
-    let held-then = subst (λ (t : State). Held todaysShares (t .gateway .ledger) (t .memory .journal) (intact .entries ++ newEntries d 0 (both ∷ []))) (stays f fraud (bytesOn 0 (sending both)) (fresh memory)) (delivered f promise .held) in
+    let held-then = subst (λ (t : State). Held todaysShares (t .gateway .ledger) (t .memory .journal) (intact .entries ++ newEntries d 0 (both ∷ []))) (stays f fraud (bytesOn 0 (sending frameLimit both)) (fresh memory)) (delivered f promise .held) in
     let same = held-once d (fresh memory .memory .journal) (intact .entries) (intact .entries ++ newEntries d 0 (both ∷ [])) (room-held (fresh memory) intact 0 (omega arith) (both ∷ []) room) held-then in
     omega (arith, length-append (intact .entries) (newEntries d 0 (both ∷ [])), ap (λ (xs : List Entry). length xs) same)
 

@@ -3,7 +3,7 @@
 -- Assumes nothing.
 use mathlib.Core.Path.{_≡_, refl, sym, ap, _∙_}
 use mathlib.Core.Logic.{_≢_, _⊎_, inl, inr}
-use mathlib.Core.Bool.{Bool, true, false, true≢false}
+use mathlib.Core.Bool.{Bool, false, true≢false}
 use mathlib.Core.List.{List, []}
 use Prim.Native.Nat.{ℕ, _+_, _-_, _≤_, _<_}
 use native.Mathlib.Nat.{le-trans}
@@ -29,9 +29,9 @@ use Rattle.line.specs.declared.Answer.{Answer}
 use Rattle.line.specs.declared.Answer.the-variants.{Taken as Answer8}
 use Rattle.gateway.specs.Events.{Memory, tookAnswer, takeOf}
 use Rattle.gateway.specs.declared.Kind.{Kind}
-use Rattle.serial.specs.Serial.{event, taking, final, Every}
-use Rattle.promises.specs.Machine.{State, GatewayItem, step, Sound, May}
-use Rattle.promises.specs.Runs.{RightSizes, fresh, answered, textWith, NoSpace, Larger, usedBy}
+use Rattle.serial.specs.Serial.{taking, final, Every}
+use Rattle.promises.specs.Machine.{State, GatewayItem, came, step, Sound, May}
+use Rattle.promises.specs.Runs.{RightSizes, fresh, answered, NoSpace, Larger, usedBy}
 use Rattle.promises.specs.Freed.{takenThen, Frees}
 use Rattle.promises.proofs.Kept.{keeps}
 use Rattle.promises.proofs.Runs.{no-space, stays-sound, always-sound}
@@ -111,17 +111,17 @@ module _ (s : State) (w : Sound s) (l : ℕ) (line : l < lines) (b : List ℕ) (
 
   larger : (i : ℕ) (k : Kind) → NoSpace then i k → ((m : ℕ) → entrySize m ≤ entrySize n → claims todaysShares (raised after-it i (entrySize m)) ≤ journalSize) → Larger then i k n
   larger i k x enough = record {
-    from-frame = x .from-frame;
+    text = x .text;
     complete = x .complete;
-    such = elim (decLe (entrySize (length (textWith then i (x .from-frame)))) (entrySize n)) [
+    such = elim (decLe (entrySize (length (x .text))) (entrySize n)) [
       | yes small ↦
-          absurd (true≢false (sym (le-leb (claims todaysShares (raised after-it i (entrySize (length (textWith then i (x .from-frame)))))) journalSize (enough (length (textWith then i (x .from-frame))) small)) ∙ x .such))
+          absurd (true≢false (sym (le-leb (claims todaysShares (raised after-it i (entrySize (length (x .text))))) journalSize (enough (length (x .text)) small)) ∙ x .such))
       | no large ↦ omega arith
     ];
   }
 
   -- on the line itself
-  serves : (k : Kind) → answered ((step then (event l k)) .0) ≡ 31 → Larger then l k n
+  serves : (k : Kind) → answered ((step then (came l k)) .0) ≡ 31 → Larger then l k n
   serves k e = larger l k (no-space then sound-then l k line e)
       (λ m small. le-trans
       (claims-le todaysShares (raised after-it l (entrySize m)) before-it
@@ -132,7 +132,7 @@ module _ (s : State) (w : Sound s) (l : ℕ) (line : l < lines) (b : List ℕ) (
       (w .held .claimed))
 
   -- on any other, where the whole entry lay beyond its own line's share
-  serves-others : share + entrySize n ≤ usedBy s l → (i : ℕ) → i < lines → (k : Kind) → answered ((step then (event i k)) .0) ≡ 31 → Larger then i k n
+  serves-others : share + entrySize n ≤ usedBy s l → (i : ℕ) → i < lines → (k : Kind) → answered ((step then (came i k)) .0) ≡ 31 → Larger then i k n
   serves-others beyond i other k e = larger i k (no-space then sound-then i k other e)
       (λ m small.
       let u = set before-it l (getD before-it l 0 - entrySize n) in
@@ -164,10 +164,10 @@ module _ (m : Memory) (sizes : RightSizes m) (es : List GatewayItem) (may : Ever
   -- after a run and a taking that gave n bytes from line l, a message on that line that takes no more room than those is not refused for room, whatever came in
   -- between that stored nothing
   pub freed-own : (l : ℕ) → l < lines → (b : List ℕ) (n : ℕ) (fs : List GatewayItem) → Every May fs → Frees s l b n fs → (k : Kind)
-      → answered ((step (takenThen s l b fs) (event l k)) .0) ≡ 31 → Larger (takenThen s l b fs) l k n
+      → answered ((step (takenThen s l b fs) (came l k)) .0) ≡ 31 → Larger (takenThen s l b fs) l k n
   freed-own l line b n fs may′ frees k e = serves s w l line b n fs may′ frees k e
 
   -- nor is one on any other line, where what was taken lay beyond its own line's share
   pub freed-others : (l : ℕ) → l < lines → (b : List ℕ) (n : ℕ) (fs : List GatewayItem) → Every May fs → Frees s l b n fs → share + entrySize n ≤ usedBy s l
-      → (i : ℕ) → i < lines → (k : Kind) → answered ((step (takenThen s l b fs) (event i k)) .0) ≡ 31 → Larger (takenThen s l b fs) i k n
+      → (i : ℕ) → i < lines → (k : Kind) → answered ((step (takenThen s l b fs) (came i k)) .0) ≡ 31 → Larger (takenThen s l b fs) i k n
   freed-others l line b n fs may′ frees beyond i other k e = serves-others s w l line b n fs may′ frees beyond i other k e

@@ -7,7 +7,7 @@ use Prim.Native.Nat.{ℕ, _≤_, _<_}
 use native.Mathlib.Omega.{arith}
 use borrow.Author.Tests.{eq-eqb}
 use lib.ListN.{length, getD}
-use Rattle.memory.specs.Sizes.{lines}
+use Rattle.memory.specs.Sizes.{lines, frameLimit}
 use Rattle.memory.specs.Parts.{splice}
 use Rattle.record.specs.Delimiters.{standard}
 use Rattle.record.specs.Faults.{isMessage}
@@ -89,9 +89,9 @@ in-turn s w i h ds fs x held own es may as-many b room =
 
 -- so a message that we cut and sent is given back, byte for byte
 pub given-back : (i : ℕ) → i < lines → (s : State) (w : Intact s) → lineAt (s .gateway) i ≡ freshLine → (m : List ℕ) → isMessage standard m ≡ true → HasRoom s i (m ∷ [])
-    → (es : List GatewayItem) → Every May es → length (allTaken i (final step s (bytesOn i (sending m))) es) ≡ length (waiting i (w .entries)) → (b : List ℕ) → length m ≤ length b
-    → GivesBack (final step (final step s (bytesOn i (sending m))) es) i b (getD (s .gateway .ledger .serials) i 0) m
+    → (es : List GatewayItem) → Every May es → length (allTaken i (final step s (bytesOn i (sending frameLimit m))) es) ≡ length (waiting i (w .entries)) → (b : List ℕ) → length m ≤ length b
+    → GivesBack (final step (final step s (bytesOn i (sending frameLimit m))) es) i b (getD (s .gateway .ledger .serials) i 0) m
 given-back i h s w fresh m message room es may as-many b long =
     let d = sent i h s w fresh m message room in
-    let s₁ = final step s (bytesOn i (sending m)) in
-    in-turn s₁ (stays-sound s (bytesOn i (sending m)) (room-sound s w i h (m ∷ []) room) (bytes-may i h (sending m))) i h (w .entries) [] (record { line = i; serial = getD (s .gateway .ledger .serials) i 0; text = m }) (d .held) refl es may as-many b long
+    let s₁ = final step s (bytesOn i (sending frameLimit m)) in
+    in-turn s₁ (stays-sound s (bytesOn i (sending frameLimit m)) (room-sound s w i h (m ∷ []) room) (bytes-may i h (sending frameLimit m))) i h (w .entries) [] (record { line = i; serial = getD (s .gateway .ledger .serials) i 0; text = m }) (d .held) refl es may as-many b long

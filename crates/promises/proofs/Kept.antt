@@ -10,27 +10,49 @@ use native.Mathlib.Omega.{arith}
 use lib.ListN.{length-set, length-replicate, getD-replicate}
 use lib.Seq.{getD-set-other, getD-set-same}
 use Rattle.memory.specs.Sizes.{lines}
+use Rattle.record.specs.Delimiters.{standard}
+use Rattle.record.proofs.Messages.{message-some, message-short}
+use Rattle.journal.specs.Entries.{Entry}
 use Rattle.journal.specs.Room.{todaysShares}
+use Rattle.journal.specs.Held.{Held}
+use Rattle.journal.specs.Runs.{State as Store}
 use Rattle.journal.specs.Removal.{AfterTaking, takeOf as takeEntry}
 use Rattle.journal.proofs.Cases.{Gives, Keeps, take-cases}
 use Rattle.journal.proofs.Guarantees.{fresh-today}
+use Rattle.journal.proofs.Keeps.{store-held}
 use Rattle.line.specs.Line.{withinLimits, freshLine}
 use Rattle.line.proofs.Limits.{within-facts, within-of, fresh-within}
-use Rattle.gateway.specs.Views.{framesOf, textsOf}
-use Rattle.gateway.specs.Looks.{lookOf}
-use Rattle.gateway.specs.Verdicts.{ownWork}
 use Rattle.gateway.specs.Settled.{lineAfter}
 use Rattle.gateway.specs.Events.{Memory, memoryOf, settle, lineAt, noRecord, AfterEvent, putBack, takeOf}
 use Rattle.gateway.specs.declared.Kind.{Kind}
-use Rattle.gateway.proofs.Views.{own-parts}
-use Rattle.gateway.proofs.Fits.{look-fits}
 use Rattle.gateway_laws.proofs.Laws.{line-within}
 use Rattle.gateway_laws.proofs.Others.{texts-length, frames-length}
 use Rattle.serial.specs.Serial.{event, taking}
-use Rattle.promises.specs.Machine.{State, onLine, afterEvent, step, GatewayItem, Sound, May}
+use Rattle.promises.specs.Machine.{State, onLine, afterEvent, step, GatewayItem, came, storeOf, Sound, May}
 use Rattle.promises.specs.Runs.{RightSizes, fresh}
+use Rattle.promises.specs.Came.{store, Came, quiet, stored, crowded, against}
 use Rattle.promises.proofs.Sound.{work, ready, fitting, event-is}
-use Rattle.promises.proofs.Decided.{Holds, look-holds}
+use Rattle.promises.proofs.Came.{comes-to}
+
+-- the journal is whole and keeps every share, whatever it holds
+record Holds (j : Store) : Type 0 where
+  entries : List Entry
+  held : Held todaysShares (j .ledger) (j .journal) entries
+
+-- it is so after every event: only a message is stored, and only with room for it
+came-holds : (s : State) (w : Sound s) (i : ℕ) (k : Kind) → i < lines → Came s i k → Holds (store s i k)
+came-holds s w i k h c = by-case c
+  where
+    same : Holds (storeOf s)
+    same = record { entries = w .entries; held = w .held }
+
+    by-case : Came s i k → Holds (store s i k)
+    by-case (quiet x) = subst Holds (sym (x .kept)) same
+    by-case (stored t m room x) =
+        let one = store-held todaysShares (s .gateway .ledger) i t (s .memory .journal) (w .entries) (w .held) h (message-some standard t m) (message-short standard t m) room in
+        subst Holds (sym (x .left)) (record { entries = _; held = one })
+    by-case (crowded t m room x) = subst Holds (sym (x .left)) same
+    by-case (against t m x) = subst Holds (sym (x .left)) same
 
 module _ (s : State) (w : Sound s) where
   module _ (i : ℕ) (k : Kind) (h : i < lines) where
@@ -49,16 +71,10 @@ module _ (s : State) (w : Sound s) where
       | no q ↦ rw (getD-set-other (s .gateway .lines) i l (lineAfter (work s w i k h) (lineAt (s .gateway) i)) noRecord q) (w .within l m)
     ]
 
-    holds : Holds (after .gateway .ledger) (after .memory .journal)
-    unfolding ownWork
-    holds =
-        let texts = textsOf i (s .memory .unfinished) in
-        let frames = framesOf i (s .memory .frames) in
-        let l = lineAt (s .gateway) i in
-        look-holds (s .gateway .ledger) i (s .memory .journal) (w .entries) (w .held) h l texts frames (lookOf l k texts frames)
-        (look-fits l texts frames (own-parts l i (s .memory .unfinished) (s .memory .frames) (ready s w i k h)) k)
+    holds : Holds (storeOf after)
+    holds = subst (λ (x : AfterEvent). Holds (storeOf ((afterEvent x) .1))) (event-is s w i k h) (came-holds s w i k h (comes-to s w i k h))
 
-    event-sound : Sound ((step s (event i k)) .1)
+    event-sound : Sound ((step s (came i k)) .1)
     event-sound =
         subst (λ (x : AfterEvent). Sound ((afterEvent x) .1)) (sym (event-is s w i k h))
         (record {

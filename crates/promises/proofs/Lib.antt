@@ -1,5 +1,5 @@
 pub mod Sound
-pub mod Decided
+pub mod Came
 pub mod Kept
 pub mod Runs
 pub mod Queue

@@ -9,43 +9,29 @@ use native.Mathlib.Omega.{arith}
 use lib.Dec.{eqb}
 use lib.ListN.{length}
 use Rattle.memory.specs.Sizes.{lines}
-use Rattle.memory.specs.Tests.{unless}
 use Rattle.record.specs.Delimiters.{standard}
 use Rattle.record.specs.Faults.{isMessage}
+use Rattle.record.proofs.Messages.{message-some, message-short}
 use Rattle.journal.specs.Answers.{isFits}
 use Rattle.journal.specs.Room.{todaysShares}
-use Rattle.journal.specs.Verdicts.{judgeOf}
-use Rattle.journal.specs.Storage.{storeBy, storeOf as storeEntry}
+use Rattle.journal.specs.Storage.{grown, appended, AfterStoring, afterStoring, storeOf as storeEntry}
 use Rattle.journal.specs.Removal.{takeOf as takeEntry}
 use Rattle.journal.specs.Held.{Held}
 use Rattle.journal.specs.Runs.{Operation, put, get, State as Store, Numbered, numbered, waiting, given, next, after, goesIn, comesOut, allIn, allOut}
 use Rattle.journal.specs.declared.Took.{Took}
 use Rattle.journal.specs.declared.Took.the-variants.{Taken, NothingWaiting, BufferShort, BrokenJournal, NoSuchLine, WrongSize}
-use Rattle.journal.specs.declared.Verdict.{Verdict as Judgement}
-use Rattle.journal.specs.declared.Verdict.the-variants.{Fits, NoRoom as Full, Broken as Damaged, NoLine as Nowhere, OtherSize, NoText}
+use Rattle.journal.specs.declared.Verdict.the-variants.{Fits}
+use Rattle.journal.proofs.Cases.{store-fits}
 use Rattle.journal.proofs.Queue.{fresh-runs}
-use Rattle.line.specs.Paper.{numberOf}
-use Rattle.line.specs.declared.Line.{Line}
-use Rattle.line.specs.declared.Answer.the-variants.{NoMessage}
-use Rattle.gateway.specs.Views.{framesOf, textsOf}
-use Rattle.gateway.specs.Looks.{lookOf}
-use Rattle.gateway.specs.Verdicts.{roomVerdict, decisionOf, decided, ownWork, answerOf}
-use Rattle.gateway.specs.Settled.{ledgerAfter, journalAfter}
-use Rattle.gateway.specs.Events.{Memory, lineAt, tookAnswer, takeOf}
+use Rattle.gateway.specs.Events.{Memory, tookAnswer, takeOf}
 use Rattle.gateway.specs.declared.Kind.{Kind}
-use Rattle.gateway.specs.declared.Look.{Look}
-use Rattle.gateway.specs.declared.Look.the-variants.{Done, Decides}
-use Rattle.gateway.specs.declared.Verdict.{Verdict}
-use Rattle.gateway.specs.declared.Verdict.the-variants.{Against}
-use Rattle.gateway.proofs.Views.{own-parts}
-use Rattle.gateway.proofs.Fits.{LookFits, look-fits, quiet-keeps}
 use Rattle.serial.specs.Serial.{event, taking, final, Every}
-use Rattle.promises.specs.Machine.{State, Told, told, GatewayItem, step, storeOf, Sound, May}
-use Rattle.promises.specs.Runs.{RightSizes, fresh, answered, textWith}
-use Rattle.promises.specs.Queue.{completedBy, gave, storedOn, takenOn, allStored, allTaken, NothingLost}
-use Rattle.promises.proofs.Sound.{ready, event-answer, event-journal}
+use Rattle.promises.specs.Machine.{State, told, GatewayItem, came, step, storeOf, Sound, May}
+use Rattle.promises.specs.Runs.{RightSizes, fresh, answered, hasSpace}
+use Rattle.promises.specs.Came.{storedIn, answer, store, Settles, Came, quiet, stored, crowded, against}
+use Rattle.promises.specs.Queue.{completedIn, completed, gave, storedOn, takenOn, allStored, allTaken, NothingLost}
+use Rattle.promises.proofs.Came.{undecided-other, objection-other, comes-to}
 use Rattle.promises.proofs.Kept.{keeps, fresh-sound}
-use Rattle.promises.proofs.Runs.{HarmlessLook, looked}
 
 -- an operation of the journal, or none
 abbrev pub nextBy : Option Operation → Store → Store
@@ -93,80 +79,33 @@ not-stored true t = refl
 not-stored false t = refl
 
 module _ (s : State) (w : Sound s) (i : ℕ) (k : Kind) (h : i < lines) where
-  abbrev own : Line
-  own = lineAt (s .gateway) i
+  -- what is not answered 4 and leaves the store is no operation of the journal
+  no-operation : eqb (answered (answer s i k)) 4 ≡ false → store s i k ≡ storeOf s → Does s (came i k)
+  no-operation other kept = record { operation = none; store = kept; entering = λ l. rw other (not-stored (eqb i l) (completed s i k)); leaving = λ l. refl }
 
-  abbrev texts : List ℕ
-  texts = textsOf i (s .memory .unfinished)
+  -- a message with room for it is stored there: the journal's answer is 4 too
+  module _ (t : List ℕ) (m : isMessage standard t ≡ true) (room : hasSpace s i (length t) ≡ true) (x : Settles s i k t (λ n. n ≡ 4) (storedIn i t (storeOf s))) where
+    in-journal : storeEntry (s .gateway .ledger) todaysShares i t (s .memory .journal) ≡ afterStoring (grown (s .gateway .ledger) i (length t)) Fits (appended (s .gateway .ledger) i t (s .memory .journal))
+    in-journal = store-fits todaysShares (s .gateway .ledger) i t (s .memory .journal) (w .entries) (w .held) h (message-some standard t m) (message-short standard t m) room .is
 
-  abbrev frames : List ℕ
-  frames = framesOf i (s .memory .frames)
+    stores : Does s (came i k)
+    stores = record {
+      operation = some (put i t);
+      store = x .left ∙ sym (ap (λ (r : AfterStoring). record { ledger = r .storing .ledger; journal = r .journal }) in-journal);
+      entering = λ l.
+          ap₂ (λ (n : ℕ) (o : Option (List ℕ)). cond (eqb i l && eqb n 4) (completedIn o ∷ []) []) (x .number) (x .complete)
+          ∙ sym (ap (λ (r : AfterStoring). cond (eqb i l && isFits (r .storing .answer)) (t ∷ []) []) in-journal);
+      leaving = λ l. refl;
+    }
 
-  abbrev left : Verdict → Store
-  left v = record {
-    ledger = ledgerAfter v (s .gateway .ledger) i (λ n. textWith s i n);
-    journal = journalAfter v (s .gateway .ledger) i (λ n. textWith s i n) (s .memory .journal);
-  }
-
-  -- the same, of a look and of the verdict that it comes to
-  record Comes (x : Look) (v : Verdict) : Type 0 where
-    operation : Option Operation
-    store : left v ≡ nextBy operation (storeOf s)
-    entering : (l : ℕ) → cond (eqb i l && eqb (numberOf (answerOf v)) 4) (completedBy s i x ∷ []) [] ≡ inBy operation l (storeOf s)
-    leaving : (l : ℕ) → [] ≡ outBy operation l (storeOf s)
-
-  module _ (n : ℕ) where
-    abbrev text : List ℕ
-    text = textWith s i n
-
-    abbrev entered : Judgement → Store
-    entered q = record { ledger = storeBy q (s .gateway .ledger) i text (s .memory .journal) .storing .ledger; journal = storeBy q (s .gateway .ledger) i text (s .memory .journal) .journal }
-
-    room-store : (q : Judgement) → left (roomVerdict q n) ≡ entered q
-    room-store Fits = refl
-    room-store Full = refl
-    room-store Damaged = refl
-    room-store Nowhere = refl
-    room-store OtherSize = refl
-    room-store NoText = refl
-
-    room-stored : (q : Judgement) → eqb (numberOf (answerOf (roomVerdict q n))) 4 ≡ isFits (storeBy q (s .gateway .ledger) i text (s .memory .journal) .storing .answer)
-    room-stored Fits = refl
-    room-stored Full = refl
-    room-stored Damaged = refl
-    room-stored Nowhere = refl
-    room-stored OtherSize = refl
-    room-stored NoText = refl
-
-    by-message : (m : Bool) → Comes (Decides n) (unless m (Against NoMessage n) (roomVerdict (judgeOf (s .gateway .ledger) todaysShares i (length text) (s .memory .journal)) n))
-    unfolding storeEntry
-    by-message true =
-        let q = judgeOf (s .gateway .ledger) todaysShares i (length text) (s .memory .journal) in
-        record { operation = some (put i text); store = room-store q; leaving = λ l. refl; entering = λ l. ap (λ (b : Bool). cond (eqb i l && b) (text ∷ []) []) (room-stored q) }
-    by-message false = record { operation = none; store = refl; leaving = λ l. refl; entering = λ l. not-stored (eqb i l) text }
-
-  by-look : (x : Look) → LookFits x own → HarmlessLook x → Comes x (decided x todaysShares own (s .gateway .ledger) i (s .memory .journal) texts frames)
-  unfolding decisionOf
-  by-look (Done v) y u =
-      let (ledger, journal) = quiet-keeps v (s .gateway .ledger) i (λ n. textWith s i n) (s .memory .journal) (y .1) in
-      record { operation = none; store = λ z. record { ledger = ledger z; journal = journal z }; leaving = λ l. refl; entering = λ l. rw (u .2) (not-stored (eqb i l) []) }
-  by-look (Decides n) y u = by-message n (isMessage standard (textWith s i n))
-
-  event-does : Does s (event i k)
-  unfolding ownWork
-  event-does =
-      let parts = own-parts own i (s .memory .unfinished) (s .memory .frames) (ready s w i k h) in
-      let x = lookOf own k texts frames in
-      let c = by-look x (look-fits own texts frames parts k) (looked s w i k h) in
-      record {
-        operation = c .operation;
-        store = event-journal s w i k h ∙ c .store;
-        entering = λ l. ap (λ (t : Told). cond (eqb i l && eqb (answered t) 4) (completedBy s i x ∷ []) []) (event-answer s w i k h) ∙ c .entering l;
-        leaving = c .leaving;
-      }
+  event-does : Came s i k → Does s (came i k)
+  event-does (quiet x) = no-operation (undecided-other (answer s i k) (x .undecided) .0) (x .kept)
+  event-does (stored t m room x) = stores t m room x
+  event-does (crowded t m room x) = no-operation (ap (λ (n : ℕ). eqb n 4) (x .number)) (x .left)
+  event-does (against t m x) = no-operation (objection-other (answered (answer s i k)) (x .number) .not-4) (x .left)
 
 pub does : (s : State) (e : GatewayItem) → Sound s → May e → Does s e
-does s (event i k) w m = event-does s w i k m
+does s (event i k) w m = event-does s w i k m (comes-to s w i k m)
 does s (taking i b) w m = taking-does s i b
 
 -- ---- runs

@@ -21,8 +21,8 @@ use Rattle.journal.specs.Runs.{State as Store}
 use Rattle.journal.proofs.Totals.{raised-own, raised-other, claims-le}
 use Rattle.journal.proofs.Keeps.{store-held}
 use Rattle.promises.specs.Machine.{State, Sound}
+use Rattle.promises.specs.Came.{storedIn}
 use Rattle.promises.specs.Sending.{newEntries, Messages, sizesOf, HasRoom, Intact}
-use Rattle.promises.proofs.Walk.{storedIn}
 
 module _ (sh u : List ℕ) (i a b : ℕ) (long : length u ≡ lines) (line : i < lines) (room : fits sh (raised u i (a + b)) ≡ true) where
   most : claims sh (raised u i (a + b)) ≤ journalSize

@@ -1,7 +1,7 @@
 -- What holds all along a run from fresh: the state is sound, 41, 42 and 43 never come, and 31 never comes within a line's own share.
 -- Assumes nothing.
 use mathlib.Core.Path.{_≡_, refl, sym, ap, _∙_}
-use mathlib.Core.Bool.{Bool, true, false, true≢false, cond}
+use mathlib.Core.Bool.{false, true≢false}
 use mathlib.Core.Logic.{_⊎_, inl, inr}
 use mathlib.Core.List.{List, [], _∷_}
 use Prim.Native.Nat.{ℕ, _+_, _<_}
@@ -11,8 +11,9 @@ use borrow.Author.Tests.{eq-eqb, le-leb}
 use lib.Dec.{eqb}
 use lib.ListN.{length, getD, getD-replicate}
 use Rattle.memory.specs.Sizes.{lines, journalSize}
+use Rattle.memory.proofs.Tests.{never-both}
 use Rattle.journal.specs.Header.{entrySize}
-use Rattle.journal.specs.Room.{share, todaysShares, claims, fits, raised}
+use Rattle.journal.specs.Room.{share, todaysShares, claims, raised}
 use Rattle.journal.specs.Removal.{AfterTaking, takeOf as takeEntry}
 use Rattle.journal.specs.Answers.{tookPaper}
 use Rattle.journal.specs.declared.Took.{Took}
@@ -20,118 +21,52 @@ use Rattle.journal.specs.declared.Took.the-variants.{Taken, NothingWaiting, Buf
 use Rattle.journal.proofs.Cases.{Gives, Keeps, take-cases}
 use Rattle.journal.proofs.Totals.{claims-own-share}
 use Rattle.line.specs.Paper.{numberOf}
-use Rattle.line.specs.declared.Line.{Line}
-use Rattle.gateway.specs.Views.{framesOf, textsOf, joinedText}
-use Rattle.gateway.specs.Looks.{lookOf}
-use Rattle.gateway.specs.Verdicts.{decisionOf, decided, ownWork, answerOf}
-use Rattle.gateway.specs.Events.{Memory, lineAt, tookAnswer, takeOf}
+use Rattle.gateway.specs.Events.{Memory, tookAnswer, takeOf}
 use Rattle.gateway.specs.declared.Kind.{Kind}
-use Rattle.gateway.specs.declared.Look.{Look}
-use Rattle.gateway.specs.declared.Look.the-variants.{Done, Decides}
-use Rattle.gateway.specs.declared.Verdict.{Verdict}
-use Rattle.gateway.proofs.Views.{own-parts}
-use Rattle.gateway.proofs.Cases.{Cases, every-look}
 use Rattle.serial.specs.Serial.{event, taking, annotate, final, Every}
-use Rattle.promises.specs.Machine.{State, Told, GatewayItem, step, Sound, May}
-use Rattle.promises.specs.Runs.{RightSizes, fresh, answered, isFault, textWith, Completes, Overfull, NoSpace, Space}
-use Rattle.promises.proofs.Sound.{work, ready, event-answer}
-use Rattle.promises.proofs.Decided.{decision-cases, weighs}
+use Rattle.promises.specs.Machine.{State, GatewayItem, came, step, Sound, May}
+use Rattle.promises.specs.Runs.{RightSizes, fresh, answered, isFault, Overfull, NoSpace, Space}
+use Rattle.promises.specs.Came.{answer, Came, quiet, stored, crowded, against}
+use Rattle.promises.proofs.Came.{undecided-other, objection-other, comes-to}
 use Rattle.promises.proofs.Kept.{keeps, fresh-sound}
 
--- ---- 41, 42, 43
+-- ---- events
 
--- no look comes to one of them, to 31 or to 4: only a message that is decided does
-abbrev Harmless : Verdict → Type 0
-Harmless v = (isFault (numberOf (answerOf v)) ≡ false) × (eqb (numberOf (answerOf v)) 31 ≡ false) × (eqb (numberOf (answerOf v)) 4 ≡ false)
+-- an event is answered 41, 42 or 43 in no case
+came-faultless : (s : State) (i : ℕ) (k : Kind) → Came s i k → isFault (answered (answer s i k)) ≡ false
+came-faultless s i k (quiet x) = x .no-fault
+came-faultless s i k (stored t m room x) = ap isFault (x .number)
+came-faultless s i k (crowded t m room x) = ap isFault (x .number)
+came-faultless s i k (against t m x) = objection-other (answered (answer s i k)) (x .number) .no-fault
 
-abbrev pub HarmlessLook : Look → Type 0
-HarmlessLook (Done v) = Harmless v
-HarmlessLook (Decides n) = Unit {0}
+-- 31 in one case, and 4 in one
+came-crowded : (s : State) (i : ℕ) (k : Kind) → Came s i k → answered (answer s i k) ≡ 31 → NoSpace s i k
+came-crowded s i k (quiet x) e = never-both (eqb (answered (answer s i k)) 31) (eq-eqb (answered (answer s i k)) 31 e) (undecided-other (answer s i k) (x .undecided) .1)
+came-crowded s i k (stored t m room x) e = absurd (omega (arith, x .number, e))
+came-crowded s i k (crowded t m room x) e = record { text = t; complete = x .complete; such = room }
+came-crowded s i k (against t m x) e = never-both (eqb (answered (answer s i k)) 31) (eq-eqb (answered (answer s i k)) 31 e) (objection-other (answered (answer s i k)) (x .number) .not-31)
 
-harmless : (l : Line) → Cases HarmlessLook l
-harmless l = record {
-  ignored = (refl, refl, refl);
-  busy = (refl, refl, refl);
-  opens = (refl, refl, refl);
-  ended = (refl, refl, refl);
-  dropped = (refl, refl, refl);
-  timed-out = (refl, refl, refl);
-  begins = (refl, refl, refl);
-  counts = λ n h. (refl, refl, refl);
-  collects = λ h. (refl, refl, refl);
-  unended = (refl, refl, refl);
-  torn = (refl, refl, refl);
-  unchecked = (refl, refl, refl);
-  foreign = (refl, refl, refl);
-  unnumbered = (refl, refl, refl);
-  refused = (refl, refl, refl);
-  repeated = (refl, refl, refl);
-  missed = (refl, refl, refl);
-  overlong = (refl, refl, refl);
-  no-cr = (refl, refl, refl);
-  accepts = λ n t. (refl, refl, refl);
-  decides = λ n t. tt;
-}
+came-stored : (s : State) (i : ℕ) (k : Kind) → Came s i k → answered (answer s i k) ≡ 4 → Space s i k
+came-stored s i k (quiet x) e = never-both (eqb (answered (answer s i k)) 4) (eq-eqb (answered (answer s i k)) 4 e) (undecided-other (answer s i k) (x .undecided) .0)
+came-stored s i k (stored t m room x) e = record { text = t; complete = x .complete; such = room }
+came-stored s i k (crowded t m room x) e = absurd (omega (arith, x .number, e))
+came-stored s i k (against t m x) e = never-both (eqb (answered (answer s i k)) 4) (eq-eqb (answered (answer s i k)) 4 e) (objection-other (answered (answer s i k)) (x .number) .not-4)
 
 module _ (s : State) (w : Sound s) (i : ℕ) (k : Kind) (h : i < lines) where
-  abbrev own : Line
-  own = lineAt (s .gateway) i
-
-  abbrev texts : List ℕ
-  texts = textsOf i (s .memory .unfinished)
-
-  abbrev frames : List ℕ
-  frames = framesOf i (s .memory .frames)
-
-  pub looked : HarmlessLook (lookOf own k texts frames)
-  looked = every-look HarmlessLook own (harmless own) texts frames (own-parts own i (s .memory .unfinished) (s .memory .frames) (ready s w i k h)) k
-
-  no-fault : isFault (numberOf (answerOf (work s w i k h))) ≡ false
-  unfolding ownWork
-  no-fault = by-look (lookOf own k texts frames) looked
-    where
-      by-look : (x : Look) → HarmlessLook x → isFault (numberOf (answerOf (decided x todaysShares own (s .gateway .ledger) i (s .memory .journal) texts frames))) ≡ false
-      by-look (Done v) y = y .0
-      by-look (Decides n) y =
-          decision-cases (s .gateway .ledger) i (s .memory .journal) (w .entries) (w .held) h n (joinedText own n texts frames)
-          (λ v. isFault (numberOf (answerOf v)) ≡ false) refl refl refl
-
-  -- ---- 31 and 4
-
-  weighed : (x : Bool) (c : ℕ) → eqb 30 c ≡ false → eqb (cond x 31 4) c ≡ false → ((v : Verdict) → Harmless v → eqb (numberOf (answerOf v)) c ≡ false)
-      → answered ((step s (event i k)) .0) ≡ c → Completes s i k (λ n. fits todaysShares (raised (s .gateway .ledger .used) i (entrySize n)) ≡ x)
-  unfolding ownWork
-  weighed x c not-30 not-other no-look e = by-look (lookOf own k texts frames) refl looked (ap answered (sym (event-answer s w i k h)) ∙ e)
-    where
-      by-look : (y : Look) → lookOf own k texts frames ≡ y → HarmlessLook y
-          → numberOf (answerOf (decided y todaysShares own (s .gateway .ledger) i (s .memory .journal) texts frames)) ≡ c
-          → Completes s i k (λ n. fits todaysShares (raised (s .gateway .ledger .used) i (entrySize n)) ≡ x)
-      by-look (Done v) q y e = absurd (true≢false (sym (eq-eqb (numberOf (answerOf v)) c e) ∙ no-look v y))
-      by-look (Decides n) q y e =
-          let text = joinedText own n texts frames in
-          let d = s .gateway .ledger in
-          record {
-            from-frame = n;
-            complete = q;
-            such =
-                weighs d i (s .memory .journal) (w .entries) (w .held) h n text x c not-30 not-other
-                (eq-eqb (numberOf (answerOf (decisionOf todaysShares d i n text (s .memory .journal)))) c e);
-          }
-
   -- 31 is given only to a message for which there is no room, and 4 only to one for which there is
-  pub no-space : answered ((step s (event i k)) .0) ≡ 31 → NoSpace s i k
-  no-space e = weighed false 31 refl refl (λ v y. y .1) e
+  pub no-space : answered ((step s (came i k)) .0) ≡ 31 → NoSpace s i k
+  no-space e = came-crowded s i k (comes-to s w i k h) e
 
-  pub space : answered ((step s (event i k)) .0) ≡ 4 → Space s i k
-  space e = weighed true 4 refl refl (λ v y. y .2) e
+  pub space : answered ((step s (came i k)) .0) ≡ 4 → Space s i k
+  space e = came-stored s i k (comes-to s w i k h) e
 
   -- there is room for all that fits in what is left of a line's own share
   pub over-share : NoSpace s i k → Overfull s i k
   over-share x =
-      let n = entrySize (length (textWith s i (x .from-frame))) in
+      let n = entrySize (length (x .text)) in
       let u = s .gateway .ledger .used in
       record {
-        from-frame = x .from-frame;
+        text = x .text;
         complete = x .complete;
         such = elim (decLe (getD u i 0 + n) share) [
           | yes room ↦
@@ -141,7 +76,7 @@ module _ (s : State) (w : Sound s) (i : ℕ) (k : Kind) (h : i < lines) where
         ];
       }
 
-  pub own-share : answered ((step s (event i k)) .0) ≡ 31 → Overfull s i k
+  pub own-share : answered ((step s (came i k)) .0) ≡ 31 → Overfull s i k
   own-share e = over-share (no-space e)
 
 -- ---- takings
@@ -166,7 +101,7 @@ taking-fault s w i b = by-case (take-cases todaysShares (s .gateway .ledger) i (
 -- ---- runs
 
 faultless : (s : State) (e : GatewayItem) → Sound s → May e → isFault (answered ((step s e) .0)) ≡ false
-faultless s (event i k) w m = ap (λ (t : Told). isFault (answered t)) (event-answer s w i k m) ∙ no-fault s w i k m
+faultless s (event i k) w m = came-faultless s i k (comes-to s w i k m)
 faultless s (taking i b) w m = taking-fault s w i b
 
 pub stays-sound : (s : State) (es : List GatewayItem) → Sound s → Every May es → Sound (final step s es)
@@ -187,5 +122,5 @@ module _ (m : Memory) (sizes : RightSizes m) (es : List GatewayItem) (may : Ever
   never-faulty = stays-faultless (fresh m) es (fresh-sound m sizes) may
 
   -- the next event is answered 31 only if it completes a message that does not fit in what is left of its line's share
-  pub share-kept : (i : ℕ) (k : Kind) (h : i < lines) → answered ((step (final step (fresh m) es) (event i k)) .0) ≡ 31 → Overfull (final step (fresh m) es) i k
+  pub share-kept : (i : ℕ) (k : Kind) (h : i < lines) → answered ((step (final step (fresh m) es) (came i k)) .0) ≡ 31 → Overfull (final step (fresh m) es) i k
   share-kept i k h e = own-share (final step (fresh m) es) always-sound i k h e

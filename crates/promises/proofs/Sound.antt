@@ -19,8 +19,7 @@ use Rattle.gateway.specs.declared.Verdict.{Verdict}
 use Rattle.gateway_laws.proofs.Found.{work-fits}
 use Rattle.gateway_laws.proofs.Others.{texts-other, frames-other}
 use Rattle.gateway_laws.proofs.View.{texts-own, frames-own}
-use Rattle.serial.specs.Serial.{event}
-use Rattle.promises.specs.Machine.{State, onLine, afterEvent, step, Parts, partsOf, storeOf, onEvent, Sound}
+use Rattle.promises.specs.Machine.{State, onLine, afterEvent, step, Parts, partsOf, storeOf, onEvent, Sound, came}
 
 same-parts : (p q : Parts) → p .line ≡ q .line → p .texts ≡ q .texts → p .frames ≡ q .frames → p ≡ q
 same-parts p q l t f = λ z. record { line = l z; texts = t z; frames = f z }
@@ -50,14 +49,14 @@ module _ (s : State) (w : Sound s) (i : ℕ) (k : Kind) (h : i < lines) where
         w .within i h,
       )
 
-  pub event-answer : (step s (event i k)) .0 ≡ (onEvent i (partsOf s i) k (storeOf s)) .0
+  pub event-answer : (step s (came i k)) .0 ≡ (onEvent i (partsOf s i) k (storeOf s)) .0
   event-answer = ap (λ (x : AfterEvent). (afterEvent x) .0) event-is
 
-  pub event-journal : storeOf ((step s (event i k)) .1) ≡ (onEvent i (partsOf s i) k (storeOf s)) .2
+  pub event-journal : storeOf ((step s (came i k)) .1) ≡ (onEvent i (partsOf s i) k (storeOf s)) .2
   event-journal = ap (λ (x : AfterEvent). storeOf ((afterEvent x) .1)) event-is
 
   -- its own line has what acting leaves of its parts
-  pub event-own : partsOf ((step s (event i k)) .1) i ≡ (onEvent i (partsOf s i) k (storeOf s)) .1
+  pub event-own : partsOf ((step s (came i k)) .1) i ≡ (onEvent i (partsOf s i) k (storeOf s)) .1
   event-own =
       let records = getD-set-same (s .gateway .lines) i (lineAfter work own) noRecord (omega (arith, w .as-many)) in
       let texts = texts-own own i (s .memory .unfinished) (s .memory .frames) ready work fitting in
@@ -65,7 +64,7 @@ module _ (s : State) (w : Sound s) (i : ℕ) (k : Kind) (h : i < lines) where
       ap (λ (x : AfterEvent). partsOf ((afterEvent x) .1) i) event-is ∙ same-parts _ _ records texts frames
 
   -- and every other line what it had
-  pub event-others : (l : ℕ) → l ≢ i → partsOf ((step s (event i k)) .1) l ≡ partsOf s l
+  pub event-others : (l : ℕ) → l ≢ i → partsOf ((step s (came i k)) .1) l ≡ partsOf s l
   event-others l n =
       let records = getD-set-other (s .gateway .lines) i l (lineAfter work own) noRecord n in
       let texts = texts-other own i (s .memory .unfinished) (s .memory .frames) ready work fitting l (λ q. n (sym q)) in

@@ -1,54 +1,38 @@
 -- Demand 3, of the gateway: any mix of events on lines 0 to 7 and takings, from fresh, told stretch by stretch, has the same answers and the same final state.
 -- Assumes nothing.
 use mathlib.Core.Path.{_≡_, refl, sym, ap, _∙_}
-use mathlib.Core.Bool.{Bool, true, false, true≢false}
+use mathlib.Core.Bool.{Bool, false}
 use mathlib.Core.List.{List}
 use Prim.Native.Nat.{ℕ, _<_}
 use lib.Seq.{ext-getD}
 use Rattle.memory.specs.Sizes.{lines, messageLimit, framePart}
 use Rattle.memory.proofs.Lines.{equal-parts}
-use Rattle.journal.specs.Room.{todaysShares}
-use Rattle.journal.specs.Runs.{State as Store}
-use Rattle.gateway.specs.Views.{joinedText}
-use Rattle.gateway.specs.Looks.{lookOf}
-use Rattle.gateway.specs.Verdicts.{decided, ownWork}
+use Rattle.memory.proofs.Tests.{never-both}
 use Rattle.gateway.specs.Events.{Memory, noRecord, takeOf}
 use Rattle.gateway.specs.declared.Kind.{Kind}
-use Rattle.gateway.specs.declared.Look.{Look}
-use Rattle.gateway.specs.declared.Look.the-variants.{Done, Decides}
-use Rattle.gateway.proofs.Views.{own-parts}
-use Rattle.gateway.proofs.Fits.{LookFits, look-fits, quiet-keeps}
 use Rattle.serial.specs.Serial.{taking, annotate, serialize, count, Every, OrderOf, Lined, NothingElse, ToldAlike}
 use Rattle.serial.specs.Kept.{Rearranged}
 use Rattle.serial.proofs.Demand as serial
-use Rattle.promises.specs.Machine.{State, Told, GatewayItem, step, decides, Parts, partsOf, storeOf, left, onEvent, onTaking, Sound, May}
+use Rattle.promises.specs.Machine.{State, Told, GatewayItem, came, step, decides, Parts, partsOf, storeOf, onEvent, onTaking, Sound, May}
 use Rattle.promises.specs.Runs.{RightSizes, fresh}
-use Rattle.promises.proofs.Sound.{ready, event-answer, event-own, event-others, event-journal}
-use Rattle.promises.proofs.Decided.{decision-decides}
+use Rattle.promises.specs.Came.{Came, quiet as passing, stored, crowded, against}
+use Rattle.promises.proofs.Sound.{event-answer, event-own, event-others, event-journal}
+use Rattle.promises.proofs.Came.{comes-to}
 use Rattle.promises.proofs.Kept.{keeps, fresh-sound}
 
--- an event that does not decide leaves the store, and would go the same at the store of any other sound state
-module _ (s u : State) (w : Sound s) (i : ℕ) (k : Kind) (h : i < lines) where
-  abbrev own : Parts
-  own = partsOf s i
+-- an event that does not decide leaves the store, and would go the same at the store of any other state
+pub quiet : (s u : State) (w : Sound s) (i : ℕ) (k : Kind) (h : i < lines) → decides ((onEvent i (partsOf s i) k (storeOf s)) .0) ≡ false
+    → onEvent i (partsOf s i) k (storeOf u) ≡ ((onEvent i (partsOf s i) k (storeOf s)) .0, (onEvent i (partsOf s i) k (storeOf s)) .1, storeOf u)
+quiet s u w i k h e = by-case (comes-to s w i k h)
+  where
+    undecided : decides ((step s (came i k)) .0) ≡ false
+    undecided = ap decides (event-answer s w i k h) ∙ e
 
-  abbrev at : Look → Store → Told × Parts × Store
-  at x j = left (decided x todaysShares (own .line) (j .ledger) i (j .journal) (own .texts) (own .frames)) i own k j
-
-  by-look : (x : Look) → LookFits x (own .line) → decides ((at x (storeOf s)) .0) ≡ false
-      → at x (storeOf u) ≡ ((at x (storeOf s)) .0, (at x (storeOf s)) .1, storeOf u)
-  by-look (Done v) y e =
-      let (ledger, journal) = quiet-keeps v (u .gateway .ledger) i (λ n. joinedText (own .line) n (own .texts) (own .frames)) (u .memory .journal) (y .1) in
-      λ z. ((at (Done v) (storeOf s)) .0, (at (Done v) (storeOf s)) .1, record { ledger = ledger z; journal = journal z })
-  by-look (Decides n) y e =
-      absurd (true≢false (sym (decision-decides (s .gateway .ledger) i (s .memory .journal) (w .entries) (w .held) h n (joinedText (own .line) n (own .texts) (own .frames))) ∙ e))
-
-  pub quiet : decides ((onEvent i own k (storeOf s)) .0) ≡ false
-      → onEvent i own k (storeOf u) ≡ ((onEvent i own k (storeOf s)) .0, (onEvent i own k (storeOf s)) .1, storeOf u)
-  unfolding ownWork
-  quiet e =
-      by-look (lookOf (own .line) k (own .texts) (own .frames))
-      (look-fits (own .line) (own .texts) (own .frames) (own-parts (own .line) i (s .memory .unfinished) (s .memory .frames) (ready s w i k h)) k) e
+    by-case : Came s i k → onEvent i (partsOf s i) k (storeOf u) ≡ ((onEvent i (partsOf s i) k (storeOf s)) .0, (onEvent i (partsOf s i) k (storeOf s)) .1, storeOf u)
+    by-case (passing x) = x .anywhere (storeOf u)
+    by-case (stored t m room x) = never-both (decides ((step s (came i k)) .0)) (x .decided) undecided
+    by-case (crowded t m room x) = never-both (decides ((step s (came i k)) .0)) (x .decided) undecided
+    by-case (against t m x) = never-both (decides ((step s (came i k)) .0)) (x .decided) undecided
 
 -- a taking is told by the store alone
 taking-answer : (s : State) (i : ℕ) (b : List ℕ) → (step s (taking i b)) .0 ≡ (onTaking i b (storeOf s)) .0

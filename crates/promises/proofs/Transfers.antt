@@ -33,9 +33,9 @@ use Rattle.gateway.specs.Verdicts.{ownWork}
 use Rattle.gateway.specs.declared.Kind.{Kind}
 use Rattle.gateway.specs.declared.Kind.the-variants.{Byte}
 use Rattle.gateway.proofs.Views.{own-parts}
-use Rattle.serial.specs.Serial.{event, final, Every}
-use Rattle.promises.specs.Machine.{State, Told, told, step, Parts, partsOf, storeOf, onEvent, Sound, May}
-use Rattle.promises.specs.Sending.{bytesOn, answersTo, replies, sending, sendingReplies, piecesOfAll, transfer, repliesToAll, transferReplies, newEntries, Messages, sizesOf, HasRoom, Intact, Delivers, Demand2}
+use Rattle.serial.specs.Serial.{final, Every}
+use Rattle.promises.specs.Machine.{State, Told, told, step, Parts, partsOf, storeOf, onEvent, Sound, May, came}
+use Rattle.promises.specs.Sending.{bytesOn, answersTo, replies, sending, sendingReplies, piecesOfAll, transfer, repliesToAll, transferReplies, newEntries, Messages, sizesOf, HasRoom, Intact, Delivers, Demand2, Usable}
 use Rattle.promises.proofs.Sound.{ready as is-ready, event-answer, event-own, event-others, event-journal}
 use Rattle.promises.proofs.Kept.{keeps}
 use Rattle.promises.proofs.Runs.{stays-sound}
@@ -57,7 +57,7 @@ fed : (s : State) (i : ℕ) (bs : List ℕ) → Sound s → i < lines → Fed s 
 fed s i [] w h = record { answers = refl; own = refl; store = refl; others = λ l n. refl }
 fed s i (b ∷ bs) w h =
     let k : Kind = Byte b in
-    let r = fed ((step s (event i k)) .1) i bs (keeps s (event i k) w h) h in
+    let r = fed ((step s (came i k)) .1) i bs (keeps s (came i k) w h) h in
     let parts = event-own s w i k h in
     let store = event-journal s w i k h in
     record {
@@ -73,13 +73,13 @@ bytes-may i h (b ∷ bs) = (h, bytes-may i h bs)
 
 final-append : (s : State) (i : ℕ) (bs cs : List ℕ) → final step s (bytesOn i (bs ++ cs)) ≡ final step (final step s (bytesOn i bs)) (bytesOn i cs)
 final-append s i [] cs = refl
-final-append s i (b ∷ bs) cs = final-append ((step s (event i (Byte b))) .1) i bs cs
+final-append s i (b ∷ bs) cs = final-append ((step s (came i (Byte b))) .1) i bs cs
 
 answers-append : (s : State) (i : ℕ) (bs cs : List ℕ)
     → answersTo s (bytesOn i (bs ++ cs)) ≡ answersTo s (bytesOn i bs) ++ answersTo (final step s (bytesOn i bs)) (bytesOn i cs)
 answers-append s i [] cs = refl
 answers-append s i (b ∷ bs) cs =
-    let r = step s (event i (Byte b)) in
+    let r = step s (came i (Byte b)) in
     ap (λ (ts : List Told). r .0 ∷ ts) (answers-append (r .1) i bs cs)
 
 -- what bytes come to: the answers, the texts stored, and the line's record then
@@ -119,7 +119,7 @@ closes i l texts frames j h = rw h
 opened-open : Open firstNumber openedLine
 opened-open = record { waits = refl; joined = refl; refusing = refl; new = refl; next = refl; low = omega arith }
 
-module _ (i : ℕ) (h : i < lines) where
+module _ (limit : ℕ) (usable : Usable limit) (i : ℕ) (h : i < lines) where
   -- one byte, by the line's parts
   one-byte : (s : State) (b : ℕ) (t : Told) (p : Parts) (Line-then : Line → Type 0) → Sound s → onEvent i (partsOf s i) (Byte b) (storeOf s) ≡ (t, p, storeOf s) → Line-then (p .line)
       → Went s i (b ∷ []) (t ∷ []) [] Line-then
@@ -176,26 +176,26 @@ module _ (i : ℕ) (h : i < lines) where
       held = part-start texts 0;
     }
 
-    walked : Delivered i (storeOf s) m (piecesOf frameLimit m) (numberAfter number (piecesOf frameLimit m))
-        (feed i (partsOf s i) (storeOf s) (framesFrom number (piecesOf frameLimit m)))
+    walked : Delivered i (storeOf s) m (piecesOf limit m) (numberAfter number (piecesOf limit m))
+        (feed i (partsOf s i) (storeOf s) (framesFrom number (piecesOf limit m)))
     walked =
         let some = message-some standard m message in
         let most = message-short standard m message in
         let judged = sym (held-judged todaysShares (s .gateway .ledger) i m (s .memory .journal) (w .entries) (w .held) h some most true room) in
         subst
-        (λ (l : Line). Delivered i (storeOf s) m (piecesOf frameLimit m) (numberAfter number (piecesOf frameLimit m))
-        (feed i (record { line = l; texts = texts; frames = frames }) (storeOf s) (framesFrom number (piecesOf frameLimit m))))
-        (sym (o .waits)) (walk i (storeOf s) (length m) [] m number own texts frames (omega arith) some going judged)
+        (λ (l : Line). Delivered i (storeOf s) m (piecesOf limit m) (numberAfter number (piecesOf limit m))
+        (feed i (record { line = l; texts = texts; frames = frames }) (storeOf s) (framesFrom number (piecesOf limit m))))
+        (sym (o .waits)) (walk limit usable i (storeOf s) (length m) [] m number own texts frames (omega arith) some going judged)
 
-    one-message : Went s i (framesFrom number (piecesOf frameLimit m)) (replies (piecesOf frameLimit m)) (m ∷ []) (Open (numberAfter number (piecesOf frameLimit m)))
+    one-message : Went s i (framesFrom number (piecesOf limit m)) (replies (piecesOf limit m)) (m ∷ []) (Open (numberAfter number (piecesOf limit m)))
     one-message =
-        let f = fed s i (framesFrom number (piecesOf frameLimit m)) w h in
+        let f = fed s i (framesFrom number (piecesOf limit m)) w h in
         record {
           answers = f .answers ∙ walked .answers;
           store = f .store ∙ walked .store;
           others = f .others;
-          line = subst (λ (p : Parts). Open (numberAfter number (piecesOf frameLimit m)) (p .line)) (sym (f .own)) (walked .line);
-          sound = stays-sound s (bytesOn i (framesFrom number (piecesOf frameLimit m))) w (bytes-may i h (framesFrom number (piecesOf frameLimit m)));
+          line = subst (λ (p : Parts). Open (numberAfter number (piecesOf limit m)) (p .line)) (sym (f .own)) (walked .line);
+          sound = stays-sound s (bytesOn i (framesFrom number (piecesOf limit m))) w (bytes-may i h (framesFrom number (piecesOf limit m)));
         }
 
   -- ---- any number of messages in one transfer
@@ -211,33 +211,33 @@ module _ (i : ℕ) (h : i < lines) where
   after-append number (p ∷ ps) qs = after-append (nextNumber number) ps qs
 
   all-messages : (ms : List (List ℕ)) (s : State) → Sound s → (number : ℕ) → Open number (lineAt (s .gateway) i) → Messages ms → HasRoom s i ms
-      → Went s i (framesFrom number (piecesOfAll ms)) (repliesToAll ms) ms (Open (numberAfter number (piecesOfAll ms)))
+      → Went s i (framesFrom number (piecesOfAll limit ms)) (repliesToAll limit ms) ms (Open (numberAfter number (piecesOfAll limit ms)))
   all-messages [] s w number o are room = record { answers = refl; store = refl; others = λ l n. refl; line = o; sound = w }
   all-messages (m ∷ ms) s w number o are room =
-      let ps = piecesOf frameLimit m in
+      let ps = piecesOf limit m in
       let first = room-first todaysShares (s .gateway .ledger .used) i (entrySize (length m)) (sizesOf ms) (w .held .lines-used) h room in
       let one = one-message s w number o m (are .0) first in
       let room-left =
       ap (λ (j : Store). fits todaysShares (raised (j .ledger .used) i (sizesOf ms))) (one .store)
       ∙ room-then i m ms (storeOf s) (w .held .lines-used) h room in
       let rest = all-messages ms (final step s (bytesOn i (framesFrom number ps))) (one .sound) (numberAfter number ps) (one .line) (are .1) room-left in
-      let both = went-on s i (framesFrom number ps) (framesFrom (numberAfter number ps) (piecesOfAll ms)) (replies ps) (repliesToAll ms) (m ∷ []) ms _ _ one rest in
-      subst (λ (n : ℕ). Went s i (framesFrom number (ps ++ piecesOfAll ms)) (repliesToAll (m ∷ ms)) (m ∷ ms) (Open n)) (sym (after-append number ps (piecesOfAll ms)))
-      (subst (λ (bs : List ℕ). Went s i bs (repliesToAll (m ∷ ms)) (m ∷ ms) (Open (numberAfter (numberAfter number ps) (piecesOfAll ms))))
-      (sym (frames-append number ps (piecesOfAll ms))) both)
+      let both = went-on s i (framesFrom number ps) (framesFrom (numberAfter number ps) (piecesOfAll limit ms)) (replies ps) (repliesToAll limit ms) (m ∷ []) ms _ _ one rest in
+      subst (λ (n : ℕ). Went s i (framesFrom number (ps ++ piecesOfAll limit ms)) (repliesToAll limit (m ∷ ms)) (m ∷ ms) (Open n)) (sym (after-append number ps (piecesOfAll limit ms)))
+      (subst (λ (bs : List ℕ). Went s i bs (repliesToAll limit (m ∷ ms)) (m ∷ ms) (Open (numberAfter (numberAfter number ps) (piecesOfAll limit ms))))
+      (sym (frames-append number ps (piecesOfAll limit ms))) both)
 
   whole-transfer : (ms : List (List ℕ)) (s : State) → Sound s → lineAt (s .gateway) i ≡ freshLine → Messages ms → HasRoom s i ms
-      → Went s i (transfer ms) (transferReplies ms) ms (λ (l : Line). l ≡ freshLine)
+      → Went s i (transfer limit ms) (transferReplies limit ms) ms (λ (l : Line). l ≡ freshLine)
   whole-transfer ms s w fresh are room =
       let a = opening s w fresh in
       let s₁ = final step s (bytesOn i (enq ∷ [])) in
       let room-then = ap (λ (j : Store). fits todaysShares (raised (j .ledger .used) i (sizesOf ms))) (a .store) ∙ room in
       let b = all-messages ms s₁ (a .sound) firstNumber (a .line) are room-then in
-      let bs = framesFrom firstNumber (piecesOfAll ms) in
-      let c = closing (final step s₁ (bytesOn i bs)) (numberAfter firstNumber (piecesOfAll ms)) (b .sound) (b .line) in
-      let bc = went-on s₁ i bs (eot ∷ []) (repliesToAll ms) (told Ended [] ∷ []) ms [] _ _ b c in
-      let abc = went-on s i (enq ∷ []) (bs ++ (eot ∷ [])) (told Opened [] ∷ []) (repliesToAll ms ++ (told Ended [] ∷ [])) [] (ms ++ []) _ _ a bc in
-      subst (λ (ns : List (List ℕ)). Went s i (transfer ms) (transferReplies ms) ns (λ (l : Line). l ≡ freshLine)) (append-nil ms) abc
+      let bs = framesFrom firstNumber (piecesOfAll limit ms) in
+      let c = closing (final step s₁ (bytesOn i bs)) (numberAfter firstNumber (piecesOfAll limit ms)) (b .sound) (b .line) in
+      let bc = went-on s₁ i bs (eot ∷ []) (repliesToAll limit ms) (told Ended [] ∷ []) ms [] _ _ b c in
+      let abc = went-on s i (enq ∷ []) (bs ++ (eot ∷ [])) (told Opened [] ∷ []) (repliesToAll limit ms ++ (told Ended [] ∷ [])) [] (ms ++ []) _ _ a bc in
+      subst (λ (ns : List (List ℕ)). Went s i (transfer limit ms) (transferReplies limit ms) ns (λ (l : Line). l ≡ freshLine)) (append-nil ms) abc
 
   -- ---- the promises
 
@@ -252,46 +252,59 @@ module _ (i : ℕ) (h : i < lines) where
   }
 
   module _ (s : State) (a : Intact s) (fresh : lineAt (s .gateway) i ≡ freshLine) where
-    send-one : (m : List ℕ) → isMessage standard m ≡ true → HasRoom s i (m ∷ []) → Delivers s i (sending m) (sendingReplies m) (m ∷ []) (a .entries)
+    -- the promises below, of every limit that is usable
+    pub sent-within : (m : List ℕ) → isMessage standard m ≡ true → HasRoom s i (m ∷ []) → Delivers s i (sending limit m) (sendingReplies limit m) (m ∷ []) (a .entries)
     unfolding cutOf
-    send-one m message room =
+    sent-within m message room =
         let w = room-sound s a i h (m ∷ []) room in
         let o = opening s w fresh in
         let s₁ = final step s (bytesOn i (enq ∷ [])) in
         let room-then = ap (λ (j : Store). fits todaysShares (raised (j .ledger .used) i (sizesOf (m ∷ [])))) (o .store) ∙ room in
         let first = room-first todaysShares (s₁ .gateway .ledger .used) i (entrySize (length m)) 0 (o .sound .held .lines-used) h room-then in
         let b = one-message s₁ (o .sound) firstNumber (o .line) m message first in
-        let ob = went-on s i (enq ∷ []) (framesFrom firstNumber (piecesOf frameLimit m)) (told Opened [] ∷ []) (replies (piecesOf frameLimit m)) [] (m ∷ []) _ _ o b in
-        delivers s (a .entries) (room-held s a i h (m ∷ []) room) (sending m) (sendingReplies m) (m ∷ []) _ ob (message, tt) room
+        let ob = went-on s i (enq ∷ []) (framesFrom firstNumber (piecesOf limit m)) (told Opened [] ∷ []) (replies (piecesOf limit m)) [] (m ∷ []) _ _ o b in
+        delivers s (a .entries) (room-held s a i h (m ∷ []) room) (sending limit m) (sendingReplies limit m) (m ∷ []) _ ob (message, tt) room
 
-    -- any number of messages in one transfer
-    pub transferred : (ms : List (List ℕ)) → Messages ms → HasRoom s i ms → Delivers s i (transfer ms) (transferReplies ms) ms (a .entries)
-    transferred ms are room =
+    pub transferred-within : (ms : List (List ℕ)) → Messages ms → HasRoom s i ms → Delivers s i (transfer limit ms) (transferReplies limit ms) ms (a .entries)
+    transferred-within ms are room =
         let w = room-sound s a i h ms room in
-        delivers s (a .entries) (room-held s a i h ms room) (transfer ms) (transferReplies ms) ms _ (whole-transfer ms s w fresh are room) are room
+        delivers s (a .entries) (room-held s a i h ms room) (transfer limit ms) (transferReplies limit ms) ms _ (whole-transfer ms s w fresh are room) are room
 
-    -- and in two transfers, one after the other
-    pub transferred-twice : (ms ns : List (List ℕ)) → Messages ms → Messages ns → HasRoom s i (ms ++ ns)
-        → Delivers s i (transfer ms ++ transfer ns) (transferReplies ms ++ transferReplies ns) (ms ++ ns) (a .entries)
-    transferred-twice ms ns are are′ room =
+    pub twice-within : (ms ns : List (List ℕ)) → Messages ms → Messages ns → HasRoom s i (ms ++ ns)
+        → Delivers s i (transfer limit ms ++ transfer limit ns) (transferReplies limit ms ++ transferReplies limit ns) (ms ++ ns) (a .entries)
+    twice-within ms ns are are′ room =
         let w = room-sound s a i h (ms ++ ns) room in
         let x = whole-transfer ms s w fresh are (room-before i ms ns (storeOf s) (a .lines-used) h room) in
         let room-left =
         ap (λ (j : Store). fits todaysShares (raised (j .ledger .used) i (sizesOf ns))) (x .store)
         ∙ room-after i ms ns (storeOf s) (a .lines-used) h room in
-        let y = whole-transfer ns (final step s (bytesOn i (transfer ms))) (x .sound) (x .line) are′ room-left in
-        delivers s (a .entries) (room-held s a i h (ms ++ ns) room) (transfer ms ++ transfer ns) (transferReplies ms ++ transferReplies ns) (ms ++ ns) _
-        (went-on s i (transfer ms) (transfer ns) (transferReplies ms) (transferReplies ns) ms ns _ _ x y) (messages-both ms ns are are′) room
+        let y = whole-transfer ns (final step s (bytesOn i (transfer limit ms))) (x .sound) (x .line) are′ room-left in
+        delivers s (a .entries) (room-held s a i h (ms ++ ns) room) (transfer limit ms ++ transfer limit ns) (transferReplies limit ms ++ transferReplies limit ns) (ms ++ ns) _
+        (went-on s i (transfer limit ms) (transfer limit ns) (transferReplies limit ms) (transferReplies limit ns) ms ns _ _ x y) (messages-both ms ns are are′) room
 
-    -- two messages, one after the other, in one transfer and in two: stored in order, once each
-    module _ (m n : List ℕ) (m-is : isMessage standard m ≡ true) (n-is : isMessage standard n ≡ true) (room : HasRoom s i (m ∷ n ∷ [])) where
-      pub in-one-transfer : Delivers s i (transfer (m ∷ n ∷ [])) (transferReplies (m ∷ n ∷ [])) (m ∷ n ∷ []) (a .entries)
-      in-one-transfer = transferred (m ∷ n ∷ []) (m-is, (n-is, tt)) room
-
-      pub in-two-transfers : Delivers s i (transfer (m ∷ []) ++ transfer (n ∷ [])) (transferReplies (m ∷ []) ++ transferReplies (n ∷ [])) (m ∷ n ∷ []) (a .entries)
-      in-two-transfers = transferred-twice (m ∷ []) (n ∷ []) (m-is, tt) (n-is, tt) room
+-- what hosts are promised: frames are cut within the line's own limit
+own-limit : Usable frameLimit
+own-limit = record { some = omega arith; most = omega arith }
 
 -- a message that is cut and sent to a fresh line, with room for it: 1, then 0 to each byte within a frame, 2 to each frame but the last and 4 to the last;
 -- it is stored byte for byte, once, under the line's next serial
 pub sent : Demand2 step
-sent i h s a fresh m message room = send-one i h s a fresh m message room
+sent = sent-within frameLimit own-limit
+
+module _ (i : ℕ) (h : i < lines) (s : State) (a : Intact s) (fresh : lineAt (s .gateway) i ≡ freshLine) where
+  -- any number of messages in one transfer
+  pub transferred : (ms : List (List ℕ)) → Messages ms → HasRoom s i ms → Delivers s i (transfer frameLimit ms) (transferReplies frameLimit ms) ms (a .entries)
+  transferred = transferred-within frameLimit own-limit i h s a fresh
+
+  -- and in two transfers, one after the other
+  pub transferred-twice : (ms ns : List (List ℕ)) → Messages ms → Messages ns → HasRoom s i (ms ++ ns)
+      → Delivers s i (transfer frameLimit ms ++ transfer frameLimit ns) (transferReplies frameLimit ms ++ transferReplies frameLimit ns) (ms ++ ns) (a .entries)
+  transferred-twice = twice-within frameLimit own-limit i h s a fresh
+
+  -- two messages, one after the other, in one transfer and in two: stored in order, once each
+  module _ (m n : List ℕ) (m-is : isMessage standard m ≡ true) (n-is : isMessage standard n ≡ true) (room : HasRoom s i (m ∷ n ∷ [])) where
+    pub in-one-transfer : Delivers s i (transfer frameLimit (m ∷ n ∷ [])) (transferReplies frameLimit (m ∷ n ∷ [])) (m ∷ n ∷ []) (a .entries)
+    in-one-transfer = transferred (m ∷ n ∷ []) (m-is, (n-is, tt)) room
+
+    pub in-two-transfers : Delivers s i (transfer frameLimit (m ∷ []) ++ transfer frameLimit (n ∷ [])) (transferReplies frameLimit (m ∷ []) ++ transferReplies frameLimit (n ∷ [])) (m ∷ n ∷ []) (a .entries)
+    in-two-transfers = transferred-twice (m ∷ []) (n ∷ []) (m-is, tt) (n-is, tt) room

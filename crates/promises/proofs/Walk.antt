@@ -7,7 +7,6 @@ use Prim.Native.Nat.{ℕ, zero, suc, _+_, _-_, _≤_, _<_}
 use native.Mathlib.Omega.{arith}
 use lib.ListN.{length, getD, take, drop, replicate, take-append-drop, length-drop}
 use lib.Seq.{length-take-le, getD-take}
-use Rattle.memory.specs.Sizes.{frameLimit}
 use Rattle.memory.specs.Parts.{part, splice}
 use Rattle.frame.specs.Control.{stx, lf}
 use Rattle.frame.specs.Number.{nextNumber}
@@ -25,7 +24,6 @@ use Rattle.line.specs.declared.Line.{Line}
 use Rattle.line.specs.declared.Answer.{Answer}
 use Rattle.line.specs.declared.Answer.the-variants.{Nothing, Accepted, Stored}
 use Rattle.journal.specs.Room.{todaysShares}
-use Rattle.journal.specs.Storage.{grown, appended}
 use Rattle.journal.specs.Verdicts.{judgeOf}
 use Rattle.journal.specs.Runs.{State as Store}
 use Rattle.journal.specs.declared.Verdict.the-variants.{Fits}
@@ -37,7 +35,8 @@ use Rattle.gateway.specs.declared.Verdict.the-variants.{Stores}
 use Rattle.gateway.specs.declared.Look.{Look}
 use Rattle.gateway.specs.declared.Look.the-variants.{Decides}
 use Rattle.promises.specs.Machine.{Told, told, Parts, left}
-use Rattle.promises.specs.Sending.{lastAnswer, replies}
+use Rattle.promises.specs.Came.{storedIn}
+use Rattle.promises.specs.Sending.{lastAnswer, replies, Usable}
 use Rattle.promises.proofs.Looked.{look-on, look-last}
 use Rattle.promises.proofs.Feeding.{feed, feed-append, ended, unanswered, inside, ready, own-text, last}
 use Rattle.promises.proofs.Delivered.{Open, accepted-open, Going, clean, one-sent, accepted, line-then, texts-then, frames-then, going-on}
@@ -46,10 +45,6 @@ use Rattle.promises.proofs.Delivered.{Open, accepted-open, Going, clean
 abbrev pub numberAfter : ℕ → List Piece → ℕ
 numberAfter number [] = number
 numberAfter number (p ∷ ps) = numberAfter (nextNumber number) ps
-
--- a message stored on line i
-abbrev pub storedIn : ℕ → List ℕ → Store → Store
-storedIn i m j = record { ledger = grown (j .ledger) i (length m); journal = appended (j .ledger) i m (j .journal) }
 
 all-nothing : (bs : List ℕ) → map unanswered bs ≡ replicate (length bs) (told Nothing [])
 all-nothing [] = refl
@@ -61,8 +56,8 @@ pub record Delivered (i : ℕ) (j : Store) (m : List ℕ) (ps : List Piece) (num
   pub store : r .2 ≡ storedIn i m j
   pub line : Open number (r .1 .line)
 
-module _ (i : ℕ) (j : Store) where
-  module _ (x t : List ℕ) (number : ℕ) (l : Line) (texts frames : List ℕ) (some : 0 < length t) (room : length t + aroundText ≤ frameLimit) where
+module _ (limit : ℕ) (usable : Usable limit) (i : ℕ) (j : Store) where
+  module _ (x t : List ℕ) (number : ℕ) (l : Line) (texts frames : List ℕ) (some : 0 < length t) (room : length t + aroundText ≤ limit) where
     quiet-frame : map unanswered (stx ∷ early number (endAfter (getD t (length t - 1) 0)) t) ≡ replicate (length t + 6) (told Nothing [])
     quiet-frame =
         let size : suc (length (early number (endAfter (getD t (length t - 1) 0)) t)) ≡ length t + 6 = omega (arith, long number (endAfter (getD t (length t - 1) 0)) t) in
@@ -74,7 +69,7 @@ module _ (i : ℕ) (j : Store) where
       end = endAfter (getD t (length t - 1) 0)
 
       abbrev at-lf : Look → Told × Parts × Store
-      at-lf look = last i j l texts number end t frames room (g .low) (clean i j x t [] number end l texts frames g room) (g .frames-long) look
+      at-lf look = last i j l texts limit usable number end t frames room (g .low) (clean limit usable i j x t [] number end l texts frames g room) (g .frames-long) look
 
       abbrev inner : Parts
       inner = inside i j l texts (length (early number end t)) (splice frames 0 (early number end t))
@@ -82,7 +77,7 @@ module _ (i : ℕ) (j : Store) where
       joined-is : joinedText (inner .line) (length t) texts (inner .frames) ≡ x ++ t
       joined-is =
           ap₂ _++_ (ap (part texts 0) (g .joined) ∙ g .held)
-          (own-text i j l texts number end t frames room (g .low) (clean i j x t [] number end l texts frames g room) (g .frames-long))
+          (own-text i j l texts limit usable number end t frames room (g .low) (clean limit usable i j x t [] number end l texts frames g room) (g .frames-long))
 
       message : isMessage standard (x ++ t) ≡ true
       message = ap (λ (u : List ℕ). isMessage standard (x ++ u)) (sym (append-nil t)) ∙ g .message
@@ -96,7 +91,7 @@ module _ (i : ℕ) (j : Store) where
 
       last-sent : feed i (ready i j l texts frames) j (frameOf number end t) ≡ ended (replicate (length t + 6) (told Nothing [])) (left (Stores (length t)) i inner (Byte lf) j)
       last-sent =
-          one-sent i j x t [] number end l texts frames g room
+          one-sent limit usable i j x t [] number end l texts frames g room
           ∙ ap (λ (look : Look). ended (map unanswered (stx ∷ early number end t)) (at-lf look)) (look-last x t some message)
           ∙ ap₂ (λ (ts : List Told) (v : Verdict). ended ts (left v i inner (Byte lf) j)) quiet-frame stored-is
 
@@ -116,16 +111,16 @@ module _ (i : ℕ) (j : Store) where
 
       abbrev ready-then : Parts
       ready-then =
-          ready i j (line-then i j x t (b ∷ y) number end-on l texts frames g room) (texts-then i j x t (b ∷ y) number end-on l texts frames g room)
-          (frames-then i j x t (b ∷ y) number end-on l texts frames g room)
+          ready i j (line-then limit usable i j x t (b ∷ y) number end-on l texts frames g room) (texts-then limit usable i j x t (b ∷ y) number end-on l texts frames g room)
+          (frames-then limit usable i j x t (b ∷ y) number end-on l texts frames g room)
 
       joined-sent : feed i (ready i j l texts frames) j (frameOf number end-on t) ≡ ended (replicate (length t + 6) (told Nothing [])) (told Accepted [], ready-then, j)
       joined-sent =
-          one-sent i j x t (b ∷ y) number end-on l texts frames g room
+          one-sent limit usable i j x t (b ∷ y) number end-on l texts frames g room
           ∙ ap
-          (λ (look : Look). ended (map unanswered (stx ∷ early number end-on t)) (last i j l texts number end-on t frames room (g .low) (clean i j x t (b ∷ y) number end-on l texts frames g room) (g .frames-long) look))
+          (λ (look : Look). ended (map unanswered (stx ∷ early number end-on t)) (last i j l texts limit usable number end-on t frames room (g .low) (clean limit usable i j x t (b ∷ y) number end-on l texts frames g room) (g .frames-long) look))
           (look-on x t some b y (rw (append-assoc x t (b ∷ y)) (g .message)))
-          ∙ ap₂ ended quiet-frame (accepted i j x t (b ∷ y) number end-on l texts frames g room)
+          ∙ ap₂ ended quiet-frame (accepted limit usable i j x t (b ∷ y) number end-on l texts frames g room)
 
       on-delivered : (m bs : List ℕ) (p : Piece) (ps : List Piece) (then : ℕ) → p .bytes ≡ t → lastAnswer ps ≡ Accepted → Delivered i j m ps then (feed i ready-then j bs)
           → Delivered i j m (p ∷ ps) then (feed i (ready i j l texts frames) j (frameOf number end-on t ++ bs))
@@ -149,26 +144,26 @@ module _ (i : ℕ) (j : Store) where
     n : ℕ
     some : 1 ≤ n
     within : n ≤ length y
-    short : n + aroundText ≤ frameLimit
-    pieces : piecesOf frameLimit y ≡ firstPiece n y ∷ piecesOf frameLimit (drop n y)
+    short : n + aroundText ≤ limit
+    pieces : piecesOf limit y ≡ firstPiece n y ∷ piecesOf limit (drop n y)
 
   cut : (y : List ℕ) → 0 < length y → Cut y
   cut y h =
-      let n = throughCr (take (pieceSize frameLimit) (tailAt y 0)) in
-      let t = turn frameLimit y 0 n (omega arith) h refl in
+      let n = throughCr (take (pieceSize limit) (tailAt y 0)) in
+      let t = turn limit y 0 n (usable .some) h refl in
       let from-start : 0 + n ≡ n = omega arith in
       record {
         n = n;
         some = t .some;
         within = omega (arith, t .within);
         short = t .short;
-        pieces = t .cut ∙ ap₂ (λ (u : List ℕ) (k : ℕ). firstPiece n u ∷ piecesOf frameLimit (drop k y)) (rest-part y 0) from-start;
+        pieces = t .cut ∙ ap₂ (λ (u : List ℕ) (k : ℕ). firstPiece n u ∷ piecesOf limit (drop k y)) (rest-part y 0) from-start;
       }
 
-  goes-on : (z : List ℕ) → 0 < length z → lastAnswer (piecesOf frameLimit z) ≡ Accepted
+  goes-on : (z : List ℕ) → 0 < length z → lastAnswer (piecesOf limit z) ≡ Accepted
   goes-on z h = ap lastAnswer (cut z h .pieces)
 
-  no-pieces : piecesOf frameLimit [] ≡ []
+  no-pieces : piecesOf limit [] ≡ []
   unfolding piecesOf
   no-pieces = refl
 
@@ -177,12 +172,12 @@ module _ (i : ℕ) (j : Store) where
   Walks k =
       (x y : List ℕ) (number : ℕ) (l : Line) (texts frames : List ℕ) → length y ≤ k → 0 < length y → Going x y number l texts frames
       → judgeOf (j .ledger) todaysShares i (length (x ++ y)) (j .journal) ≡ Fits
-      → Delivered i j (x ++ y) (piecesOf frameLimit y) (numberAfter number (piecesOf frameLimit y)) (feed i (ready i j l texts frames) j (framesFrom number (piecesOf frameLimit y)))
+      → Delivered i j (x ++ y) (piecesOf limit y) (numberAfter number (piecesOf limit y)) (feed i (ready i j l texts frames) j (framesFrom number (piecesOf limit y)))
 
-  module _ (k : ℕ) (behind : Walks k) (x t : List ℕ) (number : ℕ) (l : Line) (texts frames : List ℕ) (some : 0 < length t) (room : length t + aroundText ≤ frameLimit) where
+  module _ (k : ℕ) (behind : Walks k) (x t : List ℕ) (number : ℕ) (l : Line) (texts frames : List ℕ) (some : 0 < length t) (room : length t + aroundText ≤ limit) where
     by-rest : (z : List ℕ) → length z ≤ k → Going x (t ++ z) number l texts frames → judgeOf (j .ledger) todaysShares i (length (x ++ (t ++ z))) (j .journal) ≡ Fits
-        → Delivered i j (x ++ (t ++ z)) (piece (endAfter (getD t (length t - 1) 0)) t ∷ piecesOf frameLimit z) (numberAfter (nextNumber number) (piecesOf frameLimit z))
-        (feed i (ready i j l texts frames) j (frameOf number (endAfter (getD t (length t - 1) 0)) t ++ framesFrom (nextNumber number) (piecesOf frameLimit z)))
+        → Delivered i j (x ++ (t ++ z)) (piece (endAfter (getD t (length t - 1) 0)) t ∷ piecesOf limit z) (numberAfter (nextNumber number) (piecesOf limit z))
+        (feed i (ready i j l texts frames) j (frameOf number (endAfter (getD t (length t - 1) 0)) t ++ framesFrom (nextNumber number) (piecesOf limit z)))
     by-rest [] low g fits =
         let p = piece (endAfter (getD t (length t - 1) 0)) t in
         let f = frameOf number (endAfter (getD t (length t - 1) 0)) t in
@@ -193,12 +188,12 @@ module _ (i : ℕ) (j : Store) where
         subst (λ (ps : List Piece). Delivered i j (x ++ (t ++ [])) (p ∷ ps) (numberAfter (nextNumber number) ps) (feed i (ready i j l texts frames) j (f ++ framesFrom (nextNumber number) ps))) (sym no-pieces) sent
     by-rest (b ∷ z) low g fits =
         let p = piece (endAfter (getD t (length t - 1) 0)) t in
-        let ps = piecesOf frameLimit (b ∷ z) in
+        let ps = piecesOf limit (b ∷ z) in
         let fits-then = ap (λ (u : List ℕ). judgeOf (j .ledger) todaysShares i (length u) (j .journal)) (append-assoc x t (b ∷ z)) ∙ fits in
         let e = endAfter (getD t (length t - 1) 0) in
         let rest =
-        behind (x ++ t) (b ∷ z) (nextNumber number) (line-then i j x t (b ∷ z) number e l texts frames g room) (texts-then i j x t (b ∷ z) number e l texts frames g room)
-        (frames-then i j x t (b ∷ z) number e l texts frames g room) low (omega arith) (going-on i j x t (b ∷ z) number e l texts frames g room) fits-then in
+        behind (x ++ t) (b ∷ z) (nextNumber number) (line-then limit usable i j x t (b ∷ z) number e l texts frames g room) (texts-then limit usable i j x t (b ∷ z) number e l texts frames g room)
+        (frames-then limit usable i j x t (b ∷ z) number e l texts frames g room) low (omega arith) (going-on limit usable i j x t (b ∷ z) number e l texts frames g room) fits-then in
         let all-of-it = subst (λ (m : List ℕ). Delivered i j m ps (numberAfter (nextNumber number) ps) (feed i (ready-then x t number l texts frames some room b z g) j (framesFrom (nextNumber number) ps))) (append-assoc x t (b ∷ z)) rest in
         on-delivered x t number l texts frames some room b z g (x ++ (t ++ b ∷ z)) (framesFrom (nextNumber number) ps) p ps (numberAfter (nextNumber number) ps) refl (goes-on (b ∷ z) (omega arith)) all-of-it
 
@@ -211,12 +206,12 @@ module _ (i : ℕ) (j : Store) where
       let is : take n y ++ drop n y ≡ y = take-append-drop n y in
       let end-is : getD y (n - 1) 0 ≡ getD (take n y) (length (take n y) - 1) 0 = sym (ap (λ (a : ℕ). getD (take n y) (a - 1) 0) size ∙ getD-take n y (n - 1) 0 (omega (arith, c .some))) in
       let first-is : firstPiece n y ≡ piece (endAfter (getD (take n y) (length (take n y) - 1) 0)) (take n y) = ap (λ (b : ℕ). piece (endAfter b) (take n y)) end-is in
-      let cut-is = c .pieces ∙ ap (λ (p : Piece). p ∷ piecesOf frameLimit (drop n y)) first-is in
+      let cut-is = c .pieces ∙ ap (λ (p : Piece). p ∷ piecesOf limit (drop n y)) first-is in
       let parted = subst (λ (w : List ℕ). Going x w number l texts frames) (sym is) g in
       let fits-so = ap (λ (w : List ℕ). judgeOf (j .ledger) todaysShares i (length (x ++ w)) (j .journal)) is ∙ fits in
       let rest = by-rest k (walk k) x (take n y) number l texts frames (omega (arith, size, c .some)) (omega (arith, size, c .short)) (drop n y) (omega (arith, length-drop n y, c .some, c .within)) parted fits-so in
       subst (λ (ps : List Piece). Delivered i j (x ++ y) ps (numberAfter number ps) (feed i (ready i j l texts frames) j (framesFrom number ps))) (sym cut-is)
       (subst
-      (λ (w : List ℕ). Delivered i j (x ++ w) (piece (endAfter (getD (take n y) (length (take n y) - 1) 0)) (take n y) ∷ piecesOf frameLimit (drop n y)) (numberAfter (nextNumber number) (piecesOf frameLimit (drop n y)))
-      (feed i (ready i j l texts frames) j (frameOf number (endAfter (getD (take n y) (length (take n y) - 1) 0)) (take n y) ++ framesFrom (nextNumber number) (piecesOf frameLimit (drop n y)))))
+      (λ (w : List ℕ). Delivered i j (x ++ w) (piece (endAfter (getD (take n y) (length (take n y) - 1) 0)) (take n y) ∷ piecesOf limit (drop n y)) (numberAfter (nextNumber number) (piecesOf limit (drop n y)))
+      (feed i (ready i j l texts frames) j (frameOf number (endAfter (getD (take n y) (length (take n y) - 1) 0)) (take n y) ++ framesFrom (nextNumber number) (piecesOf limit (drop n y)))))
       is rest)

@@ -1,5 +1,6 @@
 pub mod Machine
 pub mod Runs
+pub mod Came
 pub mod Queue
 pub mod Freed
 pub mod Sending

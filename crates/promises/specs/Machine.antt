@@ -43,6 +43,10 @@ told a b = record { answer = a; buffer = b }
 abbrev pub GatewayItem : Type 0
 GatewayItem = Item Kind (List ℕ)
 
+-- the item of what has come on line i
+abbrev pub came : ℕ → Kind → GatewayItem
+came i k = event i k
+
 abbrev pub onLine : ℕ → Kind → Event
 onLine i k = record { line = i; kind = k }
 

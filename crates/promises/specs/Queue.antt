@@ -4,6 +4,7 @@ use Prim.Native.Nat.{ℕ, _<_}
 use mathlib.Core.Path.{_≡_}
 use mathlib.Core.Bool.{cond, _&&_}
 use mathlib.Core.List.{List, [], _∷_, _++_}
+use mathlib.Core.Option.{Option, none, some}
 use lib.Dec.{eqb}
 use lib.ListN.{getD, take}
 use Rattle.memory.specs.Sizes.{lines}
@@ -12,23 +13,19 @@ use Rattle.journal.specs.Room.{todaysShares}
 use Rattle.journal.specs.Held.{Held}
 use Rattle.journal.specs.Runs.{Numbered, numbered, waiting}
 use Rattle.line.specs.Paper.{valuesOf}
-use Rattle.gateway.specs.Views.{framesOf, textsOf}
-use Rattle.gateway.specs.Looks.{lookOf}
-use Rattle.gateway.specs.Events.{Memory, lineAt}
+use Rattle.gateway.specs.Events.{Memory}
 use Rattle.gateway.specs.declared.Kind.{Kind}
-use Rattle.gateway.specs.declared.Look.{Look}
-use Rattle.gateway.specs.declared.Look.the-variants.{Done, Decides}
 use Rattle.serial.specs.Serial.{event, taking, final}
-use Rattle.promises.specs.Machine.{State, Told, GatewayItem, step}
-use Rattle.promises.specs.Runs.{fresh, answered, textWith}
+use Rattle.promises.specs.Machine.{State, Told, GatewayItem, came, step}
+use Rattle.promises.specs.Runs.{fresh, answered, offered}
 
--- the message that an event completes on its line; none where it completes none
-abbrev pub completedBy : State → ℕ → Look → List ℕ
-completedBy s i (Done v) = []
-completedBy s i (Decides n) = textWith s i n
+-- the message that an event completes on its line; no bytes where it completes none
+abbrev pub completedIn : Option (List ℕ) → List ℕ
+completedIn none = []
+completedIn (some text) = text
 
 abbrev pub completed : State → ℕ → Kind → List ℕ
-completed s i k = completedBy s i (lookOf (lineAt (s .gateway) i) k (textsOf i (s .memory .unfinished)) (framesOf i (s .memory .frames)))
+completed s i k = completedIn (offered s i k)
 
 -- what a taking gave: the values of 8 are the text's length in the buffer, and its serial
 abbrev pub gaveBy : List ℕ → List ℕ → List Numbered
@@ -40,7 +37,7 @@ gave t = gaveBy (valuesOf (t .answer)) (t .buffer)
 
 -- the message that an item stores on line l: one that is answered 4
 abbrev pub storedOn : ℕ → State → GatewayItem → List (List ℕ)
-storedOn l s (event i k) = cond (eqb i l && eqb (answered ((step s (event i k)) .0)) 4) (completed s i k ∷ []) []
+storedOn l s (event i k) = cond (eqb i l && eqb (answered ((step s (came i k)) .0)) 4) (completed s i k ∷ []) []
 storedOn l s (taking i b) = []
 
 -- what an item takes from line l

@@ -4,6 +4,7 @@ use Prim.Native.Nat.{ℕ, _+_, _<_}
 use mathlib.Core.Path.{_≡_}
 use mathlib.Core.Bool.{Bool, true, false}
 use mathlib.Core.List.{List}
+use mathlib.Core.Option.{Option, none, some}
 use lib.Dec.{eqb}
 use lib.ListN.{length, getD}
 use Rattle.memory.specs.Sizes.{journalSize, unfinishedSize, framesSize}
@@ -17,7 +18,8 @@ use Rattle.gateway.specs.Views.{framesOf, textsOf, joinedText}
 use Rattle.gateway.specs.Looks.{lookOf}
 use Rattle.gateway.specs.Events.{Memory, lineAt, freshGateway}
 use Rattle.gateway.specs.declared.Kind.{Kind}
-use Rattle.gateway.specs.declared.Look.the-variants.{Decides}
+use Rattle.gateway.specs.declared.Look.{Look}
+use Rattle.gateway.specs.declared.Look.the-variants.{Done, Decides}
 use Rattle.promises.specs.Machine.{State, Told}
 
 -- memory of the right sizes, whatever it holds
@@ -44,15 +46,23 @@ isAck (Byte b) = eqb b ack
 abbrev pub isFault : ℕ → Bool
 isFault n = between 41 43 n
 
--- what an event on line i would complete: n bytes of its frame behind the line's text
-abbrev pub textWith : State → ℕ → ℕ → List ℕ
-textWith s i n = joinedText (lineAt (s .gateway) i) n (textsOf i (s .memory .unfinished)) (framesOf i (s .memory .frames))
+-- the numbers that a complete text which is no message is decided against with: 30
+abbrev pub isObjection : ℕ → Bool
+isObjection n = eqb n 30
+
+-- the text that an event completes on its line, n bytes of its frame behind the line's text; none where it completes none
+abbrev pub offeredBy : State → ℕ → Look → Option (List ℕ)
+offeredBy s i (Done v) = none
+offeredBy s i (Decides n) = some (joinedText (lineAt (s .gateway) i) n (textsOf i (s .memory .unfinished)) (framesOf i (s .memory .frames)))
+
+abbrev pub offered : State → ℕ → Kind → Option (List ℕ)
+offered s i k = offeredBy s i (lookOf (lineAt (s .gateway) i) k (textsOf i (s .memory .unfinished)) (framesOf i (s .memory .frames)))
 
 -- the event completes a message on its line, and the message's length is such a one
 pub record Completes (s : State) (i : ℕ) (k : Kind) (Such : ℕ → Type 0) : Type 0 where
-  pub from-frame : ℕ
-  pub complete : lookOf (lineAt (s .gateway) i) k (textsOf i (s .memory .unfinished)) (framesOf i (s .memory .frames)) ≡ Decides from-frame
-  pub such : Such (length (textWith s i from-frame))
+  pub text : List ℕ
+  pub complete : offered s i k ≡ some text
+  pub such : Such (length text)
 
 -- the bytes that line i uses, and would use with a text of n bytes: the header is counted
 abbrev pub usedBy : State → ℕ → ℕ
@@ -65,12 +75,16 @@ usedWith s i n = usedBy s i + entrySize n
 abbrev pub Overfull : State → ℕ → Kind → Type 0
 Overfull s i k = Completes s i k (λ n. share < usedWith s i n)
 
--- there is no room for it, and there is: with it, the lines' claims exceed the journal or do not
+-- whether there is room on line i for a text of n bytes: with it, the lines' claims do not exceed the journal
+abbrev pub hasSpace : State → ℕ → ℕ → Bool
+hasSpace s i n = fits todaysShares (raised (s .gateway .ledger .used) i (entrySize n))
+
+-- there is no room for it, and there is
 abbrev pub NoSpace : State → ℕ → Kind → Type 0
-NoSpace s i k = Completes s i k (λ n. fits todaysShares (raised (s .gateway .ledger .used) i (entrySize n)) ≡ false)
+NoSpace s i k = Completes s i k (λ n. hasSpace s i n ≡ false)
 
 abbrev pub Space : State → ℕ → Kind → Type 0
-Space s i k = Completes s i k (λ n. fits todaysShares (raised (s .gateway .ledger .used) i (entrySize n)) ≡ true)
+Space s i k = Completes s i k (λ n. hasSpace s i n ≡ true)
 
 -- it takes more room than a text of m bytes
 abbrev pub Larger : State → ℕ → Kind → ℕ → Type 0

@@ -1,6 +1,6 @@
 -- Messages that are cut into frames and sent on one line: the bytes, their answers, and what is stored.
 -- Assumes nothing.
-use Prim.Native.Nat.{ℕ, _+_, _<_}
+use Prim.Native.Nat.{ℕ, _+_, _≤_, _<_}
 use mathlib.Core.Path.{_≡_}
 use mathlib.Core.Logic.{_≢_}
 use mathlib.Core.Bool.{true}
@@ -9,6 +9,7 @@ use mathlib.Core.Option.{some}
 use lib.ListN.{length, getD, replicate}
 use Rattle.memory.specs.Sizes.{lines, frameLimit, journalSize, unfinishedSize, framesSize}
 use Rattle.memory.specs.Parts.{splice}
+use Rattle.frame.specs.Shape.{aroundText}
 use Rattle.record.specs.Delimiters.{standard}
 use Rattle.record.specs.Faults.{isMessage}
 use Rattle.cutting.specs.Pieces.{Piece, piecesOf}
@@ -26,12 +27,12 @@ use Rattle.journal.specs.Held.{Held}
 use Rattle.journal.specs.declared.Ledger.{Ledger}
 use Rattle.gateway.specs.Events.{lineAt}
 use Rattle.gateway.specs.declared.Kind.the-variants.{Byte}
-use Rattle.serial.specs.Serial.{event, taking, annotate, final, Every}
-use Rattle.promises.specs.Machine.{State, Told, told, GatewayItem, step, partsOf}
+use Rattle.serial.specs.Serial.{taking, annotate, final, Every}
+use Rattle.promises.specs.Machine.{State, Told, told, GatewayItem, came, step, partsOf}
 
 -- bytes that come on line i, one behind the other
 abbrev pub bytesOn : ℕ → List ℕ → List GatewayItem
-bytesOn i bs = map (λ (b : ℕ). event i (Byte b)) bs
+bytesOn i bs = map (λ (b : ℕ). came i (Byte b)) bs
 
 -- what runs items: the gateway's is `step`; the promise can be asked of any (proofs/Frauds)
 abbrev pub Runner : Type 0
@@ -53,27 +54,32 @@ abbrev pub replies : List Piece → List Told
 replies [] = []
 replies (p ∷ ps) = replicate (length (p .bytes) + 6) (told Nothing []) ++ (told (lastAnswer ps) [] ∷ replies ps)
 
--- one message: ENQ, and its frames as we cut them
-abbrev pub sending : List ℕ → List ℕ
-sending m = enq ∷ cutOf frameLimit m
+-- a limit of frames that leaves room for a byte of text and is within the line's own
+pub record Usable (limit : ℕ) : Type 0 where
+  pub some : aroundText < limit
+  pub most : limit ≤ frameLimit
 
-abbrev pub sendingReplies : List ℕ → List Told
-sendingReplies m = told Opened [] ∷ replies (piecesOf frameLimit m)
+-- one message: ENQ, and its frames as we cut them within the limit
+abbrev pub sending : ℕ → List ℕ → List ℕ
+sending limit m = enq ∷ cutOf limit m
+
+abbrev pub sendingReplies : ℕ → List ℕ → List Told
+sendingReplies limit m = told Opened [] ∷ replies (piecesOf limit m)
 
 -- a transfer of several: ENQ, the frames of each message behind those of the one before it with the numbers running on, EOT
-abbrev pub piecesOfAll : List (List ℕ) → List Piece
-piecesOfAll [] = []
-piecesOfAll (m ∷ ms) = piecesOf frameLimit m ++ piecesOfAll ms
+abbrev pub piecesOfAll : ℕ → List (List ℕ) → List Piece
+piecesOfAll limit [] = []
+piecesOfAll limit (m ∷ ms) = piecesOf limit m ++ piecesOfAll limit ms
 
-abbrev pub transfer : List (List ℕ) → List ℕ
-transfer ms = enq ∷ (framesFrom firstNumber (piecesOfAll ms) ++ (eot ∷ []))
+abbrev pub transfer : ℕ → List (List ℕ) → List ℕ
+transfer limit ms = enq ∷ (framesFrom firstNumber (piecesOfAll limit ms) ++ (eot ∷ []))
 
-abbrev pub repliesToAll : List (List ℕ) → List Told
-repliesToAll [] = []
-repliesToAll (m ∷ ms) = replies (piecesOf frameLimit m) ++ repliesToAll ms
+abbrev pub repliesToAll : ℕ → List (List ℕ) → List Told
+repliesToAll limit [] = []
+repliesToAll limit (m ∷ ms) = replies (piecesOf limit m) ++ repliesToAll limit ms
 
-abbrev pub transferReplies : List (List ℕ) → List Told
-transferReplies ms = told Opened [] ∷ (repliesToAll ms ++ (told Ended [] ∷ []))
+abbrev pub transferReplies : ℕ → List (List ℕ) → List Told
+transferReplies limit ms = told Opened [] ∷ (repliesToAll limit ms ++ (told Ended [] ∷ []))
 
 -- the entries that texts become on line i, one behind the other
 abbrev pub newEntries : Ledger → ℕ → List (List ℕ) → List Entry
@@ -118,7 +124,7 @@ Delivers s i bs answers ms es = DeliversBy step s i bs answers ms es
 abbrev pub Demand2 : Runner → Type 0
 Demand2 f =
     (i : ℕ) → i < lines → (s : State) (w : Intact s) → lineAt (s .gateway) i ≡ freshLine → (m : List ℕ) → isMessage standard m ≡ true → HasRoom s i (m ∷ [])
-    → DeliversBy f s i (sending m) (sendingReplies m) (m ∷ []) (w .entries)
+    → DeliversBy f s i (sending frameLimit m) (sendingReplies frameLimit m) (m ∷ []) (w .entries)
 
 -- a taking from line i into the buffer b gives the text m with this serial: both its length and the serial are answered, it stands at the start of the buffer,
 -- and the buffer's rest stays

@@ -1,0 +1,182 @@
+-- What an event of the gateway comes to, shown once: at a sound state it passes, or the text that it completes is stored, crowded out, or no message.
+-- Assumes nothing.
+use mathlib.Core.Path.{_≡_, refl, sym, ap, subst, _∙_}
+use mathlib.Core.Bool.{Bool, true, false, cond, not, _||_}
+use mathlib.Core.List.{List, []}
+use Prim.Native.Nat.{ℕ, _<_}
+use borrow.Author.Tests.{eqb-true}
+use lib.Dec.{eqb}
+use lib.ListN.{length}
+use Rattle.memory.specs.Sizes.{lines}
+use Rattle.memory.proofs.Tests.{clash}
+use Rattle.record.specs.Delimiters.{standard}
+use Rattle.record.specs.Faults.{isMessage}
+use Rattle.record.proofs.Messages.{message-some, message-short}
+use Rattle.journal.specs.Room.{todaysShares}
+use Rattle.journal.specs.Runs.{State as Store}
+use Rattle.journal.specs.declared.Verdict.the-variants.{Fits, NoRoom as Full}
+use Rattle.journal.proofs.Cases.{held-judged}
+use Rattle.line.specs.Paper.{numberOf, replyOf}
+use Rattle.line.specs.declared.Line.{Line}
+use Rattle.line.specs.declared.Answer.{Answer}
+use Rattle.line.specs.declared.Answer.the-variants.{NoMessage, NoRoom}
+use Rattle.line.proofs.Paper.{every-answer}
+use Rattle.gateway.specs.Views.{joinedText}
+use Rattle.gateway.specs.Looks.{lookOf}
+use Rattle.gateway.specs.Verdicts.{roomVerdict, decisionOf, decided, ownWork, answerOf}
+use Rattle.gateway.specs.declared.Kind.{Kind}
+use Rattle.gateway.specs.declared.Look.{Look}
+use Rattle.gateway.specs.declared.Look.the-variants.{Done, Decides}
+use Rattle.gateway.specs.declared.Verdict.{Verdict}
+use Rattle.gateway.specs.declared.Verdict.the-variants.{Stores, Against}
+use Rattle.gateway.proofs.Views.{own-parts}
+use Rattle.gateway.proofs.Cases.{Cases, every-look}
+use Rattle.gateway.proofs.Fits.{LookFits, look-fits, quiet-keeps}
+use Rattle.gateway_laws.specs.Classes.{classOf}
+use Rattle.promises.specs.Machine.{State, Told, told, step, isDecision, decides, Parts, partsOf, storeOf, left, Sound, came}
+use Rattle.promises.specs.Runs.{answered, isAck, isFault, isObjection, offeredBy, hasSpace}
+use Rattle.promises.specs.Came.{Passes, Settles, Came, quiet, stored, crowded, against}
+use Rattle.promises.proofs.Sound.{work, ready, event-answer, event-journal}
+
+-- a look that is done decides nothing and comes to no fault: only a message that is complete is decided
+abbrev Harmless : Look → Type 0
+Harmless (Done v) = (isFault (numberOf (answerOf v)) ≡ false) × (isDecision (classOf (answerOf v)) ≡ false)
+Harmless (Decides n) = Unit {0}
+
+harmless : (l : Line) → Cases Harmless l
+harmless l = record {
+  ignored = (refl, refl);
+  busy = (refl, refl);
+  opens = (refl, refl);
+  ended = (refl, refl);
+  dropped = (refl, refl);
+  timed-out = (refl, refl);
+  begins = (refl, refl);
+  counts = λ n h. (refl, refl);
+  collects = λ h. (refl, refl);
+  unended = (refl, refl);
+  torn = (refl, refl);
+  unchecked = (refl, refl);
+  foreign = (refl, refl);
+  unnumbered = (refl, refl);
+  refused = (refl, refl);
+  repeated = (refl, refl);
+  missed = (refl, refl);
+  overlong = (refl, refl);
+  no-cr = (refl, refl);
+  accepts = λ n t. (refl, refl);
+  decides = λ n t. tt;
+}
+
+module _ (s : State) (w : Sound s) (i : ℕ) (k : Kind) (line : i < lines) where
+  abbrev own : Parts
+  own = partsOf s i
+
+  abbrev look : Look
+  look = lookOf (own .line) k (own .texts) (own .frames)
+
+  -- what a look comes to at any store
+  abbrev verdict : Look → Store → Verdict
+  verdict x j = decided x todaysShares (own .line) (j .ledger) i (j .journal) (own .texts) (own .frames)
+
+  -- the answer and the store, once the verdict is known
+  module _ (v : Verdict) (is : work s w i k line ≡ v) where
+    told-is : (step s (came i k)) .0 ≡ told (answerOf v) []
+    told-is = event-answer s w i k line ∙ ap (λ (x : Verdict). told (answerOf x) []) is
+
+    store-is : storeOf ((step s (came i k)) .1) ≡ (left v i own k (storeOf s)) .2
+    store-is = event-journal s w i k line ∙ ap (λ (x : Verdict). (left x i own k (storeOf s)) .2) is
+
+  work-is : (x : Look) → look ≡ x → work s w i k line ≡ verdict x (storeOf s)
+  unfolding ownWork
+  work-is x is = ap (λ (y : Look). verdict y (storeOf s)) is
+
+  -- ---- nothing is complete
+
+  module _ (v : Verdict) (is : look ≡ Done v) (fits : LookFits (Done v) (own .line)) (plain : Harmless (Done v)) where
+    same-store : (j : Store) → (left v i own k j) .2 ≡ j
+    same-store j =
+        let (ledger, journal) = quiet-keeps v (j .ledger) i (λ n. joinedText (own .line) n (own .texts) (own .frames)) (j .journal) (fits .1) in
+        λ z. record { ledger = ledger z; journal = journal z }
+
+    passes : Passes s i k
+    unfolding ownWork
+    passes = record {
+      no-text = ap (offeredBy s i) is;
+      undecided = ap decides (told-is v (work-is (Done v) is)) ∙ plain .1;
+      no-fault = ap (λ (t : Told). isFault (answered t)) (told-is v (work-is (Done v) is)) ∙ plain .0;
+      kept = store-is v (work-is (Done v) is) ∙ same-store (storeOf s);
+      anywhere = λ j.
+          subst (λ (x : Look). left (verdict x j) i own k j ≡ ((left (verdict x (storeOf s)) i own k (storeOf s)) .0, (left (verdict x (storeOf s)) i own k (storeOf s)) .1, j)) (sym is)
+          (λ z. ((left v i own k j) .0, (left v i own k j) .1, (same-store j) z));
+    }
+
+  -- ---- a text is complete: the records, then the journal
+
+  module _ (n : ℕ) (is : look ≡ Decides n) where
+    abbrev text : List ℕ
+    text = joinedText (own .line) n (own .texts) (own .frames)
+
+    settles : (v : Verdict) → work s w i k line ≡ v → isDecision (classOf (answerOf v)) ≡ true → (Such : ℕ → Type 0) → Such (numberOf (answerOf v))
+        → Settles s i k text Such ((left v i own k (storeOf s)) .2)
+    settles v of d Such such = record {
+      complete = ap (offeredBy s i) is;
+      decided = ap decides (told-is v of) ∙ d;
+      number = subst (λ (t : Told). Such (answered t)) (sym (told-is v of)) such;
+      left = store-is v of;
+    }
+
+    no-message : isMessage standard text ≡ false → work s w i k line ≡ Against NoMessage n
+    unfolding decisionOf
+    no-message m = work-is (Decides n) is ∙ rw m
+
+    module _ (m : isMessage standard text ≡ true) where
+      judged : (room : Bool) → hasSpace s i (length text) ≡ room → work s w i k line ≡ roomVerdict (cond room Fits Full) n
+      unfolding decisionOf
+      judged room has =
+          let d = s .gateway .ledger in
+          work-is (Decides n) is
+          ∙ rw (m, ← (held-judged todaysShares d i text (s .memory .journal) (w .entries) (w .held) line (message-some standard text m) (message-short standard text m) room has))
+
+      by-space : (room : Bool) → hasSpace s i (length text) ≡ room → Came s i k
+      by-space true has = stored text m has (settles (Stores n) (judged true has) refl (λ c. c ≡ 4) refl)
+      by-space false has = crowded text m has (settles (Against NoRoom n) (judged false has) refl (λ c. c ≡ 31) refl)
+
+    by-message : (b : Bool) → isMessage standard text ≡ b → Came s i k
+    by-message true m = by-space m (hasSpace s i (length text)) refl
+    by-message false m = against text m (settles (Against NoMessage n) (no-message m) refl (λ c. isObjection c ≡ true) refl)
+
+  by-look : (x : Look) → look ≡ x → LookFits x (own .line) → Harmless x → Came s i k
+  by-look (Done v) is fits plain = quiet (passes v is fits plain)
+  by-look (Decides n) is fits plain = by-message n is (isMessage standard (text n is)) refl
+
+  pub comes-to : Came s i k
+  comes-to =
+      let parts = own-parts (own .line) i (s .memory .unfinished) (s .memory .frames) (ready s w i k line) in
+      by-look look refl (look-fits (own .line) (own .texts) (own .frames) parts k) (every-look Harmless (own .line) (harmless (own .line)) (own .texts) (own .frames) parts k)
+
+-- ---- the numbers
+
+-- 4, 30 and 31 decide
+decisions-decide : (a : Answer) → isDecision (classOf a) || not (eqb (numberOf a) 4 || eqb (numberOf a) 31) ≡ true
+decisions-decide = every-answer (λ a. isDecision (classOf a) || not (eqb (numberOf a) 4 || eqb (numberOf a) 31)) (λ vs. refl)
+
+neither : (d x y : Bool) → d || not (x || y) ≡ true → d ≡ false → (x ≡ false) × (y ≡ false)
+neither false false false e q = (refl, refl)
+neither false false true e q = clash cc
+neither false true y e q = clash cc
+neither true x y e q = clash cc
+
+pub undecided-other : (t : Told) → decides t ≡ false → (eqb (answered t) 4 ≡ false) × (eqb (answered t) 31 ≡ false)
+undecided-other t e = neither (decides t) (eqb (answered t) 4) (eqb (answered t) 31) (decisions-decide (t .answer)) e
+
+-- an objection is neither 4 nor 31, tells of no fault and is not acknowledged
+pub record Other (n : ℕ) : Type 0 where
+  pub not-4 : eqb n 4 ≡ false
+  pub not-31 : eqb n 31 ≡ false
+  pub no-fault : isFault n ≡ false
+  pub no-ack : isAck (replyOf n) ≡ false
+
+pub objection-other : (n : ℕ) → isObjection n ≡ true → Other n
+unfolding replyOf
+objection-other n e = subst Other (sym (eqb-true n 30 e)) (record { not-4 = refl; not-31 = refl; no-fault = refl; no-ack = refl })
