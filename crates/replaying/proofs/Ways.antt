@@ -105,7 +105,8 @@ module _ (d : Desk) (out : List ℕ) (put : ℕ) where
   stays s = record { turn = refl; out = refl; numbers = refl; used = refl; journal = refl; unfinished = refl; frames = refl; buffer = refl }
 
   module _ (item : Item) (number behind : ℕ) where
-    pub acted-event : {e : GatewayEvent} {a : Answered} {r : Turn} {out′ ns′ us′ j′ u′ f′ : List ℕ} → item ≡ Event e → Calling (d .numbers) (d .used) e (d .journal) (d .unfinished) (d .frames) a ns′ us′ j′ u′ f′
+    pub acted-event : {e : GatewayEvent} {a : Answered} {r : Turn} {out′ ns′ us′ j′ u′ f′ : List ℕ} → item ≡ Event e
+        → Calling (d .numbers) (d .used) e (d .journal) (d .unfinished) (d .frames) a ns′ us′ j′ u′ f′
         → Telling number (e .line) (a .number) (a .length) behind out put r out′ → Leaves (acted item number behind out put d) r out′ ns′ us′ j′ u′ f′ (d .buffer)
     unfolding eventAsked
     acted-event {e} {a} {r} {out′} q c t = as-turn (ap (λ (x : Item). acted x number behind out put d) q) (record {
