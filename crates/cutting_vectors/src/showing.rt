@@ -41,8 +41,8 @@ pub fn framed(length: usize, room: usize, framed: Framed) -> usize {
     show(b":");
     match framed {
         Framed::Length(n) => long(n),
-        Framed::NoMessage => refused(Answer::Malformed),
-        Framed::NoRoom => refused(Answer::NotFitting),
+        Framed::Malformed => refused(Answer::Malformed),
+        Framed::NotFitting => refused(Answer::NotFitting),
     }
 }
 

@@ -43,8 +43,8 @@ pub fn answer(quiet: u64, line: u8, answer: Answer) {
 // What a cutting gives, in the same form: the paper's number, or how long the frames are.
 pub fn framed(quiet: u64, line: u8, framed: Framed) {
     match framed {
-        Framed::NoMessage => answer(quiet, line, Answer::Malformed),
-        Framed::NoRoom => answer(quiet, line, Answer::NotFitting),
+        Framed::Malformed => answer(quiet, line, Answer::Malformed),
+        Framed::NotFitting => answer(quiet, line, Answer::NotFitting),
         Framed::Length(n) => done(quiet, line, n),
     }
 }

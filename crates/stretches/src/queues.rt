@@ -143,8 +143,8 @@ fn message(b: Bench, line: u8, n: usize, pool: &mut [u64]) -> Bench {
     let cut = cutting::cut(memory::FRAME_LIMIT, &text[..n], &mut out);
     match cut {
         cutting::Framed::Length(m) => opened(b, line, &out, m, n, pool),
-        cutting::Framed::NoMessage => refused(b),
-        cutting::Framed::NoRoom => refused(b),
+        cutting::Framed::Malformed => refused(b),
+        cutting::Framed::NotFitting => refused(b),
     }
 }
 
