@@ -16,7 +16,7 @@ use Rattle.memory.specs.Moves.{copied}
 use Rattle.memory.proofs.Parts.{sets-splice}
 use Rattle.kinds.specs.declared.Delimiters.{Delimiters}
 use Rattle.component.specs.Escape.{letterFor, escapeOf, escaped, escapeAnswer, Escaping}
-use Rattle.component.specs.declared.Put.the-variants.{Done, Short}
+use Rattle.component.specs.declared.Put.the-variants.{Done, NotFitting}
 
 pub escape-one : (d : Delimiters) (x : ℕ) → letterFor d x ≡ 0 → escapeOf d x ≡ x ∷ []
 unfolding escapeOf
@@ -61,15 +61,17 @@ module _ (d : Delimiters) (s : List ℕ) (i o : ℕ) (h : i < length s) (out all
       rw (add-one o, add-two o, add-three o, k)
       (rw (escaped-more d s i h, escape-three d (getD s i 0) (λ q. z (k ∙ q))) at e)
 
-pub one-less : (d : Delimiters) (s : List ℕ) (i o t : ℕ) → i < length s → letterFor d (getD s i 0) ≡ 0 → o + length (escaped d (drop i s)) ≡ t → o + 1 + length (escaped d (drop (i + 1) s)) ≡ t
+pub one-less : (d : Delimiters) (s : List ℕ) (i o t : ℕ) → i < length s → letterFor d (getD s i 0) ≡ 0
+    → o + length (escaped d (drop i s)) ≡ t → o + 1 + length (escaped d (drop (i + 1) s)) ≡ t
 one-less d s i o t h z e = let l = ap length (escape-one d (getD s i 0) z) in omega (arith, length-more d s i h, l, e)
 
-pub three-less : (d : Delimiters) (s : List ℕ) (i o t : ℕ) → i < length s → (letterFor d (getD s i 0) ≡ 0 → ⊥) → o + length (escaped d (drop i s)) ≡ t → o + 3 + length (escaped d (drop (i + 1) s)) ≡ t
+pub three-less : (d : Delimiters) (s : List ℕ) (i o t : ℕ) → i < length s → (letterFor d (getD s i 0) ≡ 0 → ⊥)
+    → o + length (escaped d (drop i s)) ≡ t → o + 3 + length (escaped d (drop (i + 1) s)) ≡ t
 three-less d s i o t h z e = let l = ap length (escape-three d (getD s i 0) z) in omega (arith, length-more d s i h, l, e)
 
 -- what each way out of escaping says
 module _ (d : Delimiters) (text out : List ℕ) where
-  pub escape-short : leb (length (escaped d text)) (length out) ≡ false → Escaping d text out Short out
+  pub escape-short : leb (length (escaped d text)) (length out) ≡ false → Escaping d text out NotFitting out
   unfolding escapeAnswer copied
   escape-short e =
       let over : leb (0 + length (escaped d text)) (length out) ≡ false = rw zero-add e in

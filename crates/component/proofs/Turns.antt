@@ -8,7 +8,7 @@ use native.Mathlib.Numerals.{add-one}
 use native.Mathlib.Omega.{arith}
 use native.Mathlib.Decide.{ℕ-discrete, decLt}
 use borrow.Author.Tests.{le-leb, lt-leb, eq-eqb, ne-eqb}
-use Rattle.component.specs.declared.Put.the-variants.{Done, Malformed, Short}
+use Rattle.component.specs.declared.Put.the-variants.{Done, Malformed, NotFitting}
 use lib.ListN.{length, getD, drop, drop-of-length-le}
 use lib.Seq.{drop-cons, sets}
 use lib.Dec.{leb, eqb}
@@ -40,7 +40,8 @@ none-left [] e = refl
 none-left (b ∷ s) e = absurd (omega (arith, e))
 
 -- behind &, a letter stands for a byte, and another byte is refused
-letter-of : (f s r e : Bool) (w x y z : ℕ) → f || (s || (r || (e || false))) ≡ true → (h : ℕ) × (cond f (Keep (Held w)) (cond s (Keep (Held x)) (cond r (Keep (Held y)) (cond e (Keep (Held z)) Bad))) ≡ Keep (Held h))
+letter-of : (f s r e : Bool) (w x y z : ℕ) → f || (s || (r || (e || false))) ≡ true
+    → (h : ℕ) × (cond f (Keep (Held w)) (cond s (Keep (Held x)) (cond r (Keep (Held y)) (cond e (Keep (Held z)) Bad))) ≡ Keep (Held h))
 letter-of true s r e w x y z t = (w, refl)
 letter-of false true r e w x y z t = (x, refl)
 letter-of false false true e w x y z t = (y, refl)
@@ -90,7 +91,8 @@ module _ (d : Delimiters) (s : List ℕ) (i : ℕ) {j : ℕ} (n : j ≡ i + 1) (
 
 module _ (d : Delimiters) (s : List ℕ) (i : ℕ) (h : i < length s) where
   -- a byte that is no delimiter is itself
-  pub itself : (getD s i 0 ≡ d .escape → ⊥) → letterFor d (getD s i 0) ≡ 0 → (right d Plain (drop i s) ≡ right d Plain (drop (i + 1) s)) × (plainOf d Plain (drop i s) ≡ getD s i 0 ∷ plainOf d Plain (drop (i + 1) s))
+  pub itself : (getD s i 0 ≡ d .escape → ⊥) → letterFor d (getD s i 0) ≡ 0
+      → (right d Plain (drop i s) ≡ right d Plain (drop (i + 1) s)) × (plainOf d Plain (drop i s) ≡ getD s i 0 ∷ plainOf d Plain (drop (i + 1) s))
   unfolding turnPlain
   itself n l =
       let e = ne-eqb (getD s i 0) (d .escape) n in
@@ -120,7 +122,8 @@ module _ (d : Delimiters) (s : List ℕ) (i : ℕ) where
       ]
 
   -- an escape gives the byte that its letter stands for, and goes on behind
-  pub escape-gives : (x : ℕ) → EscapeAt d s i → turnOpen d (getD s (i + 1) 0) ≡ Keep (Held x) → (right d Plain (drop i s) ≡ right d Plain (drop (i + 3) s)) × (plainOf d Plain (drop i s) ≡ x ∷ plainOf d Plain (drop (i + 3) s))
+  pub escape-gives : (x : ℕ) → EscapeAt d s i → turnOpen d (getD s (i + 1) 0) ≡ Keep (Held x)
+      → (right d Plain (drop i s) ≡ right d Plain (drop (i + 3) s)) × (plainOf d Plain (drop i s) ≡ x ∷ plainOf d Plain (drop (i + 3) s))
   escape-gives x e k =
       let (r₁, p₁) = opened d s i refl (omega arith) (e .opens) in
       let (r₂, p₂) = held d s (i + 1) {j = i + 2} (omega arith) (omega arith) x k in
@@ -217,7 +220,7 @@ module _ (d : Delimiters) (s : List ℕ) where
       let no = wrong-cond (accepted d s) (length (plain d s)) e in
       record { answer = rw no; after = rw no }
 
-  pub unescape-short : (out : List ℕ) (n : ℕ) → measured d s ≡ Of n → length out < n → Unescaping d s out Short out
+  pub unescape-short : (out : List ℕ) (n : ℕ) → measured d s ≡ Of n → length out < n → Unescaping d s out NotFitting out
   unfolding unescapeAnswer unescapedOver copied
   unescape-short out n e h =
       let over : leb (0 + length (plain d s)) (length out) ≡ false = lt-leb (0 + length (plain d s)) (length out) (omega (arith, of-length n e)) in

@@ -10,7 +10,7 @@ use Rattle.memory.specs.Tests.{is}
 use Rattle.memory.specs.Moves.{fitsAt, copied}
 use Rattle.kinds.specs.declared.Delimiters.{Delimiters}
 use Rattle.component.specs.declared.Put.{Put}
-use Rattle.component.specs.declared.Put.the-variants.{Done, Malformed, Short}
+use Rattle.component.specs.declared.Put.the-variants.{Done, Malformed, NotFitting}
 
 -- the letter that stands for a byte between two &: F for |, S for ^, R for \, E for &; 0 where the byte stands for itself
 unfoldable pub letterFor : Delimiters → ℕ → ℕ
@@ -29,11 +29,11 @@ escaped d (b ∷ bs) = escapeOf d b ++ escaped d bs
 abbrev pub paper : Put → List ℕ
 paper (Done n) = []
 paper Malformed = 46 ∷ []
-paper Short = 47 ∷ []
+paper NotFitting = 47 ∷ []
 
 -- the answer to an escaping: its length, or 47
 unfoldable pub escapeAnswer : Delimiters → List ℕ → List ℕ → Put
-escapeAnswer d text out = cond (fitsAt out 0 (escaped d text)) (Done (length (escaped d text))) Short
+escapeAnswer d text out = cond (fitsAt out 0 (escaped d text)) (Done (length (escaped d text))) NotFitting
 
 -- what escaping says: the answer, and the memory after it: the escaped text at its start, the rest kept; unchanged on a refusal
 pub record Escaping (d : Delimiters) (text out : List ℕ) (r : Put) (out′ : List ℕ) : Type 0 where

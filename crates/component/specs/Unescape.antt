@@ -11,7 +11,7 @@ use Rattle.memory.specs.Moves.{fitsAt, copied}
 use Rattle.kinds.specs.declared.Delimiters.{Delimiters}
 use Rattle.component.specs.Escape.{letterFor}
 use Rattle.component.specs.declared.Put.{Put}
-use Rattle.component.specs.declared.Put.the-variants.{Done, Malformed, Short}
+use Rattle.component.specs.declared.Put.the-variants.{Done, Malformed, NotFitting}
 use Rattle.component.specs.declared.Measured.{Measured}
 use Rattle.component.specs.declared.Measured.the-variants.{Of, Wrong}
 
@@ -88,7 +88,7 @@ measured d c = cond (accepted d c) (Of (length (plain d c))) Wrong
 
 -- the answer to an unescaping: 46 where an escape is wrong, then 47 where the memory is too short, else the length
 unfoldable pub unescapeAnswer : Delimiters → List ℕ → List ℕ → Put
-unescapeAnswer d c out = unless (accepted d c) Malformed (cond (fitsAt out 0 (plain d c)) (Done (length (plain d c))) Short)
+unescapeAnswer d c out = unless (accepted d c) Malformed (cond (fitsAt out 0 (plain d c)) (Done (length (plain d c))) NotFitting)
 
 -- the memory after it: unchanged on a refusal
 unfoldable pub unescapedOver : Delimiters → List ℕ → List ℕ → List ℕ

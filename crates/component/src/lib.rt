@@ -24,7 +24,7 @@ pub enum ResultField {
 pub enum Put {
     Done(usize),
     Malformed,
-    Short,
+    NotFitting,
 }
 
 // The length of a component without its escapes, if they are right.
@@ -108,7 +108,7 @@ pub fn escape(d: Delimiters, text: &[u8], out: &mut [u8]) -> Put
     ensures { λ r. ⌜ Escaping d (now (text .entry)) (now (out .entry)) r (now (out .exit)) ⌝ }
 {
     if !escaping::fits(d, text, out.len()) {
-        return Put::Short;
+        return Put::NotFitting;
     }
     let n = escaping::write(d, text, out);
     Put::Done(n)
@@ -122,7 +122,7 @@ pub fn unescape(d: Delimiters, text: &[u8], out: &mut [u8]) -> Put
     match m {
         Measured::Of(n) => {
             if out.len() < n {
-                return Put::Short;
+                return Put::NotFitting;
             }
             unescaping::write(d, text, n, out);
             Put::Done(n)

@@ -107,13 +107,16 @@ cut-onto b ps r behind c = by-front (c .front) (c .whole) (c .going) (c .bytes)
 
 record-from : (size : ℕ) (r : List ℕ) (t : List ℕ) (room : ℕ) → all isNotCr r ≡ true → RecordCut (piecesFrom size room (r ++ cr ∷ t)) r (piecesFrom size size t)
 record-from size [] t room h = record { front = []; last = cr ∷ []; whole = refl; going = refl; bytes = refl }
-record-from size (b ∷ r) t room h = by-room (leb room 1) (is cr b) (not-true (is cr b) (and-left (isNotCr b) (all isNotCr r) h)) (record-from size r t size rest) (record-from size r t (room - 1) rest)
+record-from size (b ∷ r) t room h =
+    by-room (leb room 1) (is cr b) (not-true (is cr b) (and-left (isNotCr b) (all isNotCr r) h)) (record-from size r t size rest) (record-from size r t (room - 1) rest)
   where
     rest : all isNotCr r ≡ true
     rest = and-right (isNotCr b) (all isNotCr r) h
 
-    by-room : (y x : Bool) → x ≡ false → RecordCut (piecesFrom size size (r ++ cr ∷ t)) r (piecesFrom size size t) → RecordCut (piecesFrom size (room - 1) (r ++ cr ∷ t)) r (piecesFrom size size t)
-        → RecordCut (cond x (piece Etx (b ∷ []) ∷ piecesFrom size size (r ++ cr ∷ t)) (cond y (piece Etb (b ∷ []) ∷ piecesFrom size size (r ++ cr ∷ t)) (onto b (piecesFrom size (room - 1) (r ++ cr ∷ t))))) (b ∷ r) (piecesFrom size size t)
+    by-room : (y x : Bool) → x ≡ false → RecordCut (piecesFrom size size (r ++ cr ∷ t)) r (piecesFrom size size t)
+        → RecordCut (piecesFrom size (room - 1) (r ++ cr ∷ t)) r (piecesFrom size size t)
+        → RecordCut (cond x (piece Etx (b ∷ []) ∷ piecesFrom size size (r ++ cr ∷ t))
+        (cond y (piece Etb (b ∷ []) ∷ piecesFrom size size (r ++ cr ∷ t)) (onto b (piecesFrom size (room - 1) (r ++ cr ∷ t))))) (b ∷ r) (piecesFrom size size t)
     by-room y true e c d = let z : _≡_ {A = ℕ} 0 1 = cc in absurd (omega arith)
     by-room true false e c d =
         record {

@@ -22,7 +22,7 @@ use Rattle.faults.specs.Faults.{isMessage}
 use Rattle.records.proofs.Scans.{tailAt, rest-part}
 use Rattle.cutting.specs.Pieces.{Piece, piecesOf, bytesOf}
 use Rattle.cutting.specs.Frames.{framesFrom, cutOf, isCuttable, cutAnswer, cutIn, CutInto}
-use Rattle.cutting.specs.declared.Framed.the-variants.{Length, NoMessage, NoRoom}
+use Rattle.cutting.specs.declared.Framed.the-variants.{Length, Malformed, NotFitting}
 use Rattle.cutting.proofs.Steps.{firstPiece, Turn}
 
 pub length-frame : (number : ℕ) (end : End) (text : List ℕ) → length (frameOf number end text) ≡ length text + aroundText
@@ -107,11 +107,11 @@ frames-long number (p ∷ ps) =
 
 -- what each way out of cutting says
 module _ (limit : ℕ) (text out : List ℕ) where
-  pub no-message : isCuttable limit text ≡ false → CutInto limit text out NoMessage out
+  pub no-message : isCuttable limit text ≡ false → CutInto limit text out Malformed out
   unfolding cutAnswer cutIn
   no-message e = record { answer = rw e; after = rw e }
 
-  pub no-room : isCuttable limit text ≡ true → length out < length (cutOf limit text) → CutInto limit text out NoRoom out
+  pub no-room : isCuttable limit text ≡ true → length out < length (cutOf limit text) → CutInto limit text out NotFitting out
   unfolding cutAnswer cutIn
   no-room e h =
       let full = lt-leb (length (cutOf limit text)) (length out) h in

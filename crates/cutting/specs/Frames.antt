@@ -16,7 +16,7 @@ use Rattle.kinds.specs.Delimiters.{standard}
 use Rattle.faults.specs.Faults.{isMessage}
 use Rattle.cutting.specs.Pieces.{Piece, piecesOf}
 use Rattle.cutting.specs.declared.Framed.{Framed}
-use Rattle.cutting.specs.declared.Framed.the-variants.{Length, NoMessage, NoRoom}
+use Rattle.cutting.specs.declared.Framed.the-variants.{Length, Malformed, NotFitting}
 
 -- the number of a message's first frame
 abbrev pub firstNumber : ℕ
@@ -41,7 +41,7 @@ holds out bs = leb (length bs) (length out)
 -- the length of the frames, or why there are none
 unfoldable pub cutAnswer : ℕ → List ℕ → List ℕ → Framed
 cutAnswer limit text out =
-    unless (isCuttable limit text) NoMessage (unless (holds out (cutOf limit text)) NoRoom (Length (length (cutOf limit text))))
+    unless (isCuttable limit text) Malformed (unless (holds out (cutOf limit text)) NotFitting (Length (length (cutOf limit text))))
 
 -- the memory after it: the frames over its start, and unchanged where there are none
 unfoldable pub cutIn : ℕ → List ℕ → List ℕ → List ℕ
@@ -54,6 +54,6 @@ pub record CutInto (limit : ℕ) (text out : List ℕ) (r : Framed) (out′ : Li
 
 -- the paper's number of each refusal
 abbrev pub refusedBy : Framed → Option ℕ
-refusedBy NoMessage = some 46
-refusedBy NoRoom = some 47
+refusedBy Malformed = some 46
+refusedBy NotFitting = some 47
 refusedBy (Length n) = none

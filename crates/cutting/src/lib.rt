@@ -1,14 +1,37 @@
 // A message cut into frames in lent memory: each record starts a new frame, and is cut into pieces that fit one.
+ghost use mathlib.Core.Path.{_≡_};
+ghost use lib.ListN.{take};
+ghost use Rattle.cutting.specs.Pieces.{pieceSize, throughCr};
 ghost use Rattle.cutting.specs.Frames.{CutInto};
 
-mod pieces; // pieces.rt: where pieces end, and how long the frames are
+mod pieces; // pieces.rt: how long pieces may be, and how long the frames are
 mod writing; // writing.rt: the frames in lent memory
 
 // The frames' length, or why there are none.
 pub enum Framed {
     Length(usize),
-    NoMessage,
-    NoRoom,
+    Malformed,
+    NotFitting,
+}
+
+// The length of a text's first piece: through the first CR, or as many bytes as a frame within the limit holds.
+// Its last byte need not be looked at, as it ends the piece whether it is CR or not; the others are looked at in pairs.
+pub fn first_piece(limit: usize, text: &[u8]) -> usize
+    ensures { λ r. ⌜ r ≡ throughCr (take (pieceSize limit) (now (text .entry))) ⌝ }
+{
+    let most = pieces::most_within(limit, text.len());
+    let mut n: usize = 0;
+    while n + 1 < most {
+        if text[n] == records::CR {
+            return n + 1;
+        }
+        n += 1;
+        if text[n] == records::CR {
+            return n + 1;
+        }
+        n += 1;
+    }
+    most
 }
 
 // Writes the frames of a message over the start of out. All is measured first, so that a refusal writes nothing.
@@ -16,14 +39,14 @@ pub fn cut(limit: usize, text: &[u8], out: &mut [u8]) -> Framed
     ensures { λ r. ⌜ CutInto limit (now (text .entry)) (now (out .entry)) r (now (out .exit)) ⌝ }
 {
     if limit <= frame::AROUND_TEXT {
-        return Framed::NoMessage;
+        return Framed::Malformed;
     }
     if !message::is_message(text) {
-        return Framed::NoMessage;
+        return Framed::Malformed;
     }
     let n = pieces::measure(limit, text);
     if out.len() < n {
-        return Framed::NoRoom;
+        return Framed::NotFitting;
     }
     writing::write_all(limit, text, out);
     Framed::Length(n)

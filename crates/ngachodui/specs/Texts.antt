@@ -11,14 +11,14 @@ use Rattle.records.specs.Records.{records}
 use Rattle.component.specs.Escape.{escaped, escapeAnswer}
 use Rattle.component.specs.Unescape.{unescapeAnswer, unescapedOver}
 use Rattle.component.specs.declared.Put.{Put}
-use Rattle.component.specs.declared.Put.the-variants.{Done, Malformed as WrongEscape, Short as ShortOutput}
+use Rattle.component.specs.declared.Put.the-variants as put
 use Rattle.owner.specs.Owners.{typesOf, ownersOf}
 use Rattle.owner.specs.Reading.{offsetsOf, lengthsOf, readingOf, laid}
 use Rattle.owner.specs.declared.Reading.{Reading}
-use Rattle.owner.specs.declared.Reading.the-variants.{Read, NoMessage as NotRead, Short as ShortRows}
+use Rattle.owner.specs.declared.Reading.the-variants as reading
 use Rattle.cutting.specs.Frames.{cutAnswer, cutIn}
 use Rattle.cutting.specs.declared.Framed.{Framed}
-use Rattle.cutting.specs.declared.Framed.the-variants.{Length, NoMessage, NoRoom}
+use Rattle.cutting.specs.declared.Framed.the-variants as framed
 use Rattle.line.specs.Paper.{numberOf}
 use Rattle.line.specs.declared.Answer.{Answer}
 use Rattle.line.specs.declared.Answer.the-variants.{Malformed, NotFitting}
@@ -33,19 +33,19 @@ abbrev pub refusedWith : Answer → Made
 refusedWith a = record { number = numberOf a; length = 0 }
 
 unfoldable pub madeByCutting : Framed → Made
-madeByCutting (Length n) = done n
-madeByCutting NoMessage = refusedWith Malformed
-madeByCutting NoRoom = refusedWith NotFitting
+madeByCutting (framed.Length n) = done n
+madeByCutting framed.Malformed = refusedWith Malformed
+madeByCutting framed.NotFitting = refusedWith NotFitting
 
 unfoldable pub madeByPutting : Put → Made
-madeByPutting (Done n) = done n
-madeByPutting WrongEscape = refusedWith Malformed
-madeByPutting ShortOutput = refusedWith NotFitting
+madeByPutting (put.Done n) = done n
+madeByPutting put.Malformed = refusedWith Malformed
+madeByPutting put.NotFitting = refusedWith NotFitting
 
 unfoldable pub madeByReading : Reading → Made
-madeByReading (Read n) = done n
-madeByReading NotRead = refusedWith Malformed
-madeByReading ShortRows = refusedWith NotFitting
+madeByReading (reading.Read n) = done n
+madeByReading reading.Malformed = refusedWith Malformed
+madeByReading reading.NotFitting = refusedWith NotFitting
 
 -- a message cut into frames of today's limit
 pub record CutFrames (text out : List ℕ) (r : Made) (out′ : List ℕ) : Type 0 where

@@ -79,8 +79,8 @@ fn made_by_cutting(framed: Framed) -> Made
 {
     match framed {
         Framed::Length(n) => done(n),
-        Framed::NoMessage => refused_with(Answer::Malformed),
-        Framed::NoRoom => refused_with(Answer::NotFitting),
+        Framed::Malformed => refused_with(Answer::Malformed),
+        Framed::NotFitting => refused_with(Answer::NotFitting),
     }
 }
 
@@ -90,7 +90,7 @@ fn made_by_putting(put: Put) -> Made
     match put {
         Put::Done(n) => done(n),
         Put::Malformed => refused_with(Answer::Malformed),
-        Put::Short => refused_with(Answer::NotFitting),
+        Put::NotFitting => refused_with(Answer::NotFitting),
     }
 }
 
@@ -99,8 +99,8 @@ fn made_by_reading(reading: Reading) -> Made
 {
     match reading {
         Reading::Read(n) => done(n),
-        Reading::NoMessage => refused_with(Answer::Malformed),
-        Reading::Short => refused_with(Answer::NotFitting),
+        Reading::Malformed => refused_with(Answer::Malformed),
+        Reading::NotFitting => refused_with(Answer::NotFitting),
     }
 }
 

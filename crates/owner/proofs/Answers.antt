@@ -17,7 +17,7 @@ use Rattle.characters.specs.Control.{cr}
 use Rattle.records.specs.Records.{onto, records}
 use Rattle.faults.specs.Faults.{isMessage}
 use Rattle.kinds.specs.declared.Delimiters.{Delimiters}
-use Rattle.owner.specs.declared.Reading.the-variants.{Read, NoMessage, Short}
+use Rattle.owner.specs.declared.Reading.the-variants.{Read, Malformed, NotFitting}
 use Rattle.owner.specs.Nearest.{nearestOwners}
 use Rattle.owner.specs.Owners.{typesOf, ownersOf}
 use Rattle.owner.specs.Reading.{offsetsOf, lengthsOf, roomFor, readingOf, ReadAs}
@@ -72,11 +72,11 @@ room-all n a b c e h =
     )
 
 module _ (d : Delimiters) (text ts os ls ws : List ℕ) where
-  pub read-none : isMessage d text ≡ false → ReadAs d text ts os ls ws ts os ls ws NoMessage
+  pub read-none : isMessage d text ≡ false → ReadAs d text ts os ls ws ts os ls ws Malformed
   unfolding readingOf
   read-none e = record { answer = rw e; types = refl; offsets = refl; lengths = refl; owners = refl }
 
-  pub read-short : isMessage d text ≡ true → roomFor (length (records text)) (length ts) (length os) (length ls) (length ws) ≡ false → ReadAs d text ts os ls ws ts os ls ws Short
+  pub read-short : isMessage d text ≡ true → roomFor (length (records text)) (length ts) (length os) (length ls) (length ws) ≡ false → ReadAs d text ts os ls ws ts os ls ws NotFitting
   unfolding readingOf
   read-short e f = record { answer = rw (e, f); types = refl; offsets = refl; lengths = refl; owners = refl }
 
@@ -105,7 +105,7 @@ pub read-fits : (d : Delimiters) (text : List ℕ) (a b c e n : ℕ) → reading
 unfolding readingOf
 read-fits d text a b c e n h = room-all (length (records text)) a b c e (by-tests (isMessage d text) (roomFor (length (records text)) a b c e) h)
   where
-    by-tests : (m r : Bool) → unless m NoMessage (unless r Short (Read (length (records text)))) ≡ Read n → r ≡ true
+    by-tests : (m r : Bool) → unless m Malformed (unless r NotFitting (Read (length (records text)))) ≡ Read n → r ≡ true
     by-tests true true g = refl
     by-tests true false g = let z : _≡_ {A = ℕ} 0 1 = cc in absurd (omega arith)
     by-tests false r g = let z : _≡_ {A = ℕ} 0 1 = cc in absurd (omega arith)

@@ -45,7 +45,8 @@ stored l l' vs n h front back = ext-getD 0 l' (sets l 0 vs) (n ∙ sym (length-s
           | yes p ↦ front k p ∙ sym (ap (λ (z : List ℕ). getD z k 0) is ∙ List·getD-append vs (drop (length vs) l) 0 k p)
           | no p ↦
               let r : length vs + (k - length vs) ≡ k = omega arith in
-              let b : getD (vs ++ drop (length vs) l) (length vs + (k - length vs)) 0 ≡ getD l (length vs + (k - length vs)) 0 = getD-append-add vs (drop (length vs) l) (k - length vs) 0 ∙ getD-drop (length vs) l (k - length vs) 0 in
+              let b : getD (vs ++ drop (length vs) l) (length vs + (k - length vs)) 0 ≡ getD l (length vs + (k - length vs)) 0 =
+              getD-append-add vs (drop (length vs) l) (k - length vs) 0 ∙ getD-drop (length vs) l (k - length vs) 0 in
               back k (omega arith) ∙ sym (ap (λ (z : List ℕ). getD z k 0) is ∙ (rw r at b))
         ]
 

@@ -13,7 +13,7 @@ use Rattle.faults.specs.Faults.{isMessage}
 use Rattle.kinds.specs.declared.Delimiters.{Delimiters}
 use Rattle.owner.specs.Owners.{typesOf, ownersOf}
 use Rattle.owner.specs.declared.Reading.{Reading}
-use Rattle.owner.specs.declared.Reading.the-variants.{Read, NoMessage, Short}
+use Rattle.owner.specs.declared.Reading.the-variants.{Read, Malformed, NotFitting}
 
 abbrev pub lengthsOf : List (List ℕ) → List ℕ
 lengthsOf [] = []
@@ -31,20 +31,20 @@ roomFor n types offsets lengths owners = leb n types && leb n offsets && leb n l
 -- the answer: 46 for what is no message, then 47 where one of four memories of these lengths is too short, else the number of records
 unfoldable pub readingOf : Delimiters → List ℕ → ℕ → ℕ → ℕ → ℕ → Reading
 readingOf d text types offsets lengths owners =
-    unless (isMessage d text) NoMessage
-    (unless (roomFor (length (records text)) types offsets lengths owners) Short (Read (length (records text))))
+    unless (isMessage d text) Malformed
+    (unless (roomFor (length (records text)) types offsets lengths owners) NotFitting (Read (length (records text))))
 
 -- a memory after an answer: these numbers at its start and its rest kept where the message was read, else as it was
 abbrev pub laid : Reading → List ℕ → List ℕ → List ℕ
 laid (Read n) old new = splice old 0 new
-laid NoMessage old new = old
-laid Short old new = old
+laid Malformed old new = old
+laid NotFitting old new = old
 
 -- the paper's number of a refusal; none for a reading
 abbrev pub paper : Reading → List ℕ
 paper (Read n) = []
-paper NoMessage = 46 ∷ []
-paper Short = 47 ∷ []
+paper Malformed = 46 ∷ []
+paper NotFitting = 47 ∷ []
 
 -- what reading says: the answer, and each of the four memories after it
 pub record ReadAs (d : Delimiters) (text ts os ls ws ts′ os′ ls′ ws′ : List ℕ) (r : Reading) : Type 0 where

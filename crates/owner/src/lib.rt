@@ -9,8 +9,8 @@ mod runs; // runs.rt: owners, by the runs of records that they own
 // What becomes of a text that is read: so many records; it is no message; a memory is too short.
 pub enum Reading {
     Read(usize),
-    NoMessage,
-    Short,
+    Malformed,
+    NotFitting,
 }
 
 // Four memories of these lengths have n places each.
@@ -41,11 +41,11 @@ pub fn read(
     ensures { λ r. ⌜ ReadAs d (now (text .entry)) (now (types .entry)) (now (offsets .entry)) (now (lengths .entry)) (now (owners .entry)) (now (types .exit)) (now (offsets .exit)) (now (lengths .exit)) (now (owners .exit)) r ⌝ }
 {
     if !message::is_message_by(d, text) {
-        return Reading::NoMessage;
+        return Reading::Malformed;
     }
     let n = records::count_records(text);
     if !has_room(n, types.len(), offsets.len(), lengths.len(), owners.len()) {
-        return Reading::Short;
+        return Reading::NotFitting;
     }
     rows::fill_rows(text, types, offsets, lengths);
     runs::fill_owners(&types[..n], owners);

@@ -105,8 +105,8 @@ fn rows(d: Delimiters, text: &[u8]) {
             line_end(n);
             list(d, text, &types, &offsets, &lengths, &owners);
         }
-        Reading::NoMessage => line_end(46),
-        Reading::Short => line_end(47),
+        Reading::Malformed => line_end(46),
+        Reading::NotFitting => line_end(47),
     }
 }
 
@@ -202,8 +202,8 @@ fn short(text: &[u8]) {
 fn answer(r: Reading) {
     match r {
         Reading::Read(n) => line_end(n),
-        Reading::NoMessage => line_end(46),
-        Reading::Short => line_end(47),
+        Reading::Malformed => line_end(46),
+        Reading::NotFitting => line_end(47),
     }
 }
 
@@ -229,7 +229,7 @@ fn put(r: Put) {
     match r {
         Put::Done(n) => number(n),
         Put::Malformed => number(46),
-        Put::Short => number(47),
+        Put::NotFitting => number(47),
     }
 }
 

@@ -26,7 +26,7 @@ use Rattle.ngachodui.specs.Calls.{Calling, Taken}
 use Rattle.ngachodui.specs.declared.Answered.{Answered}
 use Rattle.replaying.specs.Lines.{nextOf}
 use Rattle.replaying.specs.Desk.{rowRoom, Desk, eventAsked, takingAsked}
-use Rattle.replaying.specs.Turns.{AfterTurn, stopped, acted, onLine, turnOf, Leaves, deskOf, Telling, ReadIn}
+use Rattle.replaying.specs.Turns.{AfterTurn, stopped, acted, onLine, turnOf, Leaves, Telling, ReadIn}
 use Rattle.replaying.specs.declared.Next.{Next}
 use Rattle.replaying.specs.declared.Stop.{Stop}
 use Rattle.replaying.specs.declared.Stop.the-variants.{Output, NotAnEvent}
@@ -97,21 +97,19 @@ module _ (number line answer size behind : ℕ) (out : List ℕ) (put : ℕ) {w 
   pub never-short : w ≡ NoRoom → ⊥
   never-short e = true≢false (ap isTo (sym (fits-written (rowText number line answer size) out put room t .0) ∙ e))
 
-module _ (ns us j u f b out : List ℕ) (put : ℕ) where
+module _ (d : Desk) (out : List ℕ) (put : ℕ) where
   as-turn : {s t : AfterTurn} {r : Turn} {out′ ns′ us′ j′ u′ f′ b′ : List ℕ} → s ≡ t → Leaves t r out′ ns′ us′ j′ u′ f′ b′ → Leaves s r out′ ns′ us′ j′ u′ f′ b′
   as-turn {s} {t} {r} {out′} {ns′} {us′} {j′} {u′} {f′} {b′} q l = subst (λ (x : AfterTurn). Leaves x r out′ ns′ us′ j′ u′ f′ b′) (sym q) l
 
-  abbrev here : Desk
-  here = deskOf ns us j u f b
-
-  pub stays : (s : Stop) → Leaves (stopped s out here) (Stopped s) out ns us j u f b
+  pub stays : (s : Stop) → Leaves (stopped s out d) (Stopped s) out (d .numbers) (d .used) (d .journal) (d .unfinished) (d .frames) (d .buffer)
   stays s = record { turn = refl; out = refl; numbers = refl; used = refl; journal = refl; unfinished = refl; frames = refl; buffer = refl }
 
   module _ (item : Item) (number behind : ℕ) where
-    pub acted-event : {e : GatewayEvent} {a : Answered} {r : Turn} {out′ ns′ us′ j′ u′ f′ : List ℕ} → item ≡ Event e → Calling ns us e j u f a ns′ us′ j′ u′ f′
-        → Telling number (e .line) (a .number) (a .length) behind out put r out′ → Leaves (acted item number behind out put here) r out′ ns′ us′ j′ u′ f′ b
+    pub acted-event : {e : GatewayEvent} {a : Answered} {r : Turn} {out′ ns′ us′ j′ u′ f′ : List ℕ} → item ≡ Event e
+        → Calling (d .numbers) (d .used) e (d .journal) (d .unfinished) (d .frames) a ns′ us′ j′ u′ f′
+        → Telling number (e .line) (a .number) (a .length) behind out put r out′ → Leaves (acted item number behind out put d) r out′ ns′ us′ j′ u′ f′ (d .buffer)
     unfolding eventAsked
-    acted-event {e} {a} {r} {out′} q c t = as-turn (ap (λ (x : Item). acted x number behind out put here) q) (record {
+    acted-event {e} {a} {r} {out′} q c t = as-turn (ap (λ (x : Item). acted x number behind out put d) q) (record {
       turn = t .turn ∙ ap (λ (x : Answered). Went behind (put + length (rowText number (e .line) (x .number) (x .length)))) (c .result);
       out = t .after ∙ ap (λ (x : Answered). splice out put (rowText number (e .line) (x .number) (x .length))) (c .result);
       numbers = c .numbers;
@@ -122,14 +120,15 @@ module _ (ns us j u f b out : List ℕ) (put : ℕ) where
       buffer = refl;
     })
 
-    pub acted-taking : {i n m : ℕ} {a : Answered} {r : Turn} {out′ us′ j′ b₁ b′ : List ℕ} → item ≡ Taking i n → m ≡ min n (length b) → Taken ns us i j (take m b) a us′ j′ b₁
-        → b′ ≡ b₁ ++ drop m b → Telling number i (a .number) (a .length) behind out put r out′ → Leaves (acted item number behind out put here) r out′ ns us′ j′ u f b′
+    pub acted-taking : {i n m : ℕ} {a : Answered} {r : Turn} {out′ us′ j′ b₁ b′ : List ℕ} → item ≡ Taking i n → m ≡ min n (length (d .buffer))
+        → Taken (d .numbers) (d .used) i (d .journal) (take m (d .buffer)) a us′ j′ b₁ → b′ ≡ b₁ ++ drop m (d .buffer)
+        → Telling number i (a .number) (a .length) behind out put r out′ → Leaves (acted item number behind out put d) r out′ (d .numbers) us′ j′ (d .unfinished) (d .frames) b′
     unfolding takingAsked
     acted-taking {i} {n} {m} {a} {r} {out′} {us′} {j′} {b₁} {b′} q p c e t =
-        let d : drop m b ≡ drop n b = rw p (drop-least n b) in
-        let k : take m b ≡ take n b = rw p (take-least n b) in
-        let c′ : Taken ns us i j (take n b) a us′ j′ b₁ = rw (← k) c in
-        as-turn (ap (λ (x : Item). acted x number behind out put here) q) (record {
+        let behind-lent : drop m (d .buffer) ≡ drop n (d .buffer) = rw p (drop-least n (d .buffer)) in
+        let lent : take m (d .buffer) ≡ take n (d .buffer) = rw p (take-least n (d .buffer)) in
+        let c′ : Taken (d .numbers) (d .used) i (d .journal) (take n (d .buffer)) a us′ j′ b₁ = rw (← lent) c in
+        as-turn (ap (λ (x : Item). acted x number behind out put d) q) (record {
           turn = t .turn ∙ ap (λ (x : Answered). Went behind (put + length (rowText number i (x .number) (x .length)))) (c′ .result);
           out = t .after ∙ ap (λ (x : Answered). splice out put (rowText number i (x .number) (x .length))) (c′ .result);
           numbers = refl;
@@ -137,27 +136,28 @@ module _ (ns us j u f b out : List ℕ) (put : ℕ) where
           journal = c′ .journal;
           unfinished = refl;
           frames = refl;
-          buffer = e ∙ rw (d, c′ .buffer);
+          buffer = e ∙ rw (behind-lent, c′ .buffer);
         })
 
     -- where the line behind starts
-    pub acted-behind : (most : ℕ) {r : Turn} → behind ≤ most → r ≡ acted item number behind out put here .turn → ReadIn r most
+    pub acted-behind : (most : ℕ) {r : Turn} → behind ≤ most → r ≡ acted item number behind out put d .turn → ReadIn r most
     acted-behind most {r} h q = subst (λ (x : Turn). ReadIn x most) (sym q) (by-item item)
       where
-        by-item : (x : Item) → ReadIn (acted x number behind out put here .turn) most
+        by-item : (x : Item) → ReadIn (acted x number behind out put d .turn) most
         by-item (Event e) = h
         by-item (Taking i n) = h
         by-item NoItem = tt
 
-    pub acted-none : item ≡ NoItem → Leaves (acted item number behind out put here) (Stopped NotAnEvent) out ns us j u f b
-    acted-none q = as-turn (ap (λ (x : Item). acted x number behind out put here) q) (stays NotAnEvent)
+    pub acted-none : item ≡ NoItem → Leaves (acted item number behind out put d) (Stopped NotAnEvent) out (d .numbers) (d .used) (d .journal) (d .unfinished) (d .frames) (d .buffer)
+    acted-none q = as-turn (ap (λ (x : Item). acted x number behind out put d) q) (stays NotAnEvent)
 
   module _ (input : List ℕ) (at number : ℕ) where
-    pub no-room : length out < put + rowRoom → Leaves (turnOf number input at out put here) (Stopped Output) out ns us j u f b
+    pub no-room : length out < put + rowRoom → Leaves (turnOf number input at out put d) (Stopped Output) out (d .numbers) (d .used) (d .journal) (d .unfinished) (d .frames) (d .buffer)
     unfolding turnOf
     no-room h = as-turn (rw (lt-leb (put + rowRoom) (length out) h)) (stays Output)
 
-    pub has-room : {x : Next} {r : Turn} {out′ ns′ us′ j′ u′ f′ b′ : List ℕ} → put + rowRoom ≤ length out → x ≡ nextOf input at → Leaves (onLine x number out put here) r out′ ns′ us′ j′ u′ f′ b′
-        → Leaves (turnOf number input at out put here) r out′ ns′ us′ j′ u′ f′ b′
+    pub has-room : {x : Next} {r : Turn} {out′ ns′ us′ j′ u′ f′ b′ : List ℕ} → put + rowRoom ≤ length out → x ≡ nextOf input at
+        → Leaves (onLine x number out put d) r out′ ns′ us′ j′ u′ f′ b′
+        → Leaves (turnOf number input at out put d) r out′ ns′ us′ j′ u′ f′ b′
     unfolding turnOf
     has-room h q l = as-turn (rw (le-leb (put + rowRoom) (length out) h, ← q)) l

@@ -26,40 +26,37 @@ abbrev μ-scan : tie.MeasureT-scan
 scan-holds : tie.Need-scan-holds Inv-loop μ-loop Inv-scan μ-scan
 scan-holds c = (search needs, refl)
 
-shared-slice-read-b : tie.Need-shared-slice-read-b Inv-loop μ-loop Inv-scan μ-scan
-shared-slice-read-b c = search needs
-
 loop-holds : tie.Need-loop-holds Inv-loop μ-loop Inv-scan μ-scan
 loop-holds c = (search needs, refl)
 
-array-read-if2 : tie.Need-array-read-if2 Inv-loop μ-loop Inv-scan μ-scan
-array-read-if2 c = search needs
-
-add-k : tie.Need-add-k Inv-loop μ-loop Inv-scan μ-scan
-add-k c = search needs
-
-loop-less : tie.Need-loop-less Inv-loop μ-loop Inv-scan μ-scan
-loop-less c = search needs
-
 loop-again : tie.Need-loop-again Inv-loop μ-loop Inv-scan μ-scan
-loop-again c = let s = c .before .before .before .before .before in let a = s .before .args in
-    (search needs, isOneOf-next (stopsOf (a .d)) (getD (a .text .now) (s .scan .i) 0) (c .before .before .loop .k) _ (search needs) (c .if2 .left) (c .before .before .loop .inv .1))
-
-add-i : tie.Need-add-i Inv-loop μ-loop Inv-scan μ-scan
-add-i c = search needs
-
-scan-less : tie.Need-scan-less Inv-loop μ-loop Inv-scan μ-scan
-scan-less c = search needs
+loop-again c =
+    let l = c .before .before in
+    let s = l .before .before .before in
+    let a = s .before .args in
+    (search needs, isOneOf-next (stopsOf (a .d)) (getD (a .text .now) (s .scan .i) 0) (l .loop .k) _ (search needs) (c .if2 .left) (l .loop .inv .1))
 
 scan-again : tie.Need-scan-again Inv-loop μ-loop Inv-scan μ-scan
-scan-again c = let s = c .before .before .before .before in let a = s .before .args in
-    (search needs, find-next (isOneOf (stopsOf (a .d))) (a .text .now) (s .scan .i) (search needs) (isOneOf-none (stopsOf (a .d)) (getD (a .text .now) (s .scan .i) 0) (c .before .loop .k) _ (search needs) (c .before .loop .inv .1)) (s .scan .inv .1))
+scan-again c =
+    let l = c .before in
+    let s = l .before .before .before in
+    let a = s .before .args in
+    let none = isOneOf-none (stopsOf (a .d)) (getD (a .text .now) (s .scan .i) 0) (l .loop .k) _ (search needs) (l .loop .inv .1) in
+    (search needs, find-next (isOneOf (stopsOf (a .d))) (a .text .now) (s .scan .i) (search needs) none (s .scan .inv .1))
 
 returns : tie.Need-returns Inv-loop μ-loop Inv-scan μ-scan
-returns c = let s = c .before in let a = s .before .args in find-done (isOneOf (stopsOf (a .d))) (a .text .now) (s .scan .i) (c .if1 .taken) (s .scan .inv .1)
+returns c =
+    let s = c .before in
+    let a = s .before .args in
+    find-done (isOneOf (stopsOf (a .d))) (a .text .now) (s .scan .i) (c .if1 .taken) (s .scan .inv .1)
 
 returns-2 : tie.Need-returns-2 Inv-loop μ-loop Inv-scan μ-scan
-returns-2 c = let s = c .before .before .before .before .before in let a = s .before .args in find-stop (isOneOf (stopsOf (a .d))) (a .text .now) (s .scan .i) (search needs) (isOneOf-here (stopsOf (a .d)) (getD (a .text .now) (s .scan .i) 0) (c .before .before .loop .k) _ (search needs) (c .if2 .taken) (c .before .before .loop .inv .1)) (s .scan .inv .1)
+returns-2 c =
+    let l = c .before .before in
+    let s = l .before .before .before in
+    let a = s .before .args in
+    let stop = isOneOf-here (stopsOf (a .d)) (getD (a .text .now) (s .scan .i) 0) (l .loop .k) _ (search needs) (c .if2 .taken) (l .loop .inv .1) in
+    find-stop (isOneOf (stopsOf (a .d))) (a .text .now) (s .scan .i) (search needs) stop (s .scan .inv .1)
 
 pub component-end-spec : {M : Type 1} → statement M
 component-end-spec =
@@ -70,14 +67,14 @@ component-end-spec =
     Inv-scan
     μ-scan
     scan-holds
-    shared-slice-read-b
+    (λ c. search needs)
     loop-holds
-    array-read-if2
-    add-k
-    loop-less
+    (λ c. search needs)
+    (λ c. search needs)
+    (λ c. search needs)
     loop-again
-    add-i
-    scan-less
+    (λ c. search needs)
+    (λ c. search needs)
     scan-again
     returns
     returns-2)

@@ -12,11 +12,8 @@ use Rattle.component.proofs.escape.Statement.{statement}
 use Rattle.component.proofs.escape.Tie as tie
 
 -- past the test
-room : (c : tie.Else1) → leb (length (escaped (c .before .before .before .before .args .d) (c .before .before .before .before .args .text .now))) (length (c .before .before .before .before .args .out .now)) ≡ true
+room : (c : tie.Else1) → let a = c .before .before .before .before .args in leb (length (escaped (a .d) (a .text .now))) (length (a .out .now)) ≡ true
 room c = sym (c .before .fits2 .ensures) ∙ not-false _ (c .if1 .left)
-
-fits-requires : tie.Need-fits-requires
-fits-requires c κs = search needs
 
 returns : tie.Need-returns
 returns c =
@@ -26,9 +23,6 @@ returns c =
 write-requires : tie.Need-write-requires
 write-requires c κs = leb-true _ _ (room (c .before))
 
-same-length : tie.Need-same-length
-same-length c = search needs
-
 returns-2 : tie.Need-returns-2
 returns-2 c =
     let e = c .before .before .before .before in
@@ -37,4 +31,4 @@ returns-2 c =
 
 pub escape-spec : {M : Type 1} → statement M
 escape-spec =
-    tie.close (tie.spec fits-requires returns write-requires same-length returns-2)
+    tie.close (tie.spec (λ c κs. search needs) returns write-requires (λ c. search needs) returns-2)

@@ -9,12 +9,22 @@ use denote.Ref.{now}
 use lib.ListN.{length}
 use Rattle.kinds.specs.Delimiters.{standard}
 use Rattle.faults.specs.Faults.{isMessage}
-use Rattle.faults.proofs.Messages.{message-short, message-ends}
-use Rattle.cutting.specs.Frames.{cutOf}
+use Rattle.faults.proofs.Messages.{message-short}
+use Rattle.cutting.specs.Frames.{isCuttable, cutOf}
 use Rattle.cutting.proofs.Written.{no-message, no-room, cut-written, limit-small, by-message}
 use Rattle.cutting.proofs.Laws.{cut-long}
 use Rattle.cutting.proofs.cut.Statement.{statement}
 use Rattle.cutting.proofs.cut.Tie as tie
+
+-- the function's start, and behind the first two tests the place where they are passed
+abbrev start : tie.After-is-message → tie.Start
+start c = c .before .before .before .before
+
+abbrev passed : tie.After-measure → tie.Else2
+passed c = c .before
+
+abbrev entry : tie.After-measure → tie.Start
+entry c = start (passed c .before)
 
 returns : tie.Need-returns
 returns c =
@@ -23,44 +33,42 @@ returns c =
 
 returns-2 : tie.Need-returns-2
 returns-2 c =
-    let a = c .before .before .before .before .before .args in
-    no-message (a .limit) (now (a .text)) (now (a .out))
-    (by-message (a .limit) (now (a .text)) (omega arith) (sym (c .before .is-message .ensures) ∙ not-true _ (c .if2 .taken)))
+    let a = start (c .before) .args in
+    let no = sym (c .before .is-message .ensures) ∙ not-true _ (c .if2 .taken) in
+    no-message (a .limit) (now (a .text)) (now (a .out)) (by-message (a .limit) (now (a .text)) (omega arith) no)
 
 -- past the two tests the text is a message
-a-message : (c : tie.Else2) → isMessage standard (now (c .before .before .before .before .before .args .text)) ≡ true
+a-message : (c : tie.Else2) → isMessage standard (now (start (c .before) .args .text)) ≡ true
 a-message c = sym (c .before .is-message .ensures) ∙ not-false _ (c .if2 .left)
 
+-- and can be cut
+cuttable : (c : tie.Else2) → let a = start (c .before) .args in isCuttable (a .limit) (now (a .text)) ≡ true
+cuttable c = let a = start (c .before) .args in by-message (a .limit) (now (a .text)) (omega arith) (a-message c)
+
 measure-requires : tie.Need-measure-requires
-measure-requires c κs =
-    let text = now (c .before .before .before .before .before .args .text) in
-    (omega arith, message-short standard text (a-message c), message-ends standard text (a-message c))
+measure-requires c κs = (omega arith, message-short standard (now (start (c .before) .args .text)) (a-message c))
 
 -- what was measured is the length of the frames
-measured : (c : tie.After-measure) → c .measure .result ≡ length (cutOf (c .before .before .before .before .before .before .args .limit) (now (c .before .before .before .before .before .before .args .text)))
-measured c =
-    let a = c .before .before .before .before .before .before .args in
-    c .measure .ensures ∙ sym (cut-long (a .limit) (now (a .text)))
+measured : (c : tie.After-measure) → c .measure .result ≡ length (cutOf (entry c .args .limit) (now (entry c .args .text)))
+measured c = c .measure .ensures ∙ sym (cut-long (entry c .args .limit) (now (entry c .args .text)))
 
 returns-3 : tie.Need-returns-3
 returns-3 c =
-    let a = c .before .before .before .before .before .before .before .args in
-    let long = measured (c .before) in
-    no-room (a .limit) (now (a .text)) (now (a .out)) (by-message (a .limit) (now (a .text)) (omega arith) (a-message (c .before .before))) (omega arith)
+    let m = c .before in
+    let a = entry m .args in
+    let long = measured m in
+    no-room (a .limit) (now (a .text)) (now (a .out)) (cuttable (passed m)) (omega arith)
 
 write-all-requires : tie.Need-write-all-requires
-write-all-requires c κs =
-    let text = now (c .before .before .before .before .before .before .before .before .args .text) in
-    let long = measured (c .before .before) in
-    (omega arith, omega arith, message-ends standard text (a-message (c .before .before .before)))
+write-all-requires c κs = let long = measured (c .before .before) in (omega arith, omega arith)
 
 returns-4 : tie.Need-returns-4
 returns-4 c =
-    let a = c .before .before .before .before .before .before .before .before .before .before .before .args in
-    let long = measured (c .before .before .before .before .before) in
-    cut-written (a .limit) (now (a .text)) (now (a .out))
-    (by-message (a .limit) (now (a .text)) (omega arith) (a-message (c .before .before .before .before .before .before))) (omega arith) long
-    (c .before .before .write-all .ensures)
+    let w = c .before .before in
+    let m = w .before .before .before in
+    let a = entry m .args in
+    let long = measured m in
+    cut-written (a .limit) (now (a .text)) (now (a .out)) (cuttable (passed m)) (omega arith) long (w .write-all .ensures)
 
 pub cut-spec : {M : Type 1} → statement M
 cut-spec =

@@ -1,4 +1,4 @@
--- `component::fits_escaped` meets its contract: what is left to put out fits into the room that is left just if all fits into all.
+-- `component::escaping::fits` meets its contract: what is left to put out fits into the room that is left just if all fits into all.
 -- Assumes nothing.
 use borrow.Author.Needs.{needs}
 use mathlib.Core.Path.{_≡_, refl}
@@ -16,29 +16,35 @@ Inv-loop d text room left₀ i₀ left i = (i ≤ length text) × (leb (length (
 abbrev μ-loop : tie.MeasureT-loop
 μ-loop d text room left₀ i₀ left i = length text - i
 
+-- the places: this turn's start, and the function's
+abbrev turn : tie.After-width-for Inv-loop μ-loop → tie.At-loop Inv-loop μ-loop
+turn c = c .before .before .before
+
+abbrev start : tie.At-loop Inv-loop μ-loop → tie.Start Inv-loop μ-loop
+start c = c .before .before
+
 loop-holds : tie.Need-loop-holds Inv-loop μ-loop
 loop-holds c = (search needs, refl)
 
-shared-slice-read-b : tie.Need-shared-slice-read-b Inv-loop μ-loop
-shared-slice-read-b c = search needs
-
-width-for-requires : tie.Need-width-for-requires Inv-loop μ-loop
-width-for-requires c κs = search needs
-
 returns : tie.Need-returns Inv-loop μ-loop
-returns c = let l = c .before .before .before .before in let a = l .before .before .args in room-none (a .d) (a .text .now) (l .loop .i) (c .before .width-for .result) (l .loop .left) (search needs) (c .before .width-for .ensures) _ (c .if1 .taken) (l .loop .inv .1)
-
-add-i : tie.Need-add-i Inv-loop μ-loop
-add-i c = search needs
-
-loop-less : tie.Need-loop-less Inv-loop μ-loop
-loop-less c = search needs
+returns c =
+    let w = c .before in
+    let l = turn w .loop in
+    let a = start (turn w) .args in
+    room-none (a .d) (a .text .now) (l .i) (w .width-for .result) (l .left) (search needs) (w .width-for .ensures) _ (c .if1 .taken) (l .inv .1)
 
 loop-again : tie.Need-loop-again Inv-loop μ-loop
-loop-again c = let l = c .before .before .before .before in let a = l .before .before .args in (search needs, room-less (a .d) (a .text .now) (l .loop .i) (c .before .width-for .result) (l .loop .left) (search needs) (c .before .width-for .ensures) _ (c .if1 .left) (l .loop .inv .1))
+loop-again c =
+    let w = c .before in
+    let l = turn w .loop in
+    let a = start (turn w) .args in
+    (search needs, room-less (a .d) (a .text .now) (l .i) (w .width-for .result) (l .left) (search needs) (w .width-for .ensures) _ (c .if1 .left) (l .inv .1))
 
 returns-2 : tie.Need-returns-2 Inv-loop μ-loop
-returns-2 c = let l = c .before in let a = l .before .before .args in room-done (a .d) (a .text .now) (l .loop .i) (l .loop .left) _ (search needs) (l .loop .inv .1)
+returns-2 c =
+    let l = c .before .loop in
+    let a = start (c .before) .args in
+    room-done (a .d) (a .text .now) (l .i) (l .left) _ (search needs) (l .inv .1)
 
 pub fits-spec : {M : Type 1} → statement M
 fits-spec =
@@ -47,10 +53,10 @@ fits-spec =
     Inv-loop
     μ-loop
     loop-holds
-    shared-slice-read-b
-    width-for-requires
+    (λ c. search needs)
+    (λ c κs. search needs)
     returns
-    add-i
-    loop-less
+    (λ c. search needs)
+    (λ c. search needs)
     loop-again
     returns-2)

@@ -3,123 +3,114 @@
 use borrow.Author.Needs.{needs}
 use borrow.Author.Tests.{not-true, not-false}
 use mathlib.Core.Path.{_≡_, refl, sym, _∙_, ap}
-use Prim.Native.Nat.{_+_, _-_, _≤_, _<_}
+use mathlib.Core.List.{List}
+use Prim.Native.Nat.{ℕ, _+_, _-_, _≤_, _<_}
 use native.Mathlib.Omega.{arith}
 use lib.ListN.{length, drop}
 use Rattle.memory.proofs.Tests.{never-both}
-use Rattle.component.specs.Unescape.{Plain, right, plainOf}
+use Rattle.kinds.specs.declared.Delimiters.{Delimiters}
+use Rattle.component.specs.Unescape.{Plain, right, plainOf, measured}
+use Rattle.component.specs.declared.Measured.the-variants.{Wrong}
 use Rattle.component.proofs.Turns.{EscapeAt, itself, bare, escape-one-byte, no-escape, measured-wrong, measured-of, right-end, plain-end}
 use Rattle.component.proofs.unescaping.measure.Statement.{statement}
 use Rattle.component.proofs.unescaping.measure.Tie as tie
 
+-- before a turn: what is counted, with what is left, is all
+record Measuring (d : Delimiters) (text : List ℕ) (less i : ℕ) : Type 0 where
+  i-within : i ≤ length text
+  less-within : less ≤ i
+  counted : i + length (plainOf d Plain (drop i text)) ≡ less + length (plainOf d Plain text)
+  as-right : right d Plain (drop i text) ≡ right d Plain text
+
 abbrev Inv-loop : tie.InvT-loop
-Inv-loop d text less₀ i₀ less i = (i ≤ length text) × (less ≤ i) × (i + length (plainOf d Plain (drop i text)) ≡ less + length (plainOf d Plain text)) × (right d Plain (drop i text) ≡ right d Plain text)
+Inv-loop d text less₀ i₀ less i = Measuring d text less i
 
 abbrev μ-loop : tie.MeasureT-loop
 μ-loop d text less₀ i₀ less i = length text - i
 
+-- the places: the function's start; a turn's start, from where its byte is found the escape character, and from where it is found another;
+-- that byte, from behind the tests of its escape
+abbrev start : tie.At-loop Inv-loop μ-loop → tie.Start Inv-loop μ-loop
+start c = c .before .before
+
+abbrev turn : tie.Then1 Inv-loop μ-loop → tie.At-loop Inv-loop μ-loop
+turn c = c .before .before .before .before
+
+abbrev other-turn : tie.Else1 Inv-loop μ-loop → tie.At-loop Inv-loop μ-loop
+other-turn c = c .before .before .before .before
+
+abbrev opened : tie.Else3 Inv-loop μ-loop → tie.Then1 Inv-loop μ-loop
+opened c = c .before .before .before .before
+
+-- what is no escape is wrong
+no-escape-here : (c : tie.Then1 Inv-loop μ-loop)
+    → let a = start (turn c) .args in
+    (EscapeAt (a .d) (a .text .now) (turn c .loop .i) → ⊥) → Wrong ≡ measured (a .d) (a .text .now)
+no-escape-here c none =
+    let l = turn c .loop in
+    let a = start (turn c) .args in
+    let lt : l .i < length (a .text .now) = omega arith in
+    measured-wrong (a .d) (a .text .now) (sym (l .inv .as-right) ∙ no-escape (a .d) (a .text .now) (l .i) lt (c .if1 .taken) none)
+
 loop-holds : tie.Need-loop-holds Inv-loop μ-loop
-loop-holds c = (search needs, search needs, omega arith, refl)
-
-shared-slice-read-b : tie.Need-shared-slice-read-b Inv-loop μ-loop
-shared-slice-read-b c = search needs
-
-sub-if2 : tie.Need-sub-if2 Inv-loop μ-loop
-sub-if2 c = search needs
+loop-holds c = record { i-within = search needs; less-within = search needs; counted = omega arith; as-right = refl }
 
 returns : tie.Need-returns Inv-loop μ-loop
-returns c =
-    let l = c .before .before .before .before .before in
-    let a = l .before .before .args in
-    let lt : l .loop .i < length (a .text .now) = omega arith in
-    measured-wrong (a .d) (a .text .now) (sym (l .loop .inv .3) ∙ no-escape (a .d) (a .text .now) (l .loop .i) lt (c .before .if1 .taken) (λ e. omega arith))
-
-add-is-letter : tie.Need-add-is-letter Inv-loop μ-loop
-add-is-letter c = search needs
-
-shared-slice-read-is-letter : tie.Need-shared-slice-read-is-letter Inv-loop μ-loop
-shared-slice-read-is-letter c = search needs
-
-is-letter-requires : tie.Need-is-letter-requires Inv-loop μ-loop
-is-letter-requires c κs = search needs
+returns c = no-escape-here (c .before) (λ e. omega arith)
 
 returns-2 : tie.Need-returns-2 Inv-loop μ-loop
 returns-2 c =
-    let l = c .before .before .before .before .before .before .before .before in
-    let a = l .before .before .args in
-    let lt : l .loop .i < length (a .text .now) = omega arith in
-    let n = sym (c .before .is-letter .ensures) ∙ not-true _ (c .if3 .taken) in
-    measured-wrong (a .d) (a .text .now) (sym (l .loop .inv .3) ∙ no-escape (a .d) (a .text .now) (l .loop .i) lt (c .before .before .before .before .if1 .taken) (λ e. never-both _ (e .letter) n))
-
-add-if4 : tie.Need-add-if4 Inv-loop μ-loop
-add-if4 c = search needs
-
-shared-slice-read-if4 : tie.Need-shared-slice-read-if4 Inv-loop μ-loop
-shared-slice-read-if4 c = search needs
+    let other = sym (c .before .is-letter .ensures) ∙ not-true _ (c .if3 .taken) in
+    no-escape-here (c .before .before .before .before) (λ e. never-both _ (e .letter) other)
 
 returns-3 : tie.Need-returns-3 Inv-loop μ-loop
-returns-3 c =
-    let t = c .before .before .before .before .before .before .before in
-    let l = t .before .before .before .before in
-    let a = l .before .before .args in
-    let lt : l .loop .i < length (a .text .now) = omega arith in
-    measured-wrong (a .d) (a .text .now) (sym (l .loop .inv .3) ∙ no-escape (a .d) (a .text .now) (l .loop .i) lt (t .if1 .taken) (λ e. c .if4 .taken (e .closes)))
-
-add-i : tie.Need-add-i Inv-loop μ-loop
-add-i c = search needs
-
-add-less : tie.Need-add-less Inv-loop μ-loop
-add-less c = search needs
-
-loop-less : tie.Need-loop-less Inv-loop μ-loop
-loop-less c = search needs
+returns-3 c = no-escape-here (opened (c .before .before .before)) (λ e. c .if4 .taken (e .closes))
 
 loop-again : tie.Need-loop-again Inv-loop μ-loop
 loop-again c =
     let f = c .before .before .before in
-    let t = f .before .before .before .before in
-    let l = t .before .before .before .before in
-    let a = l .before .before .args in
-    let y = sym (f .before .is-letter .ensures) ∙ not-false _ (f .if3 .left) in
-    let e : EscapeAt (a .d) (a .text .now) (l .loop .i) = record { whole = omega arith; opens = t .if1 .taken; letter = y; closes = c .if4 .left } in
-    let (r, k) = escape-one-byte (a .d) (a .text .now) (l .loop .i) e in
-    (omega arith, omega arith, omega (arith, k, l .loop .inv .2), sym r ∙ l .loop .inv .3)
-
-letter-for-requires : tie.Need-letter-for-requires Inv-loop μ-loop
-letter-for-requires c κs = search needs
+    let t = opened f in
+    let l = turn t .loop in
+    let a = start (turn t) .args in
+    let letter = sym (f .before .is-letter .ensures) ∙ not-false _ (f .if3 .left) in
+    let e : EscapeAt (a .d) (a .text .now) (l .i) = record { whole = omega arith; opens = t .if1 .taken; letter = letter; closes = c .if4 .left } in
+    let (r, k) = escape-one-byte (a .d) (a .text .now) (l .i) e in record {
+      i-within = omega arith;
+      less-within = omega arith;
+      counted = omega (arith, k, l .inv .counted);
+      as-right = sym r ∙ l .inv .as-right;
+    }
 
 returns-4 : tie.Need-returns-4 Inv-loop μ-loop
 returns-4 c =
-    let l = c .before .before .before .before .before .before in
-    let a = l .before .before .args in
-    let lt : l .loop .i < length (a .text .now) = omega arith in
-    measured-wrong (a .d) (a .text .now) (sym (l .loop .inv .3) ∙ bare (a .d) (a .text .now) (l .loop .i) lt (c .before .before .if1 .left) (λ e. c .if5 .taken (c .before .letter-for .ensures ∙ e)))
-
-add-i-2 : tie.Need-add-i-2 Inv-loop μ-loop
-add-i-2 c = search needs
-
-loop-less-2 : tie.Need-loop-less-2 Inv-loop μ-loop
-loop-less-2 c = search needs
+    let o = c .before .before in
+    let l = other-turn o .loop in
+    let a = start (other-turn o) .args in
+    let lt : l .i < length (a .text .now) = omega arith in
+    let wrong = bare (a .d) (a .text .now) (l .i) lt (o .if1 .left) (λ e. c .if5 .taken (c .before .letter-for .ensures ∙ e)) in
+    measured-wrong (a .d) (a .text .now) (sym (l .inv .as-right) ∙ wrong)
 
 loop-again-2 : tie.Need-loop-again-2 Inv-loop μ-loop
 loop-again-2 c =
-    let l = c .before .before .before .before .before .before in
-    let a = l .before .before .args in
-    let lt : l .loop .i < length (a .text .now) = omega arith in
-    let (r, p) = itself (a .d) (a .text .now) (l .loop .i) lt (c .before .before .if1 .left) (sym (c .before .letter-for .ensures) ∙ c .if5 .left) in
-    let k = ap length p in
-    (omega arith, omega arith, omega (arith, k, l .loop .inv .2), sym r ∙ l .loop .inv .3)
-
-sub-t19 : tie.Need-sub-t19 Inv-loop μ-loop
-sub-t19 c = search needs
+    let o = c .before .before in
+    let l = other-turn o .loop in
+    let a = start (other-turn o) .args in
+    let lt : l .i < length (a .text .now) = omega arith in
+    let (r, p) = itself (a .d) (a .text .now) (l .i) lt (o .if1 .left) (sym (c .before .letter-for .ensures) ∙ c .if5 .left) in
+    let k = ap length p in record {
+      i-within = omega arith;
+      less-within = omega arith;
+      counted = omega (arith, k, l .inv .counted);
+      as-right = sym r ∙ l .inv .as-right;
+    }
 
 returns-5 : tie.Need-returns-5 Inv-loop μ-loop
 returns-5 c =
-    let l = c .before in
-    let a = l .before .before .args in
-    let le : length (a .text .now) ≤ l .loop .i = omega arith in
-    let k = ap length (plain-end (a .d) Plain (a .text .now) (l .loop .i) le) in
-    measured-of (a .d) (a .text .now) _ (sym (l .loop .inv .3) ∙ right-end (a .d) Plain (a .text .now) (l .loop .i) le) (omega (arith, k, l .loop .inv .2))
+    let l = c .before .loop in
+    let a = start (c .before) .args in
+    let le : length (a .text .now) ≤ l .i = omega arith in
+    let k = ap length (plain-end (a .d) Plain (a .text .now) (l .i) le) in
+    measured-of (a .d) (a .text .now) _ (sym (l .inv .as-right) ∙ right-end (a .d) Plain (a .text .now) (l .i) le) (omega (arith, k, l .inv .counted))
 
 pub measure-spec : {M : Type 1} → statement M
 measure-spec =
@@ -128,24 +119,24 @@ measure-spec =
     Inv-loop
     μ-loop
     loop-holds
-    shared-slice-read-b
-    sub-if2
+    (λ c. search needs)
+    (λ c. search needs)
     returns
-    add-is-letter
-    shared-slice-read-is-letter
-    is-letter-requires
+    (λ c. search needs)
+    (λ c. search needs)
+    (λ c κs. search needs)
     returns-2
-    add-if4
-    shared-slice-read-if4
+    (λ c. search needs)
+    (λ c. search needs)
     returns-3
-    add-i
-    add-less
-    loop-less
+    (λ c. search needs)
+    (λ c. search needs)
+    (λ c. search needs)
     loop-again
-    letter-for-requires
+    (λ c κs. search needs)
     returns-4
-    add-i-2
-    loop-less-2
+    (λ c. search needs)
+    (λ c. search needs)
     loop-again-2
-    sub-t19
+    (λ c. search needs)
     returns-5)

@@ -13,21 +13,24 @@ use Rattle.cutting.proofs.Written.{frame-back}
 use Rattle.cutting.proofs.writing.write_piece.Statement.{statement}
 use Rattle.cutting.proofs.writing.write_piece.Tie as tie
 
+abbrev start : tie.After-end-after → tie.Start
+start c = c .before .before .before .before
+
 slice-aggregate-put-frame : tie.Need-slice-aggregate-put-frame
 slice-aggregate-put-frame c =
-    let a = c .before .before .before .before .before .args in
-    sym (length-take-le (a .n) (now (a .text)) (c .before .before .before .before .before .pre .1))
+    let s = start (c .before) in
+    sym (length-take-le (s .args .n) (now (s .args .text)) (s .pre .1))
 
 returns : tie.Need-returns
 returns c =
-    let s = c .before .before .before .before .before .before .before .before .before in
+    let p = c .before .before in
+    let e = p .before .before .before in
+    let s = start e in
     let a = s .args in
     let text = take (a .n) (now (a .text)) in
     let long : length text ≡ a .n = length-take-le (a .n) (now (a .text)) (s .pre .1) in
-    let ended = c .before .before .before .before .before .end-after in
-    frame-back (a .number) (ended .result) text (now (a .out)) _ _ (a .done) _ (s .pre .2) (omega (arith, s .pre .3)) refl
-    (c .before .before .put-frame .ensures)
-    ∙ ap (λ (end : End). splice (now (a .out)) (a .done) (frameOf (a .number) end text)) (ended .ensures)
+    frame-back (a .number) (e .end-after .result) text (now (a .out)) _ _ (a .done) _ (s .pre .2) (omega (arith, s .pre .3)) refl (p .put-frame .ensures)
+    ∙ ap (λ (end : End). splice (now (a .out)) (a .done) (frameOf (a .number) end text)) (e .end-after .ensures)
 
 pub write-piece-spec : {M : Type 1} → statement M
 write-piece-spec =

@@ -17,90 +17,78 @@ use Rattle.owner.proofs.RowSteps.{one-more, types-front, lengths-front,
 use Rattle.owner.proofs.rows.fill_rows.Statement.{statement}
 use Rattle.owner.proofs.rows.fill_rows.Tie as tie
 
+-- before a turn: the rows stored, with those of the records still to come, are all
+record Filling (text types₀ offsets₀ lengths₀ types offsets lengths : List ℕ) (at n : ℕ) : Type 0 where
+  at-within : at ≤ length text + 1
+  counted : n + length (records (drop at text)) ≡ length (records text)
+  types-length : length types ≡ length types₀
+  offsets-length : length offsets ≡ length offsets₀
+  lengths-length : length lengths ≡ length lengths₀
+  all-types : sets types n (typesOf (records (drop at text))) ≡ sets types₀ 0 (typesOf (records text))
+  all-offsets : sets offsets n (offsetsOf at (records (drop at text))) ≡ sets offsets₀ 0 (offsetsOf 0 (records text))
+  all-lengths : sets lengths n (lengthsOf (records (drop at text))) ≡ sets lengths₀ 0 (lengthsOf (records text))
+
 abbrev Inv-loop : tie.InvT-loop
-Inv-loop text types₀ offsets₀ lengths₀ at₀ n₀ types offsets lengths at n = (at ≤ length text + 1) × (n + length (records (drop at text)) ≡ length (records text)) × (length types ≡ length types₀) × (length offsets ≡ length offsets₀) × (length lengths ≡ length lengths₀) × (sets types n (typesOf (records (drop at text))) ≡ sets types₀ 0 (typesOf (records text))) × (sets offsets n (offsetsOf at (records (drop at text))) ≡ sets offsets₀ 0 (offsetsOf 0 (records text))) × (sets lengths n (lengthsOf (records (drop at text))) ≡ sets lengths₀ 0 (lengthsOf (records text)))
+Inv-loop text types₀ offsets₀ lengths₀ at₀ n₀ types offsets lengths at n = Filling text types₀ offsets₀ lengths₀ types offsets lengths at n
 
 abbrev μ-loop : tie.MeasureT-loop
 μ-loop text types₀ offsets₀ lengths₀ at₀ n₀ types offsets lengths at n = length text + 1 - at
 
--- within a turn: there is room for a row more, and the scan stays within the text
-room : (c : tie.After-shared-slice-known2 Inv-loop μ-loop) → c .before .before .before .before .loop .n < length (records (c .before .before .before .before .before .before .before .before .before .args .text .now))
-room c = let l = c .before .before .before .before in one-more (l .before .before .before .before .before .args .text .now) (l .loop .at) (c .before .index-of .result) (l .loop .n) _ (omega arith) (c .before .index-of .ensures) (l .loop .inv .1)
+-- the places: this turn's start, and the function's
+abbrev turn : tie.After-shared-slice-known2 Inv-loop μ-loop → tie.At-loop Inv-loop μ-loop
+turn c = c .before .before .before .before
 
-within : (c : tie.After-shared-slice-known2 Inv-loop μ-loop) → c .before .before .before .before .loop .at + c .before .index-of .result ≤ length (c .before .before .before .before .before .before .before .before .before .args .text .now)
-within c = let l = c .before .before .before .before in tail-within cr (l .before .before .before .before .before .args .text .now) (l .loop .at) (c .before .index-of .result) (omega arith) (c .before .index-of .ensures)
+abbrev start : tie.At-loop Inv-loop μ-loop → tie.Start Inv-loop μ-loop
+start c = c .before .before .before .before .before
+
+abbrev text-at : tie.At-loop Inv-loop μ-loop → List ℕ
+text-at c = start c .args .text .now
+
+-- within a turn there is room for a row more
+room : (c : tie.After-shared-slice-known2 Inv-loop μ-loop) → turn c .loop .n < length (records (text-at (turn c)))
+room c =
+    let l = turn c .loop in
+    one-more (text-at (turn c)) (l .at) (c .before .index-of .result) (l .n) _ (omega arith) (c .before .index-of .ensures) (l .inv .counted)
+
+-- and the scan stays within the text
+within : (c : tie.After-shared-slice-known2 Inv-loop μ-loop) → turn c .loop .at + c .before .index-of .result ≤ length (text-at (turn c))
+within c = tail-within cr (text-at (turn c)) (turn c .loop .at) (c .before .index-of .result) (omega arith) (c .before .index-of .ensures)
 
 loop-holds : tie.Need-loop-holds Inv-loop μ-loop
-loop-holds c = (search needs, omega arith, refl, refl, refl, refl, refl, refl)
-
-sub-tail : tie.Need-sub-tail Inv-loop μ-loop
-sub-tail c = search needs
-
-part-tail-start : tie.Need-part-tail-start Inv-loop μ-loop
-part-tail-start c = search needs
-
-part-tail-end : tie.Need-part-tail-end Inv-loop μ-loop
-part-tail-end c = search needs
-
-index-of-requires : tie.Need-index-of-requires Inv-loop μ-loop
-index-of-requires c κs = search needs
-
-shared-slice-read-types : tie.Need-shared-slice-read-types Inv-loop μ-loop
-shared-slice-read-types c = search needs
-
-slice-write-types : tie.Need-slice-write-types Inv-loop μ-loop
-slice-write-types c = omega (arith, room c)
-
-cast-offsets : tie.Need-cast-offsets Inv-loop μ-loop
-cast-offsets c = omega (arith, c .before .before .before .before .before .before .before .before .before .pre)
-
-mul-offsets : tie.Need-mul-offsets Inv-loop μ-loop
-mul-offsets c = omega (arith, room c, c .before .before .before .before .before .before .before .before .before)
-
-slice-write-offsets : tie.Need-slice-write-offsets Inv-loop μ-loop
-slice-write-offsets c = omega (arith, room c)
-
-cast-lengths : tie.Need-cast-lengths Inv-loop μ-loop
-cast-lengths c = omega (arith, within c, c .before .before .before .before .before .before .before .before .before .pre)
-
-mul-lengths : tie.Need-mul-lengths Inv-loop μ-loop
-mul-lengths c = omega (arith, room c, c .before .before .before .before .before .before .before .before .before)
-
-slice-write-lengths : tie.Need-slice-write-lengths Inv-loop μ-loop
-slice-write-lengths c = omega (arith, room c)
-
-add-at : tie.Need-add-at Inv-loop μ-loop
-add-at c = omega (arith, within c, c .before .before .before .before .before .before .before .before .before .pre)
-
-add-at-2 : tie.Need-add-at-2 Inv-loop μ-loop
-add-at-2 c = omega (arith, within c, c .before .before .before .before .before .before .before .before .before .pre)
-
-add-n : tie.Need-add-n Inv-loop μ-loop
-add-n c = omega (arith, room c, c .before .before .before .before .before .before .before .before .before)
-
-loop-less : tie.Need-loop-less Inv-loop μ-loop
-loop-less c = omega (arith, within c)
+loop-holds c = record {
+  at-within = search needs;
+  counted = omega arith;
+  types-length = refl;
+  offsets-length = refl;
+  lengths-length = refl;
+  all-types = refl;
+  all-offsets = refl;
+  all-lengths = refl;
+}
 
 loop-again : tie.Need-loop-again Inv-loop μ-loop
-loop-again c = let l = c .before .before .before .before in let i = c .before in
-    let text : List ℕ = l .before .before .before .before .before .args .text .now in
-    let lt : l .loop .at < length text = omega arith in
-    (omega (arith, within c), count-front text (l .loop .at) (i .index-of .result) (l .loop .n) _ lt (i .index-of .ensures) (l .loop .inv .1), simp length-set (omega arith), simp length-set (omega arith), simp length-set (omega arith), types-front text (l .loop .at) (i .index-of .result) (l .loop .n) lt (i .index-of .ensures) (l .loop .types) _ (l .loop .inv .5), offsets-front text (l .loop .at) (i .index-of .result) (l .loop .n) lt (i .index-of .ensures) (l .loop .offsets) _ (l .loop .inv .6), lengths-front text (l .loop .at) (i .index-of .result) (l .loop .n) lt (i .index-of .ensures) (l .loop .lengths) _ (l .loop .inv .7))
-
-same-length : tie.Need-same-length Inv-loop μ-loop
-same-length c = search needs
-
-same-length-2 : tie.Need-same-length-2 Inv-loop μ-loop
-same-length-2 c = search needs
-
-same-length-3 : tie.Need-same-length-3 Inv-loop μ-loop
-same-length-3 c = search needs
+loop-again c =
+    let l = turn c .loop in
+    let text = text-at (turn c) in
+    let e = c .before .index-of .result in
+    let found = c .before .index-of .ensures in
+    let lt : l .at < length text = omega arith in record {
+      at-within = omega (arith, within c);
+      counted = count-front text (l .at) e (l .n) _ lt found (l .inv .counted);
+      types-length = simp length-set (omega arith);
+      offsets-length = simp length-set (omega arith);
+      lengths-length = simp length-set (omega arith);
+      all-types = types-front text (l .at) e (l .n) lt found (l .types) _ (l .inv .all-types);
+      all-offsets = offsets-front text (l .at) e (l .n) lt found (l .offsets) _ (l .inv .all-offsets);
+      all-lengths = lengths-front text (l .at) e (l .n) lt found (l .lengths) _ (l .inv .all-lengths);
+    }
 
 returns : tie.Need-returns Inv-loop μ-loop
-returns c = let l = c .before in
-    let text : List ℕ = l .before .before .before .before .before .args .text .now in
-    let le : length text ≤ l .loop .at = omega arith in
-    (rw (drop-of-length-le text le) at (l .loop .inv .5), rw (drop-of-length-le text le) at (l .loop .inv .6), rw (drop-of-length-le text le) at (l .loop .inv .7))
+returns c =
+    let l = c .before .loop in
+    let text = text-at (c .before) in
+    let le : length text ≤ l .at = omega arith in
+    (rw (drop-of-length-le text le) at (l .inv .all-types), rw (drop-of-length-le text le) at (l .inv .all-offsets), rw (drop-of-length-le text le) at (l .inv .all-lengths))
 
 pub fill-rows-spec : {M : Type 1} → statement M
 fill-rows-spec =
@@ -109,24 +97,24 @@ fill-rows-spec =
     Inv-loop
     μ-loop
     loop-holds
-    sub-tail
-    part-tail-start
-    part-tail-end
-    index-of-requires
-    shared-slice-read-types
-    slice-write-types
-    cast-offsets
-    mul-offsets
-    slice-write-offsets
-    cast-lengths
-    mul-lengths
-    slice-write-lengths
-    add-at
-    add-at-2
-    add-n
-    loop-less
+    (λ c. search needs)
+    (λ c. search needs)
+    (λ c. search needs)
+    (λ c κs. search needs)
+    (λ c. search needs)
+    (λ c. omega (arith, room c))
+    (λ c. omega (arith, start (turn c) .pre))
+    (λ c. omega (arith, room c, start (turn c)))
+    (λ c. omega (arith, room c))
+    (λ c. omega (arith, within c, start (turn c) .pre))
+    (λ c. omega (arith, room c, start (turn c)))
+    (λ c. omega (arith, room c))
+    (λ c. omega (arith, within c, start (turn c) .pre))
+    (λ c. omega (arith, within c, start (turn c) .pre))
+    (λ c. omega (arith, room c, start (turn c)))
+    (λ c. omega (arith, within c))
     loop-again
-    same-length
-    same-length-2
-    same-length-3
+    (λ c. search needs)
+    (λ c. search needs)
+    (λ c. search needs)
     returns)

@@ -9,11 +9,11 @@ use Rattle.owner.proofs.runs.fill_owners.Tie as tie
 read-run-requires : tie.Need-read-run-requires
 read-run-requires c κs = ((search needs, search needs, search needs), λ h l p q. refl)
 
-same-length : tie.Need-same-length
-same-length c = search needs
-
 returns : tie.Need-returns
-returns c = let s = c .before .before .before .before .before .before in let r = c .before .before in whole (s .args .types .now) (s .args .owners .now) (r .read-run .last .1 .0) (r .read-run .result) (r .read-run .kept .1 .0) (s .pre .0) (r .read-run .ensures)
+returns c =
+    let r = c .before .before in
+    let s = r .before .before .before .before in
+    whole (s .args .types .now) (s .args .owners .now) (r .read-run .last .1 .0) (r .read-run .result) (r .read-run .kept .1 .0) (s .pre .0) (r .read-run .ensures)
 
 pub fill-owners-spec : {M : Type 1} → statement M
-fill-owners-spec = tie.close (tie.spec read-run-requires same-length returns)
+fill-owners-spec = tie.close (tie.spec read-run-requires (λ c. search needs) returns)

@@ -3,23 +3,47 @@
 use borrow.Author.Needs.{needs}
 use native.Mathlib.Omega.{arith}
 use mathlib.Core.Path.{sym}
+use Prim.Native.Nat.{_+_, _≤_}
 use denote.Ref.{now}
 use lib.Seq.{length-take-le}
 use Rattle.replay.proofs.Places.{part-read}
 use Rattle.replay.proofs.pieces.advance.Statement.{statement}
 use Rattle.replay.proofs.pieces.advance.Tie as tie
 
+-- the places, each from one behind it: the run, and the function's start
+abbrev ran : tie.After-slice-known11 → tie.After-run
+ran c = c .before .before .before .before .before .before .before .before .before .before
+
+abbrev start : tie.After-run → tie.Start
+start c = c .before .before .before .before .before .before .before .before .before .before .before .before .before .before .before .before .before
+
+-- the run, from behind the test of its rows' writing
+abbrev wrote : tie.After-struct-known → tie.After-run
+wrote c = ran (c .before .before .before .before)
+
+-- what is read ends within what waits
+read-within : (c : tie.After-run) → let k = start c .args .kept in k .from + c .run .result .read ≤ k .waiting
+read-within c =
+    let s = start c in
+    part-read (now (s .args .input)) (s .args .kept .from) (s .args .kept .waiting) (c .run .result .read) (s .pre .0 .0) (c .run .ensures .1)
+
 slice-aggregate-rows : tie.Need-slice-aggregate-rows
-slice-aggregate-rows c = sym (length-take-le (c .before .before .before .before .before .before .before .before .before .before .before .run .result .written) (c .before .before .before .before .before .before .before .before .before .before .before .run .last .1 .1 .0) (c .before .before .before .before .before .before .before .before .before .before .before .run .ensures .2))
+slice-aggregate-rows c =
+    let r = ran (c .before) .run in
+    sym (length-take-le (r .result .written) (r .last .1 .1 .0) (r .ensures .2))
 
 add-at : tie.Need-add-at
-add-at c = omega (arith, part-read (now (c .before .before .before .before .before .before .before .before .before .before .before .before .before .before .before .before .before .before .before .before .before .before .before .before .before .before .before .before .before .before .before .args .input)) (c .before .before .before .before .before .before .before .before .before .before .before .before .before .before .before .before .before .before .before .before .before .before .before .before .before .before .before .before .before .before .before .args .kept .from) (c .before .before .before .before .before .before .before .before .before .before .before .before .before .before .before .before .before .before .before .before .before .before .before .before .before .before .before .before .before .before .before .args .kept .waiting) (c .before .before .before .before .before .before .before .before .before .before .before .before .before .before .run .result .read) (c .before .before .before .before .before .before .before .before .before .before .before .before .before .before .before .before .before .before .before .before .before .before .before .before .before .before .before .before .before .before .before .pre .0 .0) (c .before .before .before .before .before .before .before .before .before .before .before .before .before .before .run .ensures .1), c .before .before .before .before .before .before .before .before .before .before .before .before .before .before .before .before .before .before .before .before .before .before .before .before .before .before .before .before .before .before .before .pre, c .before .before .before .before .before .before .before .before .before .before .before .before .before .before .before .before .before .before .before .before .before .before .before .before .before .before .before .before .before .before .before .good)
+add-at c = let r = wrote c in omega (arith, read-within r, start r .pre, start r .good)
 
 more-requires : tie.Need-more-requires
-more-requires c κs = (part-read (now (c .before .before .before .before .before .before .before .before .before .before .before .before .before .before .before .before .before .before .before .before .before .before .before .before .before .before .before .before .before .before .before .before .before .before .args .input)) (c .before .before .before .before .before .before .before .before .before .before .before .before .before .before .before .before .before .before .before .before .before .before .before .before .before .before .before .before .before .before .before .before .before .before .args .kept .from) (c .before .before .before .before .before .before .before .before .before .before .before .before .before .before .before .before .before .before .before .before .before .before .before .before .before .before .before .before .before .before .before .before .before .before .args .kept .waiting) (c .before .before .before .before .before .before .before .before .before .before .before .before .before .before .before .before .before .run .result .read) (c .before .before .before .before .before .before .before .before .before .before .before .before .before .before .before .before .before .before .before .before .before .before .before .before .before .before .before .before .before .before .before .before .before .before .pre .0 .0) (c .before .before .before .before .before .before .before .before .before .before .before .before .before .before .before .before .before .run .ensures .1), c .before .before .before .before .before .before .before .before .before .before .before .before .before .before .before .before .before .before .before .before .before .before .before .before .before .before .before .before .before .before .before .before .before .before .pre .0 .1, c .before .before .before .before .before .before .before .before .before .before .before .before .before .before .before .before .before .before .before .before .before .before .before .before .before .before .before .before .before .before .before .before .before .before .pre .1)
+more-requires c κs =
+    let r = wrote (c .before .before .before) in
+    (read-within r, start r .pre .0 .1, start r .pre .1)
 
 returns-2 : tie.Need-returns-2
-returns-2 c = let w = c .waits .ensures in let r = part-read (now (c .before .before .before .before .before .before .before .before .before .before .before .before .before .before .before .before .before .before .before .before .before .before .before .before .before .before .before .before .before .before .before .before .before .before .args .input)) (c .before .before .before .before .before .before .before .before .before .before .before .before .before .before .before .before .before .before .before .before .before .before .before .before .before .before .before .before .before .before .before .before .before .before .args .kept .from) (c .before .before .before .before .before .before .before .before .before .before .before .before .before .before .before .before .before .before .before .before .before .before .before .before .before .before .before .before .before .before .before .before .before .before .args .kept .waiting) (c .before .before .before .before .before .before .before .before .before .before .before .before .before .before .before .before .before .run .result .read) (c .before .before .before .before .before .before .before .before .before .before .before .before .before .before .before .before .before .before .before .before .before .before .before .before .before .before .before .before .before .before .before .before .before .before .pre .0 .0) (c .before .before .before .before .before .before .before .before .before .before .before .before .before .before .before .before .before .run .ensures .1) in (omega (arith, w, r), omega (arith, w, c .before .before .before .before .before .before .before .before .before .before .before .before .before .before .before .before .before .before .before .before .before .before .before .before .before .before .before .before .before .before .before .before .before .before .pre))
+returns-2 c =
+    let r = wrote (c .before .before .before) in
+    (omega (arith, c .waits .ensures, read-within r), omega (arith, c .waits .ensures, start r .pre))
 
 pub advance-spec : {M : Type 1} → statement M
 advance-spec =

@@ -3,69 +3,74 @@
 use borrow.Author.Needs.{needs}
 use mathlib.Core.Path.{_≡_, refl}
 use native.Mathlib.Omega.{arith}
+use mathlib.Core.List.{List}
+use Prim.Native.Nat.{ℕ}
 use lib.ListN.{length}
 use Rattle.replay.specs.Ends.{LiesIn}
+use Rattle.replay.specs.declared.pieces.Kept.{Kept}
 use Rattle.replay.proofs.pieces.go_on.Statement.{statement}
 use Rattle.replay.proofs.pieces.go_on.Tie as tie
 
+-- before a turn: what waits lies in the input, and lent memory has its length
+record Going (kept : Kept) (input₀ input out₀ out journal₀ journal unfinished₀ unfinished frames₀ frames buffer₀ buffer : List ℕ) : Type 0 where
+  lies-in : LiesIn kept (length input)
+  input-length : length input ≡ length input₀
+  out-length : length out ≡ length out₀
+  journal-length : length journal ≡ length journal₀
+  unfinished-length : length unfinished ≡ length unfinished₀
+  frames-length : length frames ≡ length frames₀
+  buffer-length : length buffer ≡ length buffer₀
+
 abbrev Inv-loop : tie.InvT-loop
 Inv-loop fd name input₀ out₀ numbers₀ used₀ journal₀ unfinished₀ frames₀ buffer₀ kept₀ turns₀ input out numbers used journal unfinished frames buffer kept turns =
-    LiesIn kept (length input) × (length input ≡ length input₀) × (length out ≡ length out₀) × (length journal ≡ length journal₀) × (length unfinished ≡ length unfinished₀) × (length frames ≡ length frames₀)
-    × (length buffer ≡ length buffer₀)
+    Going kept input₀ input out₀ out journal₀ journal unfinished₀ unfinished frames₀ frames buffer₀ buffer
 
 abbrev μ-loop : tie.MeasureT-loop
 μ-loop fd name input₀ out₀ numbers₀ used₀ journal₀ unfinished₀ frames₀ buffer₀ kept₀ turns₀ input out numbers used journal unfinished frames buffer kept turns = turns
 
+-- the places, each from one behind it: the call of `advance`, this turn's start, the function's start
+abbrev advanced : tie.After-slice-known12 Inv-loop μ-loop → tie.After-advance Inv-loop μ-loop
+advanced c = c .before .before .before .before .before .before .before .before .before .before .before .before
+
+abbrev turn : tie.After-advance-arg8 Inv-loop μ-loop → tie.At-loop Inv-loop μ-loop
+turn c = c .before .before .before .before .before .before .before .before .before
+
+abbrev start : tie.At-loop Inv-loop μ-loop → tie.Start Inv-loop μ-loop
+start c = c .before .before .before .before .before .before .before .before
+
+-- this turn's start, from where the run ends
+abbrev turn-ended : tie.Then1 Inv-loop μ-loop → tie.At-loop Inv-loop μ-loop
+turn-ended c = turn (advanced (c .before .before) .before)
+
 loop-holds : tie.Need-loop-holds Inv-loop μ-loop
-loop-holds c = (c .before .before .before .before .before .before .before .pre .0, refl, refl, refl, refl, refl, refl)
+loop-holds c =
+    let k = c .before .before .before in record {
+      lies-in = k .before .before .before .before .pre .0;
+      input-length = refl;
+      out-length = refl;
+      journal-length = refl;
+      unfinished-length = refl;
+      frames-length = refl;
+      buffer-length = refl;
+    }
 
 advance-requires : tie.Need-advance-requires Inv-loop μ-loop
-advance-requires c κs = let i = c .before .before .before .before .before .before .before .before .before .loop .inv in (i .0, omega (arith, i, c .before .before .before .before .before .before .before .before .before .before .before .before .before .before .before .before .before .pre))
-
-same-length : tie.Need-same-length Inv-loop μ-loop
-same-length c = search (needs, c .before .before .before .before .before .before .before .before .before .before .before .before .before .before .before .before .before .before .before .before .before .before .before .before .loop .inv)
-
-same-length-2 : tie.Need-same-length-2 Inv-loop μ-loop
-same-length-2 c = search (needs, c .before .before .before .before .before .before .before .before .before .before .before .before .before .before .before .before .before .before .before .before .before .before .before .before .loop .inv)
-
-same-length-3 : tie.Need-same-length-3 Inv-loop μ-loop
-same-length-3 c = search (needs, c .before .before .before .before .before .before .before .before .before .before .before .before .before .before .before .before .before .before .before .before .before .before .before .before .loop .inv)
-
-same-length-4 : tie.Need-same-length-4 Inv-loop μ-loop
-same-length-4 c = search (needs, c .before .before .before .before .before .before .before .before .before .before .before .before .before .before .before .before .before .before .before .before .before .before .before .before .loop .inv)
-
-same-length-5 : tie.Need-same-length-5 Inv-loop μ-loop
-same-length-5 c = search (needs, c .before .before .before .before .before .before .before .before .before .before .before .before .before .before .before .before .before .before .before .before .before .before .before .before .loop .inv)
-
-same-length-6 : tie.Need-same-length-6 Inv-loop μ-loop
-same-length-6 c = search (needs, c .before .before .before .before .before .before .before .before .before .before .before .before .before .before .before .before .before .before .before .before .before .before .before .before .loop .inv)
-
-returns : tie.Need-returns Inv-loop μ-loop
-returns c = tt
+advance-requires c κs =
+    let l = turn c in
+    (l .loop .inv .lies-in, omega (arith, l .loop .inv, start l .pre))
 
 loop-again : tie.Need-loop-again Inv-loop μ-loop
-loop-again c = let i = c .before .before .before .before .before .before .before .before .before .before .before .before .before .before .before .before .before .before .before .before .before .before .before .before .loop .inv in (c .before .before .before .before .before .before .before .before .before .before .before .before .before .before .advance .ensures, search (needs, i), search (needs, i), search (needs, i), search (needs, i), search (needs, i), search (needs, i))
-
-same-length-7 : tie.Need-same-length-7 Inv-loop μ-loop
-same-length-7 c = search (needs, c .before .loop .inv)
-
-same-length-8 : tie.Need-same-length-8 Inv-loop μ-loop
-same-length-8 c = search (needs, c .before .loop .inv)
-
-same-length-9 : tie.Need-same-length-9 Inv-loop μ-loop
-same-length-9 c = search (needs, c .before .loop .inv)
-
-same-length-10 : tie.Need-same-length-10 Inv-loop μ-loop
-same-length-10 c = search (needs, c .before .loop .inv)
-
-same-length-11 : tie.Need-same-length-11 Inv-loop μ-loop
-same-length-11 c = search (needs, c .before .loop .inv)
-
-same-length-12 : tie.Need-same-length-12 Inv-loop μ-loop
-same-length-12 c = search (needs, c .before .loop .inv)
-
-returns-2 : tie.Need-returns-2 Inv-loop μ-loop
-returns-2 c = tt
+loop-again c =
+    let a = advanced (c .before .before) in
+    let i = turn (a .before) .loop .inv in record {
+      lies-in = a .advance .ensures;
+      input-length = search (needs, i);
+      out-length = search (needs, i);
+      journal-length = search (needs, i);
+      unfinished-length = search (needs, i);
+      frames-length = search (needs, i);
+      buffer-length = search (needs, i);
+    }
 
 pub go-on-spec : {M : Type 1} → statement M
 go-on-spec =
@@ -75,20 +80,20 @@ go-on-spec =
     μ-loop
     loop-holds
     advance-requires
-    same-length
-    same-length-2
-    same-length-3
-    same-length-4
-    same-length-5
-    same-length-6
-    returns
+    (λ c. search (needs, turn-ended c .loop .inv))
+    (λ c. search (needs, turn-ended c .loop .inv))
+    (λ c. search (needs, turn-ended c .loop .inv))
+    (λ c. search (needs, turn-ended c .loop .inv))
+    (λ c. search (needs, turn-ended c .loop .inv))
+    (λ c. search (needs, turn-ended c .loop .inv))
+    (λ c. tt)
     (λ c. search needs)
     (λ c. search needs)
     loop-again
-    same-length-7
-    same-length-8
-    same-length-9
-    same-length-10
-    same-length-11
-    same-length-12
-    returns-2)
+    (λ c. search (needs, c .before .loop .inv))
+    (λ c. search (needs, c .before .loop .inv))
+    (λ c. search (needs, c .before .loop .inv))
+    (λ c. search (needs, c .before .loop .inv))
+    (λ c. search (needs, c .before .loop .inv))
+    (λ c. search (needs, c .before .loop .inv))
+    (λ c. tt))

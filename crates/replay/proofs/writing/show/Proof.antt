@@ -10,7 +10,11 @@ use Rattle.replay.proofs.writing.show.Statement.{statement}
 use Rattle.replay.proofs.writing.show.Tie as tie
 
 slice-aggregate-rows : tie.Need-slice-aggregate-rows
-slice-aggregate-rows c = sym (length-take-le (c .before .before .written .given .0 .0) (now (c .before .before .before .before .before .args .text)) (to-in (length (now (c .before .before .before .before .before .args .text))) (c .before .before .written .given .1) (c .before .before .before .before .before .pre)))
+slice-aggregate-rows c =
+    let w = c .before .before in
+    let s = w .before .before .before in
+    let text = now (s .args .text) in
+    sym (length-take-le (w .written .given .0 .0) text (to-in (length text) (w .written .given .1) (s .pre)))
 
 pub show-spec : {M : Type 1} → statement M
 show-spec =

@@ -2,40 +2,73 @@
 -- Assumes nothing.
 use borrow.Author.Needs.{needs}
 use native.Mathlib.Omega.{arith}
-use mathlib.Core.Path.{sym, _∙_}
+use mathlib.Core.Path.{_≡_, sym, _∙_}
+use Prim.Native.Nat.{_<_, _≤_}
 use denote.Ref.{now}
 use lib.ListN.{length}
 use lib.Seq.{length-take-le}
+use Rattle.memory.specs.Tests.{is, find}
+use Rattle.listing.specs.Texts.{newline}
+use Rattle.replaying.specs.Lines.{usual}
 use Rattle.replaying.proofs.Newlines.{whole, unended, usual-line, scanned, below}
 use Rattle.replaying.proofs.lines.first.Statement.{statement}
 use Rattle.replaying.proofs.lines.first.Tie as tie
 
+abbrev usual-start : tie.Then1 → tie.Start
+usual-start c = c .before .before .before
+
+abbrev scan-start : tie.After-index-of → tie.Start
+scan-start c = c .before .before .before .before
+
+-- a line of the usual length
+is-usual : (c : tie.Then1) → let rest = now (usual-start c .args .rest) in (usual < length rest) × (usual ≡ find (is newline) rest)
+is-usual c = usual-line (now (usual-start c .args .rest)) (sym (c .before .is-usual .ensures) ∙ c .if1 .taken)
+
+-- a scan ends within what is left, and before its end where it found a newline
+within : (c : tie.After-index-of) → c .index-of .result ≤ length (now (scan-start c .args .rest))
+within c = scanned (now (scan-start c .args .rest)) (c .index-of .result) (c .index-of .ensures)
+
+ended : (c : tie.Else2) → c .before .index-of .result < length (now (scan-start (c .before) .args .rest))
+ended c = below (c .before .index-of .result) (length (now (scan-start (c .before) .args .rest))) (within (c .before)) (c .if2 .left)
+
 slice-aggregate-read : tie.Need-slice-aggregate-read
-slice-aggregate-read c = let u = usual-line (now (c .before .before .before .before .args .rest)) (sym (c .before .before .is-usual .ensures) ∙ c .before .if1 .taken) in sym (length-take-le 6 (now (c .before .before .before .before .args .rest)) (omega (arith, u .0)))
+slice-aggregate-read c =
+    let short : usual ≤ length (now (usual-start (c .before) .args .rest)) = omega (arith, is-usual (c .before) .0) in
+    sym (length-take-le usual (now (usual-start (c .before) .args .rest)) short)
 
 add-t8 : tie.Need-add-t8
-add-t8 c = let u = usual-line _ (sym (c .before .before .before .is-usual .ensures) ∙ c .before .before .if1 .taken) in omega (arith, u .0, c .before .before .before .before .before .pre)
+add-t8 c = omega (arith, is-usual (c .before .before) .0, usual-start (c .before .before) .pre)
 
 add-t9 : tie.Need-add-t9
-add-t9 c = let u = usual-line _ (sym (c .before .before .before .is-usual .ensures) ∙ c .before .before .if1 .taken) in omega (arith, u .0, c .before .before .before .before .before .pre)
+add-t9 c = omega (arith, is-usual (c .before .before) .0, usual-start (c .before .before) .pre)
 
 returns : tie.Need-returns
-returns c = let a = c .before .before .before .before .before .args in let u = usual-line _ (sym (c .before .before .before .is-usual .ensures) ∙ c .before .before .if1 .taken) in whole (now (a .rest)) (a .at) (u .1) (u .0) (c .read .ensures)
+returns c =
+    let u = c .before .before in
+    let a = usual-start u .args in
+    whole (now (a .rest)) (a .at) (is-usual u .1) (is-usual u .0) (c .read .ensures)
 
 returns-2 : tie.Need-returns-2
-returns-2 c = let a = c .before .before .before .before .before .args in unended (now (a .rest)) (a .at) (sym (c .before .index-of .ensures) ∙ c .if2 .taken)
+returns-2 c =
+    let a = scan-start (c .before) .args in
+    unended (now (a .rest)) (a .at) (sym (c .before .index-of .ensures) ∙ c .if2 .taken)
 
 slice-aggregate-read-2 : tie.Need-slice-aggregate-read-2
-slice-aggregate-read-2 c = sym (length-take-le (c .before .before .index-of .result) (now (c .before .before .before .before .before .before .args .rest)) (scanned (now (c .before .before .before .before .before .before .args .rest)) (c .before .before .index-of .result) (c .before .before .index-of .ensures)))
+slice-aggregate-read-2 c =
+    let i = c .before .before in
+    sym (length-take-le (i .index-of .result) (now (scan-start i .args .rest)) (within i))
 
 add-t10 : tie.Need-add-t10
-add-t10 c = omega (arith, (scanned (now (c .before .before .before .before .before .before .before .args .rest)) (c .before .before .before .index-of .result) (c .before .before .before .index-of .ensures)), c .before .before .before .before .before .before .before .pre)
+add-t10 c = let i = c .before .before .before in omega (arith, within i, scan-start i .pre)
 
 add-t15 : tie.Need-add-t15
-add-t15 c = omega (arith, below (c .before .before .before .index-of .result) (length (now (c .before .before .before .before .before .before .before .args .rest))) (scanned (now (c .before .before .before .before .before .before .before .args .rest)) (c .before .before .before .index-of .result) (c .before .before .before .index-of .ensures)) (c .before .before .if2 .left), c .before .before .before .before .before .before .before .pre)
+add-t15 c = omega (arith, ended (c .before .before), scan-start (c .before .before .before) .pre)
 
 returns-3 : tie.Need-returns-3
-returns-3 c = let a = c .before .before .before .before .before .before .before .args in whole (now (a .rest)) (a .at) (c .before .before .before .index-of .ensures) (below (c .before .before .before .index-of .result) (length (now (c .before .before .before .before .before .before .before .args .rest))) (scanned (now (c .before .before .before .before .before .before .before .args .rest)) (c .before .before .before .index-of .result) (c .before .before .before .index-of .ensures)) (c .before .before .if2 .left)) (c .read2 .ensures)
+returns-3 c =
+    let e = c .before .before in
+    let a = scan-start (e .before) .args in
+    whole (now (a .rest)) (a .at) (e .before .index-of .ensures) (ended e) (c .read2 .ensures)
 
 pub first-spec : {M : Type 1} → statement M
 first-spec =

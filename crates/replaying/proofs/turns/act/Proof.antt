@@ -3,22 +3,64 @@
 use borrow.Author.Needs.{needs}
 use mathlib.Core.Path.{refl, sym}
 use denote.Ref.{now}
+use Rattle.replaying.specs.Desk.{Desk}
+use Rattle.replaying.specs.Turns.{deskOf}
 use lib.Seq.{length-take-le}
 use Rattle.replaying.proofs.Ways.{acted-event, acted-taking, acted-none}
 use Rattle.replaying.proofs.turns.act.Statement.{statement}
 use Rattle.replaying.proofs.turns.act.Tie as tie
 
+-- the places, each from one behind it: the function's start, an event's call and its item, a taking's call and the length lent to it
+abbrev start : tie.After-slice-known5 → tie.Start
+start c = c .before .before .before .before .before
+
+abbrev event : tie.After-slice-known9 → tie.After-event
+event c = c .before .before .before .before .before .before .before .before .before .before
+
+abbrev event-item : tie.After-event → tie.After-item
+event-item c = c .before .before .before .before .before .before .before
+
+abbrev taking : tie.After-slice-known12 → tie.After-ngachodui-take
+taking c = c .before .before .before .before .before .before .before .before
+
+abbrev lent : tie.After-ngachodui-take-arg4 → tie.After-least
+lent c = c .before .before .before .before
+
+abbrev taking-start : tie.After-least → tie.Start
+taking-start c = start (c .before .before .before .before)
+
+-- the desk that is lent
+abbrev desk : tie.Start → Desk
+desk s = let a = s .args in deskOf (now (a .numbers)) (now (a .used)) (now (a .journal)) (now (a .unfinished)) (now (a .frames)) (now (a .buffer))
+
 slice-aggregate-ngachodui-take : tie.Need-slice-aggregate-ngachodui-take
-slice-aggregate-ngachodui-take c = sym (length-take-le (c .before .before .before .before .least .result) (now (c .before .before .before .before .before .before .before .before .before .before .before .before .before .args .buffer)) (c .before .before .before .before .least .ensures .0))
+slice-aggregate-ngachodui-take c =
+    let l = lent c in
+    sym (length-take-le (l .least .result) (now (taking-start l .args .buffer)) (l .least .ensures .0))
 
 returns : tie.Need-returns
-returns c = let a = c .before .before .before .before .before .before .before .before .before .before .before .before .before .before .before .before .before .before .before .before .before .before .before .before .args in (acted-event (now (a .numbers)) (now (a .used)) (now (a .journal)) (now (a .unfinished)) (now (a .frames)) (now (a .buffer)) (now (a .out)) (a .put) (a .item) (a .number) (a .behind) (c .before .before .before .before .before .before .before .before .before .before .before .before .before .before .before .before .before .item .given .1) (c .before .before .before .before .before .before .before .before .before .before .event .ensures) (c .before .before .tell .ensures .0), c .before .before .tell .ensures .1)
+returns c =
+    let e = event c in
+    let i = event-item e in
+    let s = start (i .before .before) in
+    let a = s .args in
+    let (row, ends) = c .before .before .tell .ensures in
+    (acted-event (desk s) (now (a .out)) (a .put) (a .item) (a .number) (a .behind) (i .item .given .1) (e .event .ensures) row, ends)
 
 returns-2 : tie.Need-returns-2
-returns-2 c = let a = c .before .before .before .before .before .before .before .before .before .before .before .before .before .before .before .before .before .before .before .before .before .before .args in (acted-taking (now (a .numbers)) (now (a .used)) (now (a .journal)) (now (a .unfinished)) (now (a .frames)) (now (a .buffer)) (now (a .out)) (a .put) (a .item) (a .number) (a .behind) (c .before .before .before .before .before .before .before .before .before .before .before .before .before .before .before .item2 .given .1) (c .before .before .before .before .before .before .before .before .before .before .before .before .before .least .ensures .1) (c .before .before .before .before .before .before .before .before .ngachodui-take .ensures) refl (c .before .before .tell2 .ensures .0), c .before .before .tell2 .ensures .1)
+returns-2 c =
+    let t = taking c in
+    let l = lent (t .before) in
+    let s = taking-start l in
+    let a = s .args in
+    let (row, ends) = c .before .before .tell2 .ensures in
+    (acted-taking (desk s) (now (a .out)) (a .put) (a .item) (a .number) (a .behind) (l .before .before .item2 .given .1) (l .least .ensures .1) (t .ngachodui-take .ensures) refl row, ends)
 
 returns-3 : tie.Need-returns-3
-returns-3 c = let a = c .before .before .before .before .before .before .before .args in (acted-none (now (a .numbers)) (now (a .used)) (now (a .journal)) (now (a .unfinished)) (now (a .frames)) (now (a .buffer)) (now (a .out)) (a .put) (a .item) (a .number) (a .behind) (c .enum-told .given .1), tt)
+returns-3 c =
+    let s = start (c .before .before) in
+    let a = s .args in
+    (acted-none (desk s) (now (a .out)) (a .put) (a .item) (a .number) (a .behind) (c .enum-told .given .1), tt)
 
 pub act-spec : {M : Type 1} → statement M
 act-spec =

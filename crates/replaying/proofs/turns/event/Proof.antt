@@ -6,11 +6,33 @@ use Rattle.replaying.proofs.Ways.{as-kind}
 use Rattle.replaying.proofs.turns.event.Statement.{statement}
 use Rattle.replaying.proofs.turns.event.Tie as tie
 
+-- the places of each arm: the call, and from it the kind matched; and the function's start
+abbrev byte : tie.After-slice-known6 → tie.After-ngachodui-byte
+byte c = c .before .before .before .before .before .before
+
+abbrev byte-kind : tie.After-ngachodui-byte → tie.After-kind
+byte-kind c = c .before .before .before .before .before .before .before
+
+abbrev seconds : tie.After-slice-known9 → tie.After-ngachodui-seconds
+seconds c = c .before .before .before .before .before .before
+
+abbrev seconds-kind : tie.After-ngachodui-seconds → tie.After-kind2
+seconds-kind c = c .before .before .before .before .before .before .before
+
+abbrev start : tie.After-slice-known3 → tie.Start
+start c = c .before .before .before
+
 returns : tie.Need-returns
-returns c = let a = c .before .before .before .before .before .before .before .before .before .before .before .before .before .before .before .before .before .before .args in as-kind (now (a .numbers)) (now (a .used)) (a .e) (now (a .journal)) (now (a .unfinished)) (now (a .frames)) (c .before .before .before .before .before .before .before .before .before .before .before .before .before .kind .given .1) (c .before .before .before .before .before .before .ngachodui-byte .ensures)
+returns c =
+    let k = byte-kind (byte c) in
+    let a = start (k .before .before) .args in
+    as-kind (now (a .numbers)) (now (a .used)) (a .e) (now (a .journal)) (now (a .unfinished)) (now (a .frames)) (k .kind .given .1) (byte c .ngachodui-byte .ensures)
 
 returns-2 : tie.Need-returns-2
-returns-2 c = let a = c .before .before .before .before .before .before .before .before .before .before .before .before .before .before .before .before .before .before .args in as-kind (now (a .numbers)) (now (a .used)) (a .e) (now (a .journal)) (now (a .unfinished)) (now (a .frames)) (c .before .before .before .before .before .before .before .before .before .before .before .before .before .kind2 .given .1) (c .before .before .before .before .before .before .ngachodui-seconds .ensures)
+returns-2 c =
+    let k = seconds-kind (seconds c) in
+    let a = start (k .before .before) .args in
+    as-kind (now (a .numbers)) (now (a .used)) (a .e) (now (a .journal)) (now (a .unfinished)) (now (a .frames)) (k .kind2 .given .1) (seconds c .ngachodui-seconds .ensures)
 
 pub event-spec : {M : Type 1} → statement M
 event-spec =

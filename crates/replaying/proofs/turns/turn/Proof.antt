@@ -2,29 +2,79 @@
 -- Assumes nothing.
 use borrow.Author.Needs.{needs}
 use native.Mathlib.Omega.{arith}
-use mathlib.Core.Path.{sym, _∙_}
+use Prim.Native.Nat.{_+_, _≤_}
+use mathlib.Core.Path.{_≡_, sym, _∙_}
 use denote.Ref.{now}
+use Rattle.replaying.specs.Desk.{rowRoom, Desk}
+use Rattle.replaying.specs.Lines.{nextOf}
+use Rattle.replaying.specs.Turns.{deskOf}
 use Rattle.replaying.specs.declared.Stop.the-variants.{Input}
+use Rattle.replaying.specs.declared.Next.the-variants.{Whole}
 use Rattle.replaying.proofs.Ways.{no-room, has-room, stays, acted-behind}
 use Rattle.replaying.proofs.Newlines.{behind-within}
 use lib.ListN.{length}
 use Rattle.replaying.proofs.turns.turn.Statement.{statement}
 use Rattle.replaying.proofs.turns.turn.Tie as tie
 
+-- the places, each from one behind it: the function's start, the line found, its item, the call of `act`
+abbrev start : tie.After-slice-known5 → tie.Start
+start c = c .before .before .before .before .before .before
+
+abbrev line-start : tie.After-next → tie.Start
+line-start c = start (c .before .before .before)
+
+abbrev item : tie.After-act → tie.After-item
+item c = c .before .before .before .before .before .before .before .before .before
+
+abbrev act : tie.After-slice-known10 → tie.After-act
+act c = c .before .before .before .before .before .before .before .before .before .before
+
+-- the desk that is lent
+abbrev desk : tie.Start → Desk
+desk s = let a = s .args in deskOf (now (a .numbers)) (now (a .used)) (now (a .journal)) (now (a .unfinished)) (now (a .frames)) (now (a .buffer))
+
+-- past the tests there is room for a row
+roomy : (c : tie.After-next) → line-start c .args .put + rowRoom ≤ length (now (line-start c .args .out))
+roomy c = omega arith
+
+-- the item is that of the next line
+next-is : (c : tie.After-item)
+    → let a = line-start (c .before .before) .args in
+    Whole (c .item .given .0 .0) (c .item .given .0 .1 .0) ≡ nextOf (now (a .input)) (a .at)
+next-is c = sym (c .item .given .1) ∙ c .before .before .next .ensures
+
 returns : tie.Need-returns
-returns c = let a = c .before .before .before .before .before .before .before .args in (no-room (now (a .numbers)) (now (a .used)) (now (a .journal)) (now (a .unfinished)) (now (a .frames)) (now (a .buffer)) (now (a .out)) (a .put) (now (a .input)) (a .at) (a .number) (omega arith), tt, tt)
+returns c =
+    let s = start (c .before) in
+    let a = s .args in
+    (no-room (desk s) (now (a .out)) (a .put) (now (a .input)) (a .at) (a .number) (omega arith), tt, tt)
 
 returns-2 : tie.Need-returns-2
-returns-2 c = let a = c .before .before .before .before .before .before .before .before .args in (no-room (now (a .numbers)) (now (a .used)) (now (a .journal)) (now (a .unfinished)) (now (a .frames)) (now (a .buffer)) (now (a .out)) (a .put) (now (a .input)) (a .at) (a .number) (omega arith), tt, tt)
+returns-2 c =
+    let s = start (c .before .before) in
+    let a = s .args in
+    (no-room (desk s) (now (a .out)) (a .put) (now (a .input)) (a .at) (a .number) (omega arith), tt, tt)
 
 returns-3 : tie.Need-returns-3
-returns-3 c = let a = c .before .before .before .before .before .before .before .before .before .before .before .args in (has-room (now (a .numbers)) (now (a .used)) (now (a .journal)) (now (a .unfinished)) (now (a .frames)) (now (a .buffer)) (now (a .out)) (a .put) (now (a .input)) (a .at) (a .number) (omega arith) (sym (c .enum-told .given .1) ∙ c .before .before .next .ensures) (stays (now (a .numbers)) (now (a .used)) (now (a .journal)) (now (a .unfinished)) (now (a .frames)) (now (a .buffer)) (now (a .out)) (a .put) Input), tt, tt)
+returns-3 c =
+    let n = c .before .before in
+    let s = line-start n in
+    let a = s .args in
+    let stay = stays (desk s) (now (a .out)) (a .put) Input in
+    (has-room (desk s) (now (a .out)) (a .put) (now (a .input)) (a .at) (a .number) (roomy n) (sym (c .enum-told .given .1) ∙ n .next .ensures) stay, tt, tt)
 
 returns-4 : tie.Need-returns-4
 returns-4 c =
-    let a = c .before .before .before .before .before .before .before .before .before .before .before .before .before .before .before .before .before .before .before .before .before .before .before .before .before .before .before .before .before .before .args in
-    let x = c .before .before .before .before .before .before .before .before .before .before .act .ensures in
-    (has-room (now (a .numbers)) (now (a .used)) (now (a .journal)) (now (a .unfinished)) (now (a .frames)) (now (a .buffer)) (now (a .out)) (a .put) (now (a .input)) (a .at) (a .number) (omega arith) (sym (c .before .before .before .before .before .before .before .before .before .before .before .before .before .before .before .before .before .before .before .item .given .1) ∙ c .before .before .before .before .before .before .before .before .before .before .before .before .before .before .before .before .before .before .before .before .before .next .ensures) (x .0), acted-behind (now (a .numbers)) (now (a .used)) (now (a .journal)) (now (a .unfinished)) (now (a .frames)) (now (a .buffer)) (now (a .out)) (a .put) (c .before .before .before .before .before .before .before .before .before .before .before .before .before .before .before .before .before .before .before .item .given .0 .0) (a .number) (c .before .before .before .before .before .before .before .before .before .before .before .before .before .before .before .before .before .before .before .item .given .0 .1 .0) (length (now (a .input))) (behind-within (now (a .input)) (a .at) (sym (c .before .before .before .before .before .before .before .before .before .before .before .before .before .before .before .before .before .before .before .item .given .1) ∙ c .before .before .before .before .before .before .before .before .before .before .before .before .before .before .before .before .before .before .before .before .before .next .ensures)) (x .0 .turn), x .1)
+    let i = item (act c) in
+    let n = i .before .before in
+    let s = line-start n in
+    let a = s .args in
+    let (done, ends) = act c .act .ensures in
+    let within = behind-within (now (a .input)) (a .at) (next-is i) in (
+      has-room (desk s) (now (a .out)) (a .put) (now (a .input)) (a .at) (a .number) (roomy n) (next-is i) done,
+      acted-behind (desk s) (now (a .out)) (a .put) (i .item .given .0 .0) (a .number) (i .item .given .0 .1 .0) (length (now (a .input))) within (done .turn),
+      ends,
+    )
 
 pub turn-spec : {M : Type 1} → statement M
 turn-spec =
