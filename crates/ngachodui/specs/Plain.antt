@@ -127,11 +127,11 @@ replyByte (Byte b) = b
 
 -- the answer to an event carries no values
 unfoldable pub told : Answer → Answered
-told a = record { number = numberOf a; reply = replyByte (replyOf (numberOf a)); serial = 0; length = 0 }
+told a = record { number = numberOf a; reply = replyByte (replyOf (numberOf a)); serial = 0; place = 0; digits = 0; length = 0 }
 
 -- the answer to a taking: for 8 the text's length and the serial
 unfoldable pub toldTaking : Took → Answered
-toldTaking (Taken n serial) = record { number = 8; reply = 0; serial = serial; length = n }
+toldTaking (Taken n serial) = record { number = 8; reply = 0; serial = serial; place = 0; digits = 0; length = n }
 toldTaking NothingWaiting = told (tookAnswer NothingWaiting)
 toldTaking BufferShort = told (tookAnswer BufferShort)
 toldTaking BrokenJournal = told (tookAnswer BrokenJournal)

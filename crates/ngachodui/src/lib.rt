@@ -21,11 +21,15 @@ mod plain; // plain.rt: records, ledger and answers in plain numbers
 pub mod texts; // texts.rt: texts cut, read, escaped and unescaped
 
 // An answer: its number in document 01's table, the byte to send back (0 for none), and for 8 the serial and the text's length.
+// The place of a fault and the case of check digits are 0 in this version. With them no byte is left unnamed, so that an answer
+// is made in registers: bytes without a name are left out of stores, and a load over such a store waits for it.
 #[repr(C)]
 pub struct Answered {
     pub number: u8,
     pub reply: u8,
     pub serial: u16,
+    pub place: u16,
+    pub digits: u16,
     pub length: usize,
 }
 

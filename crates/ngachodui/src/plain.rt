@@ -279,6 +279,8 @@ pub fn told(answer: Answer) -> Answered
         number: answer.number(),
         reply: reply_byte(answer.reply()),
         serial: 0,
+        place: 0,
+        digits: 0,
         length: 0,
     }
 }
@@ -292,6 +294,8 @@ pub fn told_taking(took: Took) -> Answered
             number: 8,
             reply: 0,
             serial,
+            place: 0,
+            digits: 0,
             length: n,
         },
         Took::NothingWaiting => told(Answer::NothingWaiting),
