@@ -6,8 +6,8 @@
  * journal until the host takes them.
  *
  * The library keeps nothing between calls, allocates nothing, and calls nothing but memcpy, memmove
- * and memset. All that a gateway is lies in memory of the host's: a ngachodui_gateway, which is a
- * state and three memories of fixed sizes. A host calls ngachodui_start on it once, then
+ * and memset. All that a gateway is lies in memory of the host's: a ngachodui_gateway, which is
+ * three memories of fixed sizes and a state. A host calls ngachodui_start on it once, then
  * ngachodui_on_byte, ngachodui_on_seconds and ngachodui_on_take. These lend state and memories to the
  * library's own functions, which a host may call itself if it keeps them in other places. Only the
  * library changes them.
@@ -166,12 +166,13 @@ typedef struct ngachodui_state {
     ngachodui_counts counts;
 } ngachodui_state;
 
-/* A gateway with them: all that a host keeps of it. Larger than some stacks: make it static. */
+/* A gateway with them: all that a host keeps of it. With 66,900 bytes it is large for a stack: make it
+ * static. */
 typedef struct ngachodui_gateway {
-    ngachodui_state state;
     uint8_t journal[NGACHODUI_JOURNAL_SIZE];
     uint8_t unfinished[NGACHODUI_UNFINISHED_SIZE];
     uint8_t frames[NGACHODUI_FRAMES_SIZE];
+    ngachodui_state state;
 } ngachodui_gateway;
 
 /* The layout that a library was compiled for. */
