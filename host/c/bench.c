@@ -554,13 +554,17 @@ static uint64_t time_of(enum side side, struct operation o, uint64_t count)
     return nanoseconds() - start;
 }
 
-/* Runs so short that most of them are not interrupted. */
+/* Runs of half a millisecond, so short that most of them are not interrupted. */
 static void compare_times(struct operation o, uint64_t rounds)
 {
-    enum { SHORT = 500000 };
+    enum { SHORT = 500000, TRIES = 5 };
     uint64_t count = 1, best[] = { UINT64_MAX, UINT64_MAX, UINT64_MAX };
-    while (time_of(PLAIN, o, count) < SHORT)
-        count *= 2;
+    for (unsigned tries = 0; tries < TRIES; tries++) {
+        if (time_of(PLAIN, o, count) < SHORT) {
+            count *= 2;
+            tries = 0;
+        }
+    }
     for (uint64_t round = 0; round < rounds; round++) {
         for (unsigned turn = 0; turn < 3; turn++) {
             enum side side = (enum side)((round + turn) % 3);
