@@ -69,7 +69,8 @@ FOR_EACH_SIDE void fresh(enum side side)
         plain = plain_fresh();
 }
 
-/* A host looks at the reply only where there is an answer. */
+/* A host looks at the answer only where there is one. With 0 nothing is noted either: the checksum lies in
+ * memory, and from one byte to the next it would be waited for longer than for the gateway. */
 FOR_EACH_SIDE unsigned byte_in(enum side side, unsigned line, uint8_t byte)
 {
     unsigned number = 0;
@@ -77,17 +78,16 @@ FOR_EACH_SIDE unsigned byte_in(enum side side, unsigned line, uint8_t byte)
         ngachodui_answered answer = ngachodui_on_byte(&library, (uint8_t)line, byte);
         number = answer.number;
         if (number != 0)
-            note(answer.reply);
+            note(64 * (uint64_t)answer.reply + number);
     } else if (side == PLAIN) {
         number = plain_event(&plain, &memory, line, PLAIN_BYTE, byte).number;
         if (number != 0) {
             int reply = plain_reply(number);
-            note(reply == PLAIN_NO_REPLY ? 0 : (uint64_t)reply);
+            note(64 * (uint64_t)(reply == PLAIN_NO_REPLY ? 0 : reply) + number);
         }
     } else {
         __asm__ volatile("" : "+r"(line), "+r"(byte));
     }
-    note(number);
     return number;
 }
 

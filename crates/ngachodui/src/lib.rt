@@ -1,4 +1,5 @@
-// The gateway for hosts in C and Rust. A host keeps the state in plain numbers in its own memory, and lends it to each call:
+// The gateway for hosts in C and Rust. A host keeps the state in plain numbers in its own memory, and lends it to each call
+// (include/ngachodui.h calls the numbers `lines` and the used counts `counts`):
 //   numbers  eight for each line: state (0 neutral, 1 waiting, 2 inside), collected, joined, seconds, next number,
 //            last number (0 for none, else one more than it), refusing (0 or 1), the serial of its next entry
 //   used     each line's used count, then how many bytes of the journal are in use
