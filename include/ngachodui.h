@@ -6,9 +6,13 @@
  * journal until the host takes them.
  *
  * The library keeps nothing between calls, allocates nothing, and calls nothing but memcpy, memmove
- * and memset. All that a gateway is lies in memory of the host's: a ngachodui_state and three
- * memories of fixed sizes, lent to every call. To begin, call ngachodui_fresh on the state; the
- * memories may hold anything. From then on only the library changes them.
+ * and memset. All that a gateway is lies in memory of the host's: a ngachodui_gateway, which is
+ * three memories of fixed sizes and a state. A host calls ngachodui_start on it once, then
+ * ngachodui_on_byte, ngachodui_on_seconds and ngachodui_on_take. These lend state and memories to the
+ * library's own functions, which a host may call itself if it keeps them in other places. Only the
+ * library changes them.
+ *
+ * One call at a time for one gateway: a lock around every call, or one thread for all lines.
  *
  * What the host owes at every call, since C cannot say it:
  *   - each pointer is valid for the length beside it, or for the array in its type, and aligned for
@@ -20,7 +24,8 @@
  * said here, and a wrong line, size, state or text is answered by its number. That is proved, for
  * all bytes and all calls; `docs/CONTRACTS.md` says what each function promises.
  *
- * Link with libngachodui.a, which is for x86-64 Linux. */
+ * Link with libngachodui.a, which is for x86-64 Linux. An object that was compiled for another layout
+ * of state and memories does not link with it: see NGACHODUI_VERSION. */
 #ifndef NGACHODUI_H
 #define NGACHODUI_H
 
@@ -32,21 +37,39 @@
 extern "C" {
 #endif
 
+/* ---- Version ---- */
+
+/* The version of the layout: of all sizes, structs and numbers below. It is higher with each layout
+ * that an object compiled for another one cannot use, or that cannot read what another one saved, so
+ * it belongs in front of a state that a host saves. It is changed here alone: by it ngachodui_fresh
+ * has its name in the library, so that an object of another version finds none. */
+#define NGACHODUI_VERSION 1
+
+#define NGACHODUI_JOINED(name, version) name##_##version
+#define NGACHODUI_NAMED(name, version) NGACHODUI_JOINED(name, version)
+#define ngachodui_fresh NGACHODUI_NAMED(ngachodui_fresh, NGACHODUI_VERSION)
+
 /* ---- Sizes ---- */
 
 enum {
     NGACHODUI_LINES = 8,               /* the lines are numbered 0 to 7 */
-
-    /* The three memories, in bytes. Lent at any other size, an event is answered 41. */
-    NGACHODUI_JOURNAL_SIZE = 32768,    /* the messages that wait */
-    NGACHODUI_UNFINISHED_SIZE = 32000, /* unfinished text, 4,000 bytes for each line */
-    NGACHODUI_FRAMES_SIZE = 1968,      /* the frame that a line is receiving, 246 bytes for each */
+    NGACHODUI_NUMBERS = 64,            /* the 16-bit numbers of a state: eight for each line */
+    NGACHODUI_COUNTS = 9,              /* its 32-bit numbers: one for each line, and one of them all */
 
     /* What is never exceeded: memory for so many is never too short. */
     NGACHODUI_TEXT_LIMIT = 4000,       /* bytes of a message, for a taking */
     NGACHODUI_FRAME_LIMIT = 247,       /* bytes of a frame, from STX to LF */
     NGACHODUI_RECORDS_LIMIT = 999,     /* records of a message, for reading */
-    NGACHODUI_CUT_LIMIT = 10993        /* bytes of a message's frames: 4,000 of text in 999 frames */
+    NGACHODUI_CUT_LIMIT = 10993,       /* bytes of a message's frames: 4,000 of text in 999 frames */
+
+    /* The three memories, in bytes. Lent at any other size, an event is answered 41. */
+    NGACHODUI_JOURNAL_SIZE = 32768,    /* the messages that wait */
+    NGACHODUI_UNFINISHED_SIZE = NGACHODUI_LINES * NGACHODUI_TEXT_LIMIT,   /* each line's unfinished text */
+    NGACHODUI_FRAME_PART = NGACHODUI_FRAME_LIMIT - 1,                     /* a frame without its STX */
+    NGACHODUI_FRAMES_SIZE = NGACHODUI_LINES * NGACHODUI_FRAME_PART,       /* what each line is receiving */
+
+    /* Bytes of the journal that each line is sure of, 4 counted for each message besides its text. */
+    NGACHODUI_SHARE = 2048
 };
 
 /* ---- Answers ---- */
@@ -95,12 +118,17 @@ typedef struct ngachodui_answered {
     uint8_t number;    /* enum ngachodui_number, 0 to 45 */
     uint8_t reply;     /* the byte to send to the analyzer: 0x06, 0x15, or 0 for none */
     uint16_t serial;   /* with answer 8 the message's serial, else 0 */
+    uint16_t place;    /* 0 in this version */
+    uint16_t digits;   /* 0 in this version */
     size_t length;     /* with answer 8 the message's length, else 0 */
 } ngachodui_answered;
 
 /* The answer of a text function. */
 typedef struct ngachodui_made {
     uint8_t number;    /* NGACHODUI_DONE, NGACHODUI_MALFORMED or NGACHODUI_NOT_FITTING */
+    uint8_t spare;     /* 0 in this version */
+    uint16_t place;    /* 0 in this version */
+    uint32_t value;    /* 0 in this version */
     size_t length;     /* when done: how much was written, from the start of the output; else 0 */
 } ngachodui_made;
 
@@ -138,24 +166,46 @@ typedef struct ngachodui_state {
     ngachodui_counts counts;
 } ngachodui_state;
 
-/* The library was compiled for these layouts. */
+/* A gateway with them: all that a host keeps of it. With 66,900 bytes it is large for a stack: make it
+ * static. */
+typedef struct ngachodui_gateway {
+    uint8_t journal[NGACHODUI_JOURNAL_SIZE];
+    uint8_t unfinished[NGACHODUI_UNFINISHED_SIZE];
+    uint8_t frames[NGACHODUI_FRAMES_SIZE];
+    ngachodui_state state;
+} ngachodui_gateway;
+
+/* The layout that a library was compiled for. */
+typedef struct ngachodui_layout {
+    uint32_t version;      /* NGACHODUI_VERSION */
+    uint32_t numbers;      /* NGACHODUI_NUMBERS */
+    uint32_t counts;       /* NGACHODUI_COUNTS */
+    uint32_t journal;      /* NGACHODUI_JOURNAL_SIZE */
+    uint32_t unfinished;   /* NGACHODUI_UNFINISHED_SIZE */
+    uint32_t frames;       /* NGACHODUI_FRAMES_SIZE */
+} ngachodui_layout;
+
 #if defined(__cplusplus) && __cplusplus >= 201103L
-#define NGACHODUI_LAYOUT(fact) static_assert(fact, #fact)
+#define NGACHODUI_FACT(fact) static_assert(fact, #fact)
 #elif !defined(__cplusplus) && defined(__STDC_VERSION__) && __STDC_VERSION__ >= 201112L
-#define NGACHODUI_LAYOUT(fact) _Static_assert(fact, #fact)
+#define NGACHODUI_FACT(fact) _Static_assert(fact, #fact)
 #else
-#define NGACHODUI_LAYOUT(fact) struct ngachodui_layout
+#define NGACHODUI_FACT(fact) struct ngachodui_layout
 #endif
-NGACHODUI_LAYOUT(sizeof(ngachodui_line) == 16);
-NGACHODUI_LAYOUT(sizeof(ngachodui_counts) == 36);
-NGACHODUI_LAYOUT(sizeof(ngachodui_answered) == 16);
-NGACHODUI_LAYOUT(sizeof(ngachodui_made) == 16);
-#undef NGACHODUI_LAYOUT
+NGACHODUI_FACT(sizeof(ngachodui_line) * NGACHODUI_LINES == sizeof(uint16_t) * NGACHODUI_NUMBERS);
+NGACHODUI_FACT(sizeof(ngachodui_counts) == sizeof(uint32_t) * NGACHODUI_COUNTS);
+NGACHODUI_FACT(sizeof(ngachodui_answered) == 16);
+NGACHODUI_FACT(sizeof(ngachodui_made) == 16);
+NGACHODUI_FACT(sizeof(ngachodui_layout) == 24);
+#undef NGACHODUI_FACT
 
-/* ---- The gateway ---- */
+/* ---- The library's functions ---- */
 
-/* Makes every line neutral with next number 1 and serial 0, and the journal empty. Call it once,
- * before all else; later it forgets every message that waits. */
+/* The layout that the library was compiled for. */
+ngachodui_layout ngachodui_sizes(void);
+
+/* Makes every line neutral with next number 1 and serial 0, and the journal empty; the memories may
+ * hold anything. Call it once, before all else; later it forgets every message that waits. */
 void ngachodui_fresh(ngachodui_line lines[NGACHODUI_LINES], ngachodui_counts *counts);
 
 /* A byte has come in on a line.
@@ -204,6 +254,52 @@ ngachodui_answered ngachodui_take(uint8_t line,
                                   const ngachodui_line lines[NGACHODUI_LINES], ngachodui_counts *counts,
                                   uint8_t *journal, size_t journal_length,
                                   uint8_t *buffer, size_t buffer_length);
+
+/* ---- A gateway in one piece ---- */
+
+/* Whether the library was compiled for the layout of this header. */
+static inline bool ngachodui_is_this_layout(void)
+{
+    const ngachodui_layout sizes = ngachodui_sizes();
+    return sizes.version == NGACHODUI_VERSION && sizes.numbers == NGACHODUI_NUMBERS
+        && sizes.counts == NGACHODUI_COUNTS && sizes.journal == NGACHODUI_JOURNAL_SIZE
+        && sizes.unfinished == NGACHODUI_UNFINISHED_SIZE && sizes.frames == NGACHODUI_FRAMES_SIZE;
+}
+
+/* As ngachodui_fresh. False: the library is of another layout than this header, and nothing is done. */
+static inline bool ngachodui_start(ngachodui_gateway *gateway)
+{
+    if (!ngachodui_is_this_layout())
+        return false;
+    ngachodui_fresh(gateway->state.lines, &gateway->state.counts);
+    return true;
+}
+
+/* As ngachodui_byte. */
+static inline ngachodui_answered ngachodui_on_byte(ngachodui_gateway *gateway, uint8_t line, uint8_t byte)
+{
+    return ngachodui_byte(line, byte, gateway->state.lines, &gateway->state.counts,
+                          gateway->journal, sizeof gateway->journal,
+                          gateway->unfinished, sizeof gateway->unfinished,
+                          gateway->frames, sizeof gateway->frames);
+}
+
+/* As ngachodui_seconds. */
+static inline ngachodui_answered ngachodui_on_seconds(ngachodui_gateway *gateway, uint8_t line, uint8_t seconds)
+{
+    return ngachodui_seconds(line, seconds, gateway->state.lines, &gateway->state.counts,
+                             gateway->journal, sizeof gateway->journal,
+                             gateway->unfinished, sizeof gateway->unfinished,
+                             gateway->frames, sizeof gateway->frames);
+}
+
+/* As ngachodui_take. */
+static inline ngachodui_answered ngachodui_on_take(ngachodui_gateway *gateway, uint8_t line,
+                                                   uint8_t *buffer, size_t buffer_length)
+{
+    return ngachodui_take(line, gateway->state.lines, &gateway->state.counts,
+                          gateway->journal, sizeof gateway->journal, buffer, buffer_length);
+}
 
 /* ---- Texts ---- */
 

@@ -6,7 +6,12 @@
  * SIDE is library, plain or none. With none all is done but the call of the gateway, so that what it
  * costs to call it again and again can be subtracted. Standard output has a checksum of all answers
  * and of all memory at the end, which both sides must share, and how many operations were done (for
- * bytes: how many bytes). Standard error has the time that they took. */
+ * bytes: how many bytes).
+ *
+ *     bench OPERATION times ROUNDS [SIZE]
+ *
+ * runs the three in turn, so many rounds of short runs, and says how long the best run of each took:
+ * what else the machine does hits all three alike, and the best runs least. */
 #define _POSIX_C_SOURCE 200809L
 #include "baseline.h"
 #include "ngachodui.h"
@@ -19,7 +24,7 @@
 enum side { LIBRARY, PLAIN, NONE };
 
 enum { STX = 0x02, ETX = 0x03, ENQ = 0x05, LF = 0x0A, CR = 0x0D, ETB = 0x17 };
-enum { TEXT = NGACHODUI_TEXT_LIMIT, FRAME = NGACHODUI_FRAME_LIMIT, RECORDS = NGACHODUI_RECORDS_LIMIT, LINES = 8 };
+enum { TEXT = NGACHODUI_TEXT_LIMIT, FRAME = NGACHODUI_FRAME_LIMIT, RECORDS = NGACHODUI_RECORDS_LIMIT, LINES = NGACHODUI_LINES };
 
 /* Each operation is compiled once for each side, so that each calls its gateway directly. */
 #define FOR_EACH_SIDE static inline __attribute__((always_inline))
@@ -32,18 +37,18 @@ static void stop(const char *why)
 
 /* ---- The two gateways ---- */
 
-/* What is saved in front of an operation and put back behind it. */
-struct records {
-    ngachodui_state library;
-    struct plain_gateway plain;
+/* Each has its own records; the memories, which lie alike on both sides, are the library's. */
+static ngachodui_gateway library;
+static struct plain_gateway plain;
+static const struct plain_memory memory = {
+    library.journal, sizeof library.journal, library.unfinished, sizeof library.unfinished, library.frames, sizeof library.frames
 };
-
-static struct records now, saved;
-static uint8_t journal[NGACHODUI_JOURNAL_SIZE], saved_journal[NGACHODUI_JOURNAL_SIZE];
-static uint8_t unfinished[NGACHODUI_UNFINISHED_SIZE];
-static uint8_t frames[NGACHODUI_FRAMES_SIZE];
 static uint8_t buffer[TEXT];
-static const struct plain_memory memory = { journal, sizeof journal, unfinished, sizeof unfinished, frames, sizeof frames };
+
+/* What is saved in front of an operation and put back behind it. */
+static ngachodui_state saved_library;
+static struct plain_gateway saved_plain;
+static uint8_t saved_journal[NGACHODUI_JOURNAL_SIZE];
 
 static uint64_t checksum;
 static uint64_t done;
@@ -59,32 +64,30 @@ static inline void note(uint64_t value)
 FOR_EACH_SIDE void fresh(enum side side)
 {
     if (side == LIBRARY)
-        ngachodui_fresh(now.library.lines, &now.library.counts);
+        ngachodui_fresh(library.state.lines, &library.state.counts);
     else if (side == PLAIN)
-        now.plain = plain_fresh();
+        plain = plain_fresh();
 }
 
-/* A host looks at the reply only where there is an answer. */
+/* A host looks at the answer only where there is one. With 0 nothing is noted either: the checksum lies in
+ * memory, and from one byte to the next it would be waited for longer than for the gateway. */
 FOR_EACH_SIDE unsigned byte_in(enum side side, unsigned line, uint8_t byte)
 {
     unsigned number = 0;
     if (side == LIBRARY) {
-        ngachodui_answered answer =
-            ngachodui_byte((uint8_t)line, byte, now.library.lines, &now.library.counts, journal, sizeof journal,
-                           unfinished, sizeof unfinished, frames, sizeof frames);
+        ngachodui_answered answer = ngachodui_on_byte(&library, (uint8_t)line, byte);
         number = answer.number;
         if (number != 0)
-            note(answer.reply);
+            note(64 * (uint64_t)answer.reply + number);
     } else if (side == PLAIN) {
-        number = plain_event(&now.plain, &memory, line, PLAIN_BYTE, byte).number;
+        number = plain_event(&plain, &memory, line, PLAIN_BYTE, byte).number;
         if (number != 0) {
             int reply = plain_reply(number);
-            note(reply == PLAIN_NO_REPLY ? 0 : (uint64_t)reply);
+            note(64 * (uint64_t)(reply == PLAIN_NO_REPLY ? 0 : reply) + number);
         }
     } else {
         __asm__ volatile("" : "+r"(line), "+r"(byte));
     }
-    note(number);
     return number;
 }
 
@@ -92,10 +95,9 @@ FOR_EACH_SIDE void seconds_in(enum side side, unsigned line, uint8_t seconds)
 {
     unsigned number = 0;
     if (side == LIBRARY)
-        number = ngachodui_seconds((uint8_t)line, seconds, now.library.lines, &now.library.counts, journal,
-                                   sizeof journal, unfinished, sizeof unfinished, frames, sizeof frames).number;
+        number = ngachodui_on_seconds(&library, (uint8_t)line, seconds).number;
     else if (side == PLAIN)
-        number = plain_event(&now.plain, &memory, line, PLAIN_SECONDS, seconds).number;
+        number = plain_event(&plain, &memory, line, PLAIN_SECONDS, seconds).number;
     else
         __asm__ volatile("" : "+r"(line), "+r"(seconds));
     note(number);
@@ -104,11 +106,10 @@ FOR_EACH_SIDE void seconds_in(enum side side, unsigned line, uint8_t seconds)
 FOR_EACH_SIDE void take_out(enum side side, unsigned line, size_t room)
 {
     if (side == LIBRARY) {
-        ngachodui_answered answer = ngachodui_take((uint8_t)line, now.library.lines, &now.library.counts, journal,
-                                                   sizeof journal, buffer, room);
+        ngachodui_answered answer = ngachodui_on_take(&library, (uint8_t)line, buffer, room);
         note(answer.number + 64 * answer.length + 4096 * 64 * (uint64_t)answer.serial);
     } else if (side == PLAIN) {
-        struct plain_answer answer = plain_take(&now.plain, journal, sizeof journal, line, buffer, room);
+        struct plain_answer answer = plain_take(&plain, library.journal, sizeof library.journal, line, buffer, room);
         note(answer.number + 64 * (size_t)answer.length + 4096 * 64 * (uint64_t)answer.serial);
     } else {
         __asm__ volatile("" : "+r"(line), "+r"(room));
@@ -116,9 +117,16 @@ FOR_EACH_SIDE void take_out(enum side side, unsigned line, size_t room)
 }
 
 /* Both sides' records, whatever the side, so that it costs the same. */
+static void save(void)
+{
+    saved_library = library.state;
+    saved_plain = plain;
+}
+
 static inline void put_back(void)
 {
-    now = saved;
+    library.state = saved_library;
+    plain = saved_plain;
     KEEP_MEMORY();
 }
 
@@ -187,7 +195,7 @@ FOR_EACH_SIDE void collected(enum side side, uint64_t count)
         byte_in(side, line, ENQ);
         byte_in(side, line, STX);
     }
-    saved = now;
+    save();
     for (uint64_t i = 0; i < count; i++) {
         for (unsigned at = 0; at < BYTES; at++)
             for (unsigned line = 0; line < LINES; line++)
@@ -278,7 +286,7 @@ FOR_EACH_SIDE void judged(enum side side, uint64_t count, size_t size, bool righ
     byte_in(side, 3, ENQ);
     for (const uint8_t *at = frame; at < end; at++)
         byte_in(side, 3, *at);
-    saved = now;
+    save();
     for (uint64_t i = 0; i < count; i++) {
         unsigned number = byte_in(side, 3, LF);
         if (side != NONE && number != (right ? NGACHODUI_ACCEPTED : NGACHODUI_WRONG_CHECK))
@@ -295,7 +303,7 @@ FOR_EACH_SIDE void framed(enum side side, uint64_t count, size_t size)
     const uint8_t *end = make_frame(frame, size, true);
     fresh(side);
     byte_in(side, 3, ENQ);
-    saved = now;
+    save();
     for (uint64_t i = 0; i < count; i++) {
         unsigned number = 0;
         for (const uint8_t *at = frame; at <= end; at++)
@@ -314,7 +322,7 @@ FOR_EACH_SIDE void decided(enum side side, uint64_t count)
     byte_in(side, 3, ENQ);
     for (size_t i = 0; i < sent_length - 1; i++)
         byte_in(side, 3, sent[i]);
-    saved = now;
+    save();
     for (uint64_t i = 0; i < count; i++) {
         unsigned number = byte_in(side, 3, LF);
         if (side != NONE && number != NGACHODUI_STORED)
@@ -333,31 +341,31 @@ static void fill_journal(unsigned entries)
     for (unsigned i = 0; i < entries; i++) {
         unsigned line = i % LINES, serial = i / LINES;
         size_t size = 4 + length;
-        if (at + size > sizeof journal)
+        if (at + size > sizeof library.journal)
             stop("so many entries do not fit");
         const uint8_t header[4] = { (uint8_t)(line << 5 | length >> 8), (uint8_t)length, (uint8_t)(serial >> 8), (uint8_t)serial };
-        memcpy(journal + at, header, 4);
-        memcpy(journal + at + 4, text, length);
+        memcpy(library.journal + at, header, 4);
+        memcpy(library.journal + at + 4, text, length);
         at += size;
-        now.library.counts.used[line] += (uint32_t)size;
-        now.library.lines[line].serial++;
-        now.plain.ledger.used[line] += (uint32_t)size;
-        now.plain.ledger.serials[line]++;
+        library.state.counts.used[line] += (uint32_t)size;
+        library.state.lines[line].serial++;
+        plain.ledger.used[line] += (uint32_t)size;
+        plain.ledger.serials[line]++;
     }
-    now.library.counts.in_use = now.plain.ledger.in_use = (uint32_t)at;
-    memcpy(saved_journal, journal, sizeof journal);
+    library.state.counts.in_use = plain.ledger.in_use = (uint32_t)at;
+    memcpy(saved_journal, library.journal, sizeof saved_journal);
 }
 
 /* The first entry is taken, all others move up, and the journal is put back. */
 FOR_EACH_SIDE void taken(enum side side, uint64_t count, unsigned entries)
 {
-    now.plain = plain_fresh();
-    ngachodui_fresh(now.library.lines, &now.library.counts);
+    plain = plain_fresh();
+    ngachodui_fresh(library.state.lines, &library.state.counts);
     fill_journal(entries);
-    saved = now;
+    save();
     for (uint64_t i = 0; i < count; i++) {
         take_out(side, 0, sizeof buffer);
-        memcpy(journal, saved_journal, sizeof journal);
+        memcpy(library.journal, saved_journal, sizeof saved_journal);
         put_back();
     }
     take_out(side, 0, sizeof buffer); /* so that what a taking leaves is in the checksum */
@@ -467,78 +475,135 @@ static void write_number(FILE *file, const char *words, uint64_t number)
     fputs("\n", file);
 }
 
-static void run(const char *operation, enum side side, uint64_t count, size_t size)
+/* An operation by its name, with its size. */
+struct operation {
+    const char *name;
+    size_t size;
+};
+
+static bool is(struct operation o, const char *name)
 {
-#define IS(name) (strcmp(operation, name) == 0)
-#define RUN(function, ...)                                          \
-    do {                                                            \
-        uint64_t start = nanoseconds();                             \
-        if (side == LIBRARY)                                        \
-            function(LIBRARY, __VA_ARGS__);                         \
-        else if (side == PLAIN)                                     \
-            function(PLAIN, __VA_ARGS__);                           \
-        else                                                        \
-            function(NONE, __VA_ARGS__);                            \
-        write_number(stderr, "nanoseconds ", nanoseconds() - start); \
-    } while (0)
-    bool many = strstr(operation, "-many") != NULL;
-    if (IS("collected")) {
-        RUN(collected, count);
-    } else if (IS("morning")) {
+    return strcmp(o.name, name) == 0;
+}
+
+static bool starts(struct operation o, const char *start)
+{
+    return strncmp(o.name, start, strlen(start)) == 0;
+}
+
+/* What an operation works on, made once. */
+static void prepare(struct operation o)
+{
+    const bool many = strstr(o.name, "-many") != NULL;
+    if (is(o, "morning"))
         read_trace();
-        RUN(morning, count);
-    } else if (IS("accepted")) {
-        RUN(judged, count, text_of_frame(size), true);
-    } else if (IS("refused")) {
-        RUN(judged, count, text_of_frame(size), false);
-    } else if (IS("framed")) {
-        RUN(framed, count, text_of_frame(size));
-    } else if (IS("decided-few") || IS("decided-many")) {
-        make_message(size ? size : TEXT, many);
-        cut_message();
-        RUN(decided, count);
-    } else if (IS("taken-few")) {
-        make_message(TEXT, false);
-        RUN(taken, count, (unsigned)(size ? size : 8));
-    } else if (IS("taken-many")) {
+    else if (is(o, "taken-many"))
         length = (size_t)sprintf((char *)text, "H|\\^&|A\rL|1\r");
-        RUN(taken, count, (unsigned)(size ? size : 2000));
-    } else if (IS("check-few") || IS("check-many")) {
-        make_message(size ? size : TEXT, many);
-        RUN(over_text, count, CHECK);
-    } else if (IS("cut-few") || IS("cut-many")) {
-        make_message(size ? size : TEXT, many);
-        RUN(over_text, count, CUT);
-    } else if (IS("read-few") || IS("read-many")) {
-        make_message(size ? size : TEXT, many);
-        RUN(records_read, count);
-    } else if (IS("escape-none") || IS("escape-many")) {
-        make_text(size ? size : TEXT, many, false);
-        RUN(over_text, count, ESCAPE);
-    } else if (IS("unescape-none") || IS("unescape-many")) {
-        make_text(size ? size : TEXT, many, true);
-        RUN(over_text, count, UNESCAPE);
-    } else {
+    else if (is(o, "taken-few"))
+        make_message(TEXT, false);
+    else if (starts(o, "escape-") || starts(o, "unescape-"))
+        make_text(o.size ? o.size : TEXT, many, starts(o, "unescape-"));
+    else if (starts(o, "decided-") || starts(o, "check-") || starts(o, "cut-") || starts(o, "read-"))
+        make_message(o.size ? o.size : TEXT, many);
+    if (starts(o, "decided-"))
+        cut_message();
+}
+
+FOR_EACH_SIDE void run_side(enum side side, struct operation o, uint64_t count)
+{
+    if (is(o, "collected"))
+        collected(side, count);
+    else if (is(o, "morning"))
+        morning(side, count);
+    else if (is(o, "accepted") || is(o, "refused"))
+        judged(side, count, text_of_frame(o.size), is(o, "accepted"));
+    else if (is(o, "framed"))
+        framed(side, count, text_of_frame(o.size));
+    else if (starts(o, "decided-"))
+        decided(side, count);
+    else if (starts(o, "taken-"))
+        taken(side, count, (unsigned)(o.size ? o.size : is(o, "taken-few") ? 8 : 2000));
+    else if (starts(o, "check-"))
+        over_text(side, count, CHECK);
+    else if (starts(o, "cut-"))
+        over_text(side, count, CUT);
+    else if (starts(o, "read-"))
+        records_read(side, count);
+    else if (starts(o, "escape-"))
+        over_text(side, count, ESCAPE);
+    else if (starts(o, "unescape-"))
+        over_text(side, count, UNESCAPE);
+    else
         stop("no such operation");
+}
+
+static void run(enum side side, struct operation o, uint64_t count)
+{
+    if (side == LIBRARY)
+        run_side(LIBRARY, o, count);
+    else if (side == PLAIN)
+        run_side(PLAIN, o, count);
+    else
+        run_side(NONE, o, count);
+}
+
+static uint64_t time_of(enum side side, struct operation o, uint64_t count)
+{
+    uint64_t start = nanoseconds();
+    run(side, o, count);
+    return nanoseconds() - start;
+}
+
+/* Runs of half a millisecond, so short that most of them are not interrupted. */
+static void compare_times(struct operation o, uint64_t rounds)
+{
+    enum { SHORT = 500000, TRIES = 5 };
+    uint64_t count = 1, best[] = { UINT64_MAX, UINT64_MAX, UINT64_MAX };
+    for (unsigned tries = 0; tries < TRIES; tries++) {
+        if (time_of(PLAIN, o, count) < SHORT) {
+            count *= 2;
+            tries = 0;
+        }
     }
+    for (uint64_t round = 0; round < rounds; round++) {
+        for (unsigned turn = 0; turn < 3; turn++) {
+            enum side side = (enum side)((round + turn) % 3);
+            uint64_t took = time_of(side, o, count);
+            if (took < best[side])
+                best[side] = took;
+        }
+    }
+    write_number(stdout, "runs of ", count);
+    write_number(stdout, "library ", best[LIBRARY]);
+    write_number(stdout, "plain ", best[PLAIN]);
+    write_number(stdout, "none ", best[NONE]);
 }
 
 int main(int argc, char **argv)
 {
     if (argc != 4 && argc != 5)
-        stop("bench OPERATION library|plain|none COUNT [SIZE]");
+        stop("bench OPERATION library|plain|none COUNT [SIZE], or bench OPERATION times ROUNDS [SIZE]");
+    if (!ngachodui_is_this_layout())
+        stop("the library has another layout than its header");
+    const struct operation o = { argv[1], argc == 5 ? strtoul(argv[4], NULL, 10) : 0 };
+    const uint64_t count = strtoull(argv[3], NULL, 10);
+    prepare(o);
+    if (strcmp(argv[2], "times") == 0) {
+        compare_times(o, count);
+        return 0;
+    }
     enum side side = strcmp(argv[2], "library") == 0 ? LIBRARY : strcmp(argv[2], "plain") == 0 ? PLAIN : NONE;
     if (side == NONE && strcmp(argv[2], "none") != 0)
         stop("the side is library, plain or none");
-    run(argv[1], side, strtoull(argv[3], NULL, 10), argc == 5 ? strtoul(argv[4], NULL, 10) : 0);
+    run(side, o, count);
 
     /* The counts and the memories, which lie alike on both sides. */
     for (unsigned line = 0; line < LINES; line++)
-        note(side == LIBRARY ? now.library.counts.used[line] : now.plain.ledger.used[line]);
-    note(side == LIBRARY ? now.library.counts.in_use : now.plain.ledger.in_use);
-    note_bytes(journal, sizeof journal);
-    note_bytes(unfinished, sizeof unfinished);
-    note_bytes(frames, sizeof frames);
+        note(side == LIBRARY ? library.state.counts.used[line] : plain.ledger.used[line]);
+    note(side == LIBRARY ? library.state.counts.in_use : plain.ledger.in_use);
+    note_bytes(library.journal, sizeof library.journal);
+    note_bytes(library.unfinished, sizeof library.unfinished);
+    note_bytes(library.frames, sizeof library.frames);
     note_bytes(buffer, sizeof buffer);
     write_number(stdout, "checksum ", checksum);
     write_number(stdout, "operations ", done);

@@ -1,15 +1,14 @@
 /* Calls every function of include/ngachodui.h once or more and compares what it answers and leaves with
- * document 01's rules. It says what differs, and fails if anything does. */
+ * document 01's rules. It says what differs, and fails if anything does. Right calls go through the functions
+ * over a whole gateway, calls with a wrong size through the library's own. */
 #include <stdio.h>
 #include <string.h>
 
 #include "ngachodui.h"
 
-static struct ngachodui_line lines[NGACHODUI_LINES];
-static struct ngachodui_counts counts;
-static uint8_t journal[NGACHODUI_JOURNAL_SIZE];
-static uint8_t unfinished[NGACHODUI_UNFINISHED_SIZE];
-static uint8_t frames[NGACHODUI_FRAMES_SIZE];
+static ngachodui_gateway gateway;
+static ngachodui_line *const lines = gateway.state.lines;
+static ngachodui_counts *const counts = &gateway.state.counts;
 static uint8_t buffer[NGACHODUI_TEXT_LIMIT];
 
 static unsigned checks, wrong;
@@ -32,25 +31,30 @@ static void check_number(unsigned is, unsigned must_be, const char *what)
     }
 }
 
-static struct ngachodui_answered byte_on(uint8_t line, uint8_t byte)
+static ngachodui_answered byte_on(uint8_t line, uint8_t byte)
 {
-    return ngachodui_byte(line, byte, lines, &counts, journal, sizeof journal, unfinished, sizeof unfinished, frames, sizeof frames);
+    return ngachodui_on_byte(&gateway, line, byte);
 }
 
-static struct ngachodui_answered seconds_on(uint8_t line, uint8_t seconds)
+static ngachodui_answered seconds_on(uint8_t line, uint8_t seconds)
 {
-    return ngachodui_seconds(line, seconds, lines, &counts, journal, sizeof journal, unfinished, sizeof unfinished, frames, sizeof frames);
+    return ngachodui_on_seconds(&gateway, line, seconds);
 }
 
-static struct ngachodui_answered take_from(uint8_t line, size_t buffer_length)
+static ngachodui_answered take_from(uint8_t line, size_t buffer_length)
 {
-    return ngachodui_take(line, lines, &counts, journal, sizeof journal, buffer, buffer_length);
+    return ngachodui_on_take(&gateway, line, buffer, buffer_length);
+}
+
+static void start(void)
+{
+    check(ngachodui_start(&gateway), "the library's layout");
 }
 
 /* Sends bytes; all but the last must be answered 0. */
-static struct ngachodui_answered send(uint8_t line, const uint8_t *bytes, size_t length, const char *what)
+static ngachodui_answered send(uint8_t line, const uint8_t *bytes, size_t length, const char *what)
 {
-    struct ngachodui_answered a = {0, 0, 0, 0};
+    ngachodui_answered a = {0};
     for (size_t i = 0; i < length; i++) {
         a = byte_on(line, bytes[i]);
         if (i + 1 < length)
@@ -66,12 +70,12 @@ static const uint8_t message[] = "H|\\^&\rL|1|N\r"; /* with the 0 of a C string 
 
 static void test_dialogue(void)
 {
-    ngachodui_fresh(lines, &counts);
+    start();
     check_number(lines[0].next, 1, "a fresh line's next number");
     check_number(lines[7].next, 1, "the last fresh line's next number");
-    check_number(counts.in_use, 0, "bytes in use at first");
+    check_number(counts->in_use, 0, "bytes in use at first");
 
-    struct ngachodui_answered a = byte_on(0, 0x05);
+    ngachodui_answered a = byte_on(0, 0x05);
     check_number(a.number, NGACHODUI_OPENED, "ENQ");
     check_number(a.reply, 0x06, "the reply to ENQ");
     check_number(lines[0].state, NGACHODUI_WAITING, "the state after ENQ");
@@ -89,8 +93,8 @@ static void test_dialogue(void)
     a = send(0, BYTES("\x02" "2L|1|N\r" "\x03" "05\r\n"), "the second frame");
     check_number(a.number, NGACHODUI_STORED, "the message");
     check_number(a.reply, 0x06, "the reply to the message");
-    check_number(counts.in_use, 16, "a stored message of 12 bytes");
-    check_number(counts.used[0], 16, "the line's used count");
+    check_number(counts->in_use, 16, "a stored message of 12 bytes");
+    check_number(counts->used[0], 16, "the line's used count");
     check_number(lines[0].serial, 1, "the next serial");
     a = byte_on(0, 0x04);
     check_number(a.number, NGACHODUI_ENDED, "EOT");
@@ -106,7 +110,7 @@ static void test_dialogue(void)
     check_number(a.serial, 0, "the serial taken");
     check(memcmp(buffer, MESSAGE) == 0, "the text taken");
     check_number(buffer[12], 0xaa, "the buffer's rest");
-    check_number(counts.in_use, 0, "bytes in use after the taking");
+    check_number(counts->in_use, 0, "bytes in use after the taking");
     a = take_from(0, sizeof buffer);
     check_number(a.number, NGACHODUI_NOTHING_WAITING, "a second taking");
 }
@@ -116,7 +120,7 @@ static void test_cut_and_sent(void)
 {
     uint8_t out[26 + 3];
     memset(out, 0xaa, sizeof out);
-    struct ngachodui_made m = ngachodui_cut(MESSAGE, out, 25);
+    ngachodui_made m = ngachodui_cut(MESSAGE, out, 25);
     check_number(m.number, NGACHODUI_NOT_FITTING, "25 bytes for 26");
     check_number((unsigned)m.length, 0, "the length with 47");
     check_number(out[0], 0xaa, "the output after 47");
@@ -128,7 +132,7 @@ static void test_cut_and_sent(void)
     check(memcmp(out, "\x02" "1H|\\^&\r" "\x03" "E5\r\n" "\x02" "2L|1|N\r" "\x03" "05\r\n", 26) == 0, "its frames");
     check_number(out[26], 0xaa, "the output's rest");
 
-    ngachodui_fresh(lines, &counts);
+    start();
     for (unsigned serial = 0; serial < 2; serial++) {
         check_number(byte_on(5, 0x05).number, NGACHODUI_OPENED, "ENQ on line 5");
         check_number(send(5, out, 13, "the first frame cut").number, NGACHODUI_ACCEPTED, "the first frame cut");
@@ -136,7 +140,7 @@ static void test_cut_and_sent(void)
         check_number(byte_on(5, 0x04).number, NGACHODUI_ENDED, "EOT on line 5");
     }
     for (unsigned serial = 0; serial < 2; serial++) {
-        struct ngachodui_answered a = take_from(5, sizeof buffer);
+        ngachodui_answered a = take_from(5, sizeof buffer);
         check_number(a.number, NGACHODUI_TAKEN, "a taking from line 5");
         check_number(a.serial, serial, "its serial");
         check_number((unsigned)a.length, 12, "its length");
@@ -145,7 +149,7 @@ static void test_cut_and_sent(void)
 
 static void test_seconds(void)
 {
-    ngachodui_fresh(lines, &counts);
+    start();
     check_number(seconds_on(3, 255).number, NGACHODUI_NOTHING, "seconds on a neutral line");
     check_number(byte_on(3, 0x05).number, NGACHODUI_OPENED, "ENQ on line 3");
     check_number(seconds_on(3, 29).number, NGACHODUI_NOTHING, "29 seconds");
@@ -154,36 +158,59 @@ static void test_seconds(void)
     check_number(lines[3].state, NGACHODUI_NEUTRAL, "the state after 30 seconds");
 }
 
+/* The layout, and each of the three memories lent one byte short: nothing is changed. */
+static void test_sizes(void)
+{
+    start();
+    const ngachodui_layout layout = ngachodui_sizes();
+    check_number(layout.version, NGACHODUI_VERSION, "the version");
+    check_number(layout.numbers, sizeof gateway.state.lines / (sizeof(uint16_t)), "the numbers of the lines");
+    check_number(layout.counts, sizeof gateway.state.counts / (sizeof(uint32_t)), "the counts");
+    check_number(layout.journal, sizeof gateway.journal, "the journal's size");
+    check_number(layout.unfinished, sizeof gateway.unfinished, "the size of unfinished text");
+    check_number(layout.frames, sizeof gateway.frames, "the size of the frames");
+
+    const ngachodui_state before = gateway.state;
+    for (int memory = 0; memory < 3; memory++) {
+        const size_t journal = sizeof gateway.journal - (memory == 0);
+        const size_t unfinished = sizeof gateway.unfinished - (memory == 1);
+        const size_t frames = sizeof gateway.frames - (memory == 2);
+        ngachodui_answered a = ngachodui_byte(0, 0x05, lines, counts, gateway.journal, journal, gateway.unfinished, unfinished, gateway.frames, frames);
+        check_number(a.number, NGACHODUI_WRONG_SIZE, "a byte, and a memory one byte short");
+        a = ngachodui_seconds(0, 1, lines, counts, gateway.journal, journal, gateway.unfinished, unfinished, gateway.frames, frames);
+        check_number(a.number, NGACHODUI_WRONG_SIZE, "seconds, and a memory one byte short");
+    }
+    ngachodui_answered a = ngachodui_take(0, lines, counts, gateway.journal, 1, buffer, sizeof buffer);
+    check_number(a.number, NGACHODUI_WRONG_SIZE, "a journal of 1 byte");
+    check(memcmp(&before, &gateway.state, sizeof before) == 0, "the state after 41");
+}
+
 static void test_refusals(void)
 {
-    ngachodui_fresh(lines, &counts);
-    struct ngachodui_line lines_before[NGACHODUI_LINES];
+    start();
+    ngachodui_line lines_before[NGACHODUI_LINES];
     check_number(byte_on(8, 0x05).number, NGACHODUI_NO_LINE, "line 8");
     check_number(seconds_on(8, 1).number, NGACHODUI_NO_LINE, "seconds on line 8");
     check_number(take_from(255, 0).number, NGACHODUI_NO_LINE, "a taking from line 255");
-    struct ngachodui_answered a = ngachodui_byte(0, 0x05, lines, &counts, journal, sizeof journal, unfinished, sizeof unfinished - 1, frames, sizeof frames);
-    check_number(a.number, NGACHODUI_WRONG_SIZE, "31,999 bytes for unfinished text");
-    a = ngachodui_take(0, lines, &counts, journal, 1, buffer, sizeof buffer);
-    check_number(a.number, NGACHODUI_WRONG_SIZE, "a journal of 1 byte");
 
     lines[1].state = 3;
-    memcpy(lines_before, lines, sizeof lines);
+    memcpy(lines_before, lines, sizeof lines_before);
     check_number(byte_on(1, 0x05).number, NGACHODUI_BEYOND_LIMITS, "a state of 3");
-    check(memcmp(lines_before, lines, sizeof lines) == 0, "the numbers after 42");
+    check(memcmp(lines_before, lines, sizeof lines_before) == 0, "the numbers after 42");
     check_number(byte_on(0, 0x05).number, NGACHODUI_OPENED, "another line beside it");
 
-    counts.in_use = 5;
+    counts->in_use = 5;
     check_number(take_from(0, sizeof buffer).number, NGACHODUI_BROKEN, "bytes in use that are no chain");
-    check_number(counts.in_use, 5, "the counts after 43");
+    check_number(counts->in_use, 5, "the counts after 43");
 
     /* the 246th byte behind STX is not LF */
-    ngachodui_fresh(lines, &counts);
+    start();
     check_number(byte_on(7, 0x05).number, NGACHODUI_OPENED, "ENQ on line 7");
     check_number(byte_on(7, 0x02).number, NGACHODUI_NOTHING, "STX");
     for (int i = 0; i < 245; i++)
         check_number(byte_on(7, 'x').number, NGACHODUI_NOTHING, "a collected byte");
     check_number(lines[7].collected, 245, "245 collected");
-    check_number(frames[7 * 246 + 244], 'x', "the last byte collected");
+    check_number(gateway.frames[7 * NGACHODUI_FRAME_PART + 244], 'x', "the last byte collected");
     check_number(byte_on(7, 'x').number, NGACHODUI_UNENDED, "the 246th byte");
     check_number(lines[7].collected, 0, "none collected");
 }
@@ -195,7 +222,7 @@ static void test_texts(void)
 
     uint8_t out[8];
     memset(out, 0xaa, sizeof out);
-    struct ngachodui_made m = ngachodui_escape(BYTES("a^b"), out, 4);
+    ngachodui_made m = ngachodui_escape(BYTES("a^b"), out, 4);
     check_number(m.number, NGACHODUI_NOT_FITTING, "4 bytes for 5");
     m = ngachodui_escape(BYTES("a^b"), out, sizeof out);
     check_number(m.number, 0, "an escaping");
@@ -213,8 +240,11 @@ static void test_texts(void)
     uint8_t types[7];
     uint16_t offsets[7], lengths[7], owners[7];
     memset(owners, 0xaa, sizeof owners);
-    m = ngachodui_read(results, sizeof results - 1, types, 7, offsets, 7, lengths, 5, owners, 7);
-    check_number(m.number, NGACHODUI_NOT_FITTING, "5 lengths for 6");
+    for (int memory = 0; memory < 4; memory++) {
+        const size_t slots[4] = { memory == 0 ? 5 : 7, memory == 1 ? 5 : 7, memory == 2 ? 5 : 7, memory == 3 ? 5 : 7 };
+        m = ngachodui_read(results, sizeof results - 1, types, slots[0], offsets, slots[1], lengths, slots[2], owners, slots[3]);
+        check_number(m.number, NGACHODUI_NOT_FITTING, "5 slots for 6");
+    }
     m = ngachodui_read(results, sizeof results - 1, types, 7, offsets, 7, lengths, 6, owners, 7);
     check_number(m.number, 0, "a reading");
     check_number((unsigned)m.length, 6, "its records");
@@ -231,6 +261,7 @@ int main(void)
     test_dialogue();
     test_cut_and_sent();
     test_seconds();
+    test_sizes();
     test_refusals();
     test_texts();
     printf("%u checks, %u wrong\n", checks, wrong);

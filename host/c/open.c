@@ -3,18 +3,14 @@
 
 #include <stdio.h>
 
-static ngachodui_state state;
-static uint8_t journal[NGACHODUI_JOURNAL_SIZE];
-static uint8_t unfinished[NGACHODUI_UNFINISHED_SIZE];
-static uint8_t frames[NGACHODUI_FRAMES_SIZE];
+static ngachodui_gateway gateway;
 
 int main(void)
 {
     const uint8_t line = 0, enq = 0x05;
-    ngachodui_fresh(state.lines, &state.counts);
-    ngachodui_answered answer =
-        ngachodui_byte(line, enq, state.lines, &state.counts, journal, sizeof journal,
-                       unfinished, sizeof unfinished, frames, sizeof frames);
+    if (!ngachodui_start(&gateway))
+        return 1; /* the library has another layout than the header */
+    ngachodui_answered answer = ngachodui_on_byte(&gateway, line, enq);
     printf("answer %u, reply %02X\n", answer.number, answer.reply);
     return answer.number == NGACHODUI_OPENED ? 0 : 1;
 }

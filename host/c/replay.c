@@ -4,18 +4,15 @@
  *
  * It is also the shortest whole host: where this program reads a line of a trace, another one reads
  * a port or a clock. A bad line ends the run and is no failure. Status 1: the trace could not be
- * read, or the listing not be written. */
+ * read, the listing not be written, or the library is of another version than this program. */
 #define _POSIX_C_SOURCE 200809L /* getline */
 #include "ngachodui.h"
 
 #include <stdio.h>
 #include <stdlib.h>
 
-/* A gateway is a state and three memories; the buffer is for what is taken. */
-static ngachodui_state state;
-static uint8_t journal[NGACHODUI_JOURNAL_SIZE];
-static uint8_t unfinished[NGACHODUI_UNFINISHED_SIZE];
-static uint8_t frames[NGACHODUI_FRAMES_SIZE];
+/* The buffer is for what is taken. */
+static ngachodui_gateway gateway;
 static uint8_t buffer[NGACHODUI_TEXT_LIMIT];
 
 struct event {
@@ -81,14 +78,11 @@ static ngachodui_answered answer_to(struct event event)
 {
     switch (event.kind) {
     case 'B':
-        return ngachodui_byte(event.line, (uint8_t)event.value, state.lines, &state.counts, journal,
-                              sizeof journal, unfinished, sizeof unfinished, frames, sizeof frames);
+        return ngachodui_on_byte(&gateway, event.line, (uint8_t)event.value);
     case 'S':
-        return ngachodui_seconds(event.line, (uint8_t)event.value, state.lines, &state.counts, journal,
-                                 sizeof journal, unfinished, sizeof unfinished, frames, sizeof frames);
+        return ngachodui_on_seconds(&gateway, event.line, (uint8_t)event.value);
     default:
-        return ngachodui_take(event.line, state.lines, &state.counts, journal, sizeof journal, buffer,
-                              event.value);
+        return ngachodui_on_take(&gateway, event.line, buffer, event.value);
     }
 }
 
@@ -111,7 +105,10 @@ int main(void)
     unsigned long long events = 0;
     bool bad = false;
 
-    ngachodui_fresh(state.lines, &state.counts);
+    if (!ngachodui_start(&gateway)) {
+        fprintf(stderr, "replay: the library has another layout than its header\n");
+        return 1;
+    }
     printf("event line answer reply\n");
     while (!bad && (n = getline(&text, &room, stdin)) >= 0) {
         if (text[n - 1] == '\n')

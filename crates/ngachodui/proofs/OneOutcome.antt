@@ -1,4 +1,4 @@
--- Any two outcomes that a contract of this crate allows are equal. That of `ngachodui_is_message` is one equation: memory's `one-value` says it.
+-- Any two outcomes that a contract of this crate allows are equal. Those of `ngachodui_is_message` and `ngachodui_sizes` are one equation each: memory's `one-value` says it.
 -- Assumes nothing.
 use mathlib.Core.Path.{_≡_, sym, _∙_}
 use mathlib.Core.List.{List}
@@ -26,7 +26,7 @@ pub take-once : (ns us : List ℕ) (i : ℕ) (j b : List ℕ) {r q : Answered} {
     → (r ≡ q) × (us₁ ≡ us₂) × (j₁ ≡ j₂) × (b₁ ≡ b₂)
 take-once ns us i j b x y = (x .result ∙ sym (y .result), x .used ∙ sym (y .used), x .journal ∙ sym (y .journal), x .buffer ∙ sym (y .buffer))
 
--- `ngachodui_fresh`
+-- `ngachodui_fresh_1`
 pub fresh-once : {ns₁ us₁ ns₂ us₂ : List ℕ} → Fresh ns₁ us₁ → Fresh ns₂ us₂ → (ns₁ ≡ ns₂) × (us₁ ≡ us₂)
 fresh-once a b = (a .numbers ∙ sym (b .numbers), a .used ∙ sym (b .used))
 

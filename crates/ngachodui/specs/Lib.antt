@@ -1,3 +1,4 @@
 pub mod Plain
+pub mod Layout
 pub mod Calls
 pub mod Texts

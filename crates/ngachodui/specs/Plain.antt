@@ -2,7 +2,7 @@
 -- Assumes nothing.
 use Prim.Native.Nat.{ℕ, zero, suc, _+_, _*_}
 use mathlib.Core.Bool.{Bool, cond, not, _&&_}
-use mathlib.Core.List.{List, [], _∷_}
+use mathlib.Core.List.{List, [], _∷_, _++_}
 use lib.ListN.{getD, set}
 use lib.Dec.{leb, eqb}
 use Rattle.memory.specs.Sizes.{lines, messageLimit}
@@ -32,12 +32,34 @@ fields = 8
 abbrev pub start : ℕ → ℕ
 start i = i * fields
 
--- the first number of line i, its state, and the number k places on: 1 collected, 2 joined, 3 seconds, 4 next, 5 last, 6 refusing, 7 serial
+-- the first number of line i, its state, and the number k places on
 abbrev pub firstAt : List ℕ → ℕ → ℕ
 firstAt ns i = getD ns (start i) 0
 
 abbrev pub numberAt : List ℕ → ℕ → ℕ → ℕ
 numberAt ns i k = getD ns (start i + k) 0
+
+-- how many places behind its state each of a line's numbers stands
+abbrev pub collectedAt : ℕ
+collectedAt = 1
+
+abbrev pub joinedAt : ℕ
+joinedAt = 2
+
+abbrev pub secondsAt : ℕ
+secondsAt = 3
+
+abbrev pub nextAt : ℕ
+nextAt = 4
+
+abbrev pub lastAt : ℕ
+lastAt = 5
+
+abbrev pub refusingAt : ℕ
+refusingAt = 6
+
+abbrev pub serialAt : ℕ
+serialAt = 7
 
 -- a state: 0 neutral, 1 waiting, 2 inside
 abbrev pub inside : ℕ
@@ -66,12 +88,12 @@ flag b = cond b 1 0
 -- a line's first seven numbers are those of a record within its limits; the eighth, a serial, may be any
 unfoldable pub withinNumbers : List ℕ → ℕ → Bool
 withinNumbers ns i =
-    leb (firstAt ns i) inside && (leb (numberAt ns i 1) mostCollected && (leb (numberAt ns i 2) messageLimit && (leb (numberAt ns i 3) mostSeconds
-    && (leb (numberAt ns i 4) mostNumber && (leb (numberAt ns i 5) (mostNumber + 1) && leb (numberAt ns i 6) 1)))))
+    leb (firstAt ns i) inside && (leb (numberAt ns i collectedAt) mostCollected && (leb (numberAt ns i joinedAt) messageLimit && (leb (numberAt ns i secondsAt) mostSeconds
+    && (leb (numberAt ns i nextAt) mostNumber && (leb (numberAt ns i lastAt) (mostNumber + 1) && leb (numberAt ns i refusingAt) 1)))))
 
 -- inside a frame that this byte does not end: it is only collected
 unfoldable pub onlyCollects : List ℕ → ℕ → ℕ → Bool
-onlyCollects ns i b = eqb (firstAt ns i) inside && (not (is lf b) && not (eqb (numberAt ns i 1) mostCollected))
+onlyCollects ns i b = eqb (firstAt ns i) inside && (not (is lf b) && not (eqb (numberAt ns i collectedAt) mostCollected))
 
 -- and nothing else stands against it: its line's numbers are within their limits
 abbrev pub quick : List ℕ → ℕ → ℕ → Bool
@@ -79,18 +101,18 @@ quick ns i b = onlyCollects ns i b && withinNumbers ns i
 
 -- then it has one more collected
 abbrev pub oneMore : List ℕ → ℕ → List ℕ
-oneMore ns i = set ns (start i + 1) (numberAt ns i 1 + 1)
+oneMore ns i = set ns (start i + collectedAt) (numberAt ns i collectedAt + 1)
 
 -- the record that they tell
 abbrev pub lineOf : List ℕ → ℕ → Line
 lineOf ns i = record {
   state = stateOf (firstAt ns i);
-  collected = numberAt ns i 1;
-  joined = numberAt ns i 2;
-  seconds = numberAt ns i 3;
-  next = numberAt ns i 4;
-  last = lastOf (numberAt ns i 5);
-  refusing = eqb (numberAt ns i 6) 1;
+  collected = numberAt ns i collectedAt;
+  joined = numberAt ns i joinedAt;
+  seconds = numberAt ns i secondsAt;
+  next = numberAt ns i nextAt;
+  last = lastOf (numberAt ns i lastAt);
+  refusing = eqb (numberAt ns i refusingAt) 1;
 }
 
 -- the numbers with another record of line i
@@ -98,24 +120,30 @@ unfoldable pub withLine : List ℕ → ℕ → Line → List ℕ
 withLine ns i l =
     set (set (set (set (set (set (set ns
     (start i) (stateNumber (l .state)))
-    (start i + 1) (l .collected))
-    (start i + 2) (l .joined))
-    (start i + 3) (l .seconds))
-    (start i + 4) (l .next))
-    (start i + 5) (lastNumber (l .last)))
-    (start i + 6) (flag (l .refusing))
+    (start i + collectedAt) (l .collected))
+    (start i + joinedAt) (l .joined))
+    (start i + secondsAt) (l .seconds))
+    (start i + nextAt) (l .next))
+    (start i + lastAt) (lastNumber (l .last)))
+    (start i + refusingAt) (flag (l .refusing))
 
--- the ledger: each line's used count and, behind them, the bytes in use; the serials stand with the lines
+-- n lines' used counts, the first that of line i; behind all of them stand the bytes in use
+abbrev pub usedFrom : List ℕ → ℕ → ℕ → List ℕ
+usedFrom us i zero = []
+usedFrom us i (suc n) = getD us i 0 ∷ usedFrom us (suc i) n
+
+-- and their serials, which stand with the lines
+abbrev pub serialsFrom : List ℕ → ℕ → ℕ → List ℕ
+serialsFrom ns i zero = []
+serialsFrom ns i (suc n) = numberAt ns i serialAt ∷ serialsFrom ns (suc i) n
+
+-- the ledger that they tell
 unfoldable pub ledgerOf : List ℕ → List ℕ → Ledger
-ledgerOf ns us = record {
-  in_use = getD us lines 0;
-  used = getD us 0 0 ∷ getD us 1 0 ∷ getD us 2 0 ∷ getD us 3 0 ∷ getD us 4 0 ∷ getD us 5 0 ∷ getD us 6 0 ∷ getD us 7 0 ∷ [];
-  serials = numberAt ns 0 7 ∷ numberAt ns 1 7 ∷ numberAt ns 2 7 ∷ numberAt ns 3 7 ∷ numberAt ns 4 7 ∷ numberAt ns 5 7 ∷ numberAt ns 6 7 ∷ numberAt ns 7 7 ∷ [];
-}
+ledgerOf ns us = record { in_use = getD us lines 0; used = usedFrom us 0 lines; serials = serialsFrom ns 0 lines }
 
 -- the numbers with what a ledger has of line i: no event and no taking changes what it has of another line
 abbrev pub withSerial : List ℕ → ℕ → Ledger → List ℕ
-withSerial ns i d = set ns (start i + 7) (getD (d .serials) i 0)
+withSerial ns i d = set ns (start i + serialAt) (getD (d .serials) i 0)
 
 abbrev pub withUsed : List ℕ → ℕ → Ledger → List ℕ
 withUsed us i d = set (set us i (getD (d .used) i 0)) lines (d .in_use)
@@ -127,18 +155,21 @@ replyByte (Byte b) = b
 
 -- the answer to an event carries no values
 unfoldable pub told : Answer → Answered
-told a = record { number = numberOf a; reply = replyByte (replyOf (numberOf a)); serial = 0; length = 0 }
+told a = record { number = numberOf a; reply = replyByte (replyOf (numberOf a)); serial = 0; place = 0; digits = 0; length = 0 }
 
 -- the answer to a taking: for 8 the text's length and the serial
 unfoldable pub toldTaking : Took → Answered
-toldTaking (Taken n serial) = record { number = 8; reply = 0; serial = serial; length = n }
+toldTaking (Taken n serial) = record { number = 8; reply = 0; serial = serial; place = 0; digits = 0; length = n }
 toldTaking NothingWaiting = told (tookAnswer NothingWaiting)
 toldTaking BufferShort = told (tookAnswer BufferShort)
 toldTaking BrokenJournal = told (tookAnswer BrokenJournal)
 toldTaking NoSuchLine = told (tookAnswer NoSuchLine)
 toldTaking WrongSize = told (tookAnswer WrongSize)
 
--- fresh lines: neutral, next number 1, and the next serial 0
+-- a fresh line: neutral, next number 1, and the next serial 0; and the numbers of so many
+abbrev pub freshLine : List ℕ
+freshLine = 0 ∷ 0 ∷ 0 ∷ 0 ∷ 1 ∷ 0 ∷ 0 ∷ 0 ∷ []
+
 abbrev pub freshNumbers : ℕ → List ℕ
 freshNumbers zero = []
-freshNumbers (suc n) = 0 ∷ 0 ∷ 0 ∷ 0 ∷ 1 ∷ 0 ∷ 0 ∷ 0 ∷ freshNumbers n
+freshNumbers (suc n) = freshLine ++ freshNumbers n

@@ -26,11 +26,11 @@ use Rattle.ngachodui.specs.declared.texts.Made.{Made}
 
 -- done, and so much written; document 01 has no number for it
 abbrev pub done : ℕ → Made
-done n = record { number = 0; length = n }
+done n = record { number = 0; spare = 0; place = 0; value = 0; length = n }
 
 -- refused with this answer's number, and nothing written
 abbrev pub refusedWith : Answer → Made
-refusedWith a = record { number = numberOf a; length = 0 }
+refusedWith a = record { number = numberOf a; spare = 0; place = 0; value = 0; length = 0 }
 
 unfoldable pub madeByCutting : Framed → Made
 madeByCutting (framed.Length n) = done n

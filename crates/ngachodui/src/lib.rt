@@ -1,4 +1,5 @@
-// The gateway for hosts in C and Rust. A host keeps the state in plain numbers in its own memory, and lends it to each call:
+// The gateway for hosts in C and Rust. A host keeps the state in plain numbers in its own memory, and lends it to each call
+// (include/ngachodui.h calls the numbers `lines` and the used counts `counts`):
 //   numbers  eight for each line: state (0 neutral, 1 waiting, 2 inside), collected, joined, seconds, next number,
 //            last number (0 for none, else one more than it), refusing (0 or 1), the serial of its next entry
 //   used     each line's used count, then how many bytes of the journal are in use
@@ -10,6 +11,7 @@ ghost use Rattle.looking.specs.Lent.{rightLengths};
 ghost use Rattle.looking.specs.declared.Kind.the-variants.{Byte, Seconds};
 ghost use Rattle.memory.specs.Sizes.{lines};
 ghost use Rattle.ngachodui.specs.Plain.{withinNumbers};
+ghost use Rattle.ngachodui.specs.Layout.{layout};
 ghost use Rattle.ngachodui.specs.Calls.{Calling, Stepping, Deciding, Taken, Fresh};
 use line::Answer;
 use line::Line;
@@ -20,12 +22,34 @@ use looking::Look;
 mod plain; // plain.rt: records, ledger and answers in plain numbers
 pub mod texts; // texts.rt: texts cut, read, escaped and unescaped
 
+// How many numbers and how many counts a host keeps.
+pub use plain::COUNTS;
+pub use plain::NUMBERS;
+
+// The version of the layout, which ends the name of `ngachodui_fresh_1` too: an object of another version finds no such function.
+const VERSION: u32 = 1;
+
+// The layout that the library was compiled for: its version, how many numbers and counts, and the sizes of the three memories.
+#[repr(C)]
+pub struct Layout {
+    pub version: u32,
+    pub numbers: u32,
+    pub counts: u32,
+    pub journal: u32,
+    pub unfinished: u32,
+    pub frames: u32,
+}
+
 // An answer: its number in document 01's table, the byte to send back (0 for none), and for 8 the serial and the text's length.
+// The place of a fault and the case of check digits are 0 in this version. With them no byte is left unnamed, so that an answer
+// is made in registers: bytes without a name are left out of stores, and a load over such a store waits for it.
 #[repr(C)]
 pub struct Answered {
     pub number: u8,
     pub reply: u8,
     pub serial: u16,
+    pub place: u16,
+    pub digits: u16,
     pub length: usize,
 }
 
@@ -188,20 +212,35 @@ pub extern "C" fn ngachodui_take(
 
 // Every line fresh, the journal empty: each next number is 1, and all other numbers are 0.
 #[no_mangle]
-pub extern "C" fn ngachodui_fresh(
+pub extern "C" fn ngachodui_fresh_1(
     numbers: &mut [u16; plain::NUMBERS],
     used: &mut [u32; plain::COUNTS],
 )
     ensures { λ _. ⌜ Fresh (now (numbers .exit)) (now (used .exit)) ⌝ }
 {
     *numbers = [0u16; plain::NUMBERS];
-    numbers[4] = 1;
-    numbers[12] = 1;
-    numbers[20] = 1;
-    numbers[28] = 1;
-    numbers[36] = 1;
-    numbers[44] = 1;
-    numbers[52] = 1;
-    numbers[60] = 1;
+    numbers[0 * plain::FIELDS + plain::NEXT] = 1;
+    numbers[1 * plain::FIELDS + plain::NEXT] = 1;
+    numbers[2 * plain::FIELDS + plain::NEXT] = 1;
+    numbers[3 * plain::FIELDS + plain::NEXT] = 1;
+    numbers[4 * plain::FIELDS + plain::NEXT] = 1;
+    numbers[5 * plain::FIELDS + plain::NEXT] = 1;
+    numbers[6 * plain::FIELDS + plain::NEXT] = 1;
+    numbers[7 * plain::FIELDS + plain::NEXT] = 1;
     *used = [0u32; plain::COUNTS];
+}
+
+// The layout, for a host to compare with its own.
+#[no_mangle]
+pub extern "C" fn ngachodui_sizes() -> Layout
+    ensures { λ r. ⌜ r ≡ layout ⌝ }
+{
+    Layout {
+        version: VERSION,
+        numbers: plain::NUMBERS as u32,
+        counts: plain::COUNTS as u32,
+        journal: memory::JOURNAL_SIZE as u32,
+        unfinished: memory::UNFINISHED_SIZE as u32,
+        frames: memory::FRAMES_SIZE as u32,
+    }
 }

@@ -7,7 +7,7 @@ ghost use Rattle.memory.specs.Sizes.{lines, framesSize};
 ghost use Rattle.line.specs.Line.{mostCollected};
 ghost use Rattle.looking.specs.Lent.{rightLengths};
 ghost use Rattle.looking.specs.Views.{frameStart};
-ghost use Rattle.ngachodui.specs.Plain.{numberAt, oneMore, quick, stateOf, stateNumber, lastOf, lastNumber, flag, withinNumbers, onlyCollects, lineOf, withLine, ledgerOf, withSerial, withUsed, replyByte, told as Plain·told, toldTaking};
+ghost use Rattle.ngachodui.specs.Plain.{numberAt, oneMore, quick, stateOf, stateNumber, lastOf, lastNumber, flag, withinNumbers, onlyCollects, lineOf, withLine, usedFrom, serialsFrom, ledgerOf, withSerial, withUsed, replyByte, told as Plain·told, toldTaking};
 use super::Answered;
 use characters::LF;
 use journal::Ledger;
@@ -19,7 +19,7 @@ use line::Reply;
 use line::State;
 
 // A line's numbers are so many; the first is its state, and the others stand so far behind it.
-const FIELDS: usize = 8;
+pub const FIELDS: usize = 8;
 
 const COLLECTED: usize = 1;
 
@@ -27,7 +27,7 @@ const JOINED: usize = 2;
 
 const SECONDS: usize = 3;
 
-const NEXT: usize = 4;
+pub const NEXT: usize = 4;
 
 const LAST: usize = 5;
 
@@ -222,27 +222,39 @@ pub fn ledger_of(numbers: &[u16; NUMBERS], used: &[u32; COUNTS]) -> Ledger
 {
     Ledger {
         in_use: wide(used[memory::LINES]),
-        used: [
-            used[0],
-            used[1],
-            used[2],
-            used[3],
-            used[4],
-            used[5],
-            used[6],
-            used[7],
-        ],
-        serials: [
-            numbers[7],
-            numbers[15],
-            numbers[23],
-            numbers[31],
-            numbers[39],
-            numbers[47],
-            numbers[55],
-            numbers[63],
-        ],
+        used: used_of(used),
+        serials: serials_of(numbers),
     }
+}
+
+fn used_of(used: &[u32; COUNTS]) -> [u32; memory::LINES]
+    ensures { λ r. ⌜ r ≡ usedFrom (now (used .entry)) 0 lines ⌝ }
+{
+    [
+        used[0],
+        used[1],
+        used[2],
+        used[3],
+        used[4],
+        used[5],
+        used[6],
+        used[7],
+    ]
+}
+
+fn serials_of(numbers: &[u16; NUMBERS]) -> [u16; memory::LINES]
+    ensures { λ r. ⌜ r ≡ serialsFrom (now (numbers .entry)) 0 lines ⌝ }
+{
+    [
+        numbers[0 * FIELDS + SERIAL],
+        numbers[1 * FIELDS + SERIAL],
+        numbers[2 * FIELDS + SERIAL],
+        numbers[3 * FIELDS + SERIAL],
+        numbers[4 * FIELDS + SERIAL],
+        numbers[5 * FIELDS + SERIAL],
+        numbers[6 * FIELDS + SERIAL],
+        numbers[7 * FIELDS + SERIAL],
+    ]
 }
 
 // Puts back what a ledger has of a line: its serial, and its used count with the bytes in use.
@@ -279,6 +291,8 @@ pub fn told(answer: Answer) -> Answered
         number: answer.number(),
         reply: reply_byte(answer.reply()),
         serial: 0,
+        place: 0,
+        digits: 0,
         length: 0,
     }
 }
@@ -292,6 +306,8 @@ pub fn told_taking(took: Took) -> Answered
             number: 8,
             reply: 0,
             serial,
+            place: 0,
+            digits: 0,
             length: n,
         },
         Took::NothingWaiting => told(Answer::NothingWaiting),

@@ -10,9 +10,13 @@ use line::Answer;
 use owner::Reading;
 
 // What became of a text: 0 and how much was written (bytes, or records that were read), or 46 or 47 and 0.
+// The other fields are 0 in this version: as in an answer, no byte is left unnamed.
 #[repr(C)]
 pub struct Made {
     pub number: u8,
+    pub spare: u8,
+    pub place: u16,
+    pub value: u32,
     pub length: usize,
 }
 
@@ -109,6 +113,9 @@ fn done(n: usize) -> Made
 {
     Made {
         number: 0,
+        spare: 0,
+        place: 0,
+        value: 0,
         length: n,
     }
 }
@@ -118,6 +125,9 @@ fn refused_with(answer: Answer) -> Made
 {
     Made {
         number: answer.number(),
+        spare: 0,
+        place: 0,
+        value: 0,
         length: 0,
     }
 }

@@ -1,7 +1,8 @@
 //! Both sides after an operation: every answer, every number, every byte.
 
 use crate::boundary::Answered;
-use crate::library::{last_number, state_number, Library, FIELDS, IN_USE};
+use crate::layout::{FIELDS, IN_USE};
+use crate::library::{last_number, state_number, Library};
 use ngachodui_model::world::{Op, World};
 use ngachodui_model::{reply, Answer, LINES};
 
@@ -33,6 +34,8 @@ pub fn answer_difference(model: Option<Answer>, library: Option<Answered>) -> Op
         number: answer.number,
         reply: reply(answer.number).unwrap_or(0),
         serial: answer.serial,
+        place: 0,
+        digits: 0,
         length: answer.length,
     });
     if expected == library {
@@ -65,7 +68,7 @@ pub fn state_difference(world: &World, library: &Library, op: Op) -> Option<Stri
             u32::from(world.model.ledger.serials[line]),
         ];
         for (field, name) in names.iter().enumerate() {
-            let found = u32::from(library.book.numbers[FIELDS * line + field]);
+            let found = u32::from(library.book.lines[FIELDS * line + field]);
             if expected[field] != found {
                 let what = format!("line {}, {}", line, name);
                 return Some(differs(&what, expected[field], found));
@@ -74,13 +77,13 @@ pub fn state_difference(world: &World, library: &Library, op: Op) -> Option<Stri
     }
     let ledger = &world.model.ledger;
     for line in 0..LINES {
-        let found = library.book.used[line] as usize;
+        let found = library.book.counts[line] as usize;
         if ledger.used[line] != found {
             let what = format!("used count of line {}", line);
             return Some(differs(&what, ledger.used[line], found));
         }
     }
-    let in_use = library.book.used[IN_USE] as usize;
+    let in_use = library.book.counts[IN_USE] as usize;
     if ledger.in_use != in_use {
         return Some(differs("bytes in use", ledger.in_use, in_use));
     }

@@ -1,24 +1,13 @@
 //! The library with memories of its own, driven by the model's operations.
 
-use crate::boundary::{self, Answered, Numbers, Used};
+use crate::boundary::{self, Answered, Counts, Lines};
 use crate::fenced::Fenced;
+use crate::layout::{
+    COLLECTED, COUNTS, FIELDS, IN_USE, JOINED, LAST, NEXT, NUMBERS, REFUSING, SECONDS, SERIAL,
+    STATE,
+};
 use ngachodui_model::lines::{Kind, State};
 use ngachodui_model::world::{Memory, Op, BLANK, SPARE};
-use ngachodui_model::LINES;
-
-/// How many numbers a line has, and where each stands.
-pub const FIELDS: usize = 8;
-pub const STATE: usize = 0;
-pub const COLLECTED: usize = 1;
-pub const JOINED: usize = 2;
-pub const SECONDS: usize = 3;
-pub const NEXT: usize = 4;
-pub const LAST: usize = 5;
-pub const REFUSING: usize = 6;
-pub const SERIAL: usize = 7;
-
-/// Where the bytes in use stand among the used counts.
-pub const IN_USE: usize = LINES;
 
 const FENCE: u8 = 0x5A;
 
@@ -27,9 +16,9 @@ const FENCE: u8 = 0x5A;
 #[derive(Clone)]
 pub struct Book {
     before: [u16; 4],
-    pub numbers: Numbers,
+    pub lines: Lines,
     between: [u32; 2],
-    pub used: Used,
+    pub counts: Counts,
     behind: [u32; 2],
 }
 
@@ -70,9 +59,9 @@ impl Library {
             // Whatever stood there, it is fresh afterwards.
             book: Book {
                 before: [0xF00D; 4],
-                numbers: [0xABCD; 64],
+                lines: [0xABCD; NUMBERS],
                 between: [0xF00D_F00D; 2],
-                used: [0xABCD_ABCD; 9],
+                counts: [0xABCD_ABCD; COUNTS],
                 behind: [0xF00D_F00D; 2],
             },
             journal: memory(Memory::Journal, front + 1),
@@ -91,7 +80,7 @@ impl Library {
             Op::Event { line, kind } => return Some(self.event(line, kind)),
             Op::Take { line, buffer } => return Some(self.take(line, buffer)),
             Op::Fresh => {
-                boundary::fresh(&mut self.book.numbers, &mut self.book.used);
+                boundary::fresh(&mut self.book.lines, &mut self.book.counts);
                 self.lent = [
                     Memory::Journal.size(),
                     Memory::Unfinished.size(),
@@ -105,8 +94,8 @@ impl Library {
             Op::Next { line, number } => *self.number(line, NEXT) = u16::from(number),
             Op::Last { line, number } => *self.number(line, LAST) = last_number(number),
             Op::Refusing { line, refusing } => *self.number(line, REFUSING) = u16::from(refusing),
-            Op::InUse { count } => self.book.used[IN_USE] = count,
-            Op::Used { line, count } => self.book.used[usize::from(line)] = count,
+            Op::InUse { count } => self.book.counts[IN_USE] = count,
+            Op::Used { line, count } => self.book.counts[usize::from(line)] = count,
             Op::Serial { line, serial } => *self.number(line, SERIAL) = serial,
             Op::Poke {
                 memory,
@@ -127,8 +116,8 @@ impl Library {
         call(
             line,
             value,
-            &mut self.book.numbers,
-            &mut self.book.used,
+            &mut self.book.lines,
+            &mut self.book.counts,
             &mut self.journal.inside_mut()[..journal],
             &mut self.unfinished.inside_mut()[..unfinished],
             &mut self.frames.inside_mut()[..frames],
@@ -140,16 +129,16 @@ impl Library {
         let lent = self.lent[Memory::Journal as usize];
         boundary::take(
             line,
-            &self.book.numbers,
-            &mut self.book.used,
+            &self.book.lines,
+            &mut self.book.counts,
             &mut self.journal.inside_mut()[..lent],
             self.buffer.inside_mut(),
         )
     }
 
-    /// One number of a line, 0 to 7.
+    /// One number of a line.
     pub fn number(&mut self, line: u8, field: usize) -> &mut u16 {
-        &mut self.book.numbers[FIELDS * usize::from(line) + field]
+        &mut self.book.lines[FIELDS * usize::from(line) + field]
     }
 
     pub fn memory(&mut self, memory: Memory) -> &mut Fenced<u8> {

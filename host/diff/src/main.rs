@@ -15,13 +15,16 @@ mod counts;
 mod edges;
 mod faults;
 mod fenced;
+#[path = "../../rust/src/layout.rs"]
+mod layout;
 mod library;
 mod texts;
 
 use compare::{answer_difference, state_difference};
 use counts::Counts;
 use faults::Fault;
-use library::{Library, LAST, NEXT, REFUSING, SECONDS, STATE};
+use layout::{LAST, NEXT, REFUSING, SECONDS, STATE};
+use library::Library;
 use ngachodui_model::lines::Kind;
 use ngachodui_model::traffic::random::Random;
 use ngachodui_model::traffic::{Mix, Traffic};
@@ -275,6 +278,7 @@ fn main() {
     if what == "--faults" {
         exit(if try_faults(seed) { 0 } else { 1 });
     }
+    assert_eq!(boundary::sizes(), boundary::own_sizes());
     let start = Instant::now();
     let limit = match what.strip_suffix('s') {
         Some(seconds) => Limit::Time(start + Duration::from_secs(number(seconds))),

@@ -6,6 +6,7 @@ use crate::compare::{byte_difference, differs};
 use crate::counts::Counts;
 use crate::faults::Fault;
 use crate::fenced::Fenced;
+use crate::layout::{CUT_LIMIT, RECORDS_LIMIT, TEXT_LIMIT};
 use ngachodui_model::records::Record;
 use ngachodui_model::traffic::random::Random;
 use ngachodui_model::traffic::Traffic;
@@ -134,9 +135,12 @@ fn a_length(needed: usize, random: &mut Random) -> usize {
 }
 
 fn made(outcome: Result<usize, u8>) -> Made {
-    match outcome {
-        Ok(length) => Made { number: 0, length },
-        Err(number) => Made { number, length: 0 },
+    Made {
+        number: outcome.err().unwrap_or(0),
+        spare: 0,
+        place: 0,
+        value: 0,
+        length: outcome.unwrap_or(0),
     }
 }
 
@@ -295,7 +299,7 @@ pub fn compare_most() -> Result<(), String> {
     let [offsets, lengths, owners] = &mut slots;
     let frames = boundary::cut(&text, &mut out);
     let records = boundary::read(&text, &mut [0; 1_000], offsets, lengths, owners);
-    let expected = (4_000, made(Ok(10_993)), made(Ok(999)));
+    let expected = (TEXT_LIMIT, made(Ok(CUT_LIMIT)), made(Ok(RECORDS_LIMIT)));
     let found = (text.len(), frames, records);
     if expected != found {
         return Err(differs("the largest message", expected, found));

@@ -5,7 +5,7 @@
 //! It is also a whole host: where this program reads a line of a trace, another one reads a port or a
 //! clock. A bad line ends the run and is no failure.
 
-use ngachodui::{Answer, Gateway, TEXT};
+use ngachodui::{Answer, Gateway, TEXT_LIMIT};
 use std::io::{stdin, stdout, BufRead, BufWriter, Result, Write};
 
 enum Event {
@@ -24,7 +24,7 @@ fn event(text: &[u8]) -> Option<(u8, Event)> {
     let event = match kind {
         b"B" => Event::Byte(hex(value)?),
         b"S" => Event::Seconds(decimal(value, 255)? as u8),
-        b"T" => Event::Taking(decimal(value, TEXT)?),
+        b"T" => Event::Taking(decimal(value, TEXT_LIMIT)?),
         _ => return None,
     };
     Some((line, event))
@@ -60,7 +60,7 @@ fn decimal(digits: &[u8], limit: usize) -> Option<usize> {
 
 fn main() -> Result<()> {
     let mut gateway = Gateway::fresh();
-    let mut buffer = [0; TEXT];
+    let mut buffer = [0; TEXT_LIMIT];
     let mut out = BufWriter::new(stdout().lock());
     let mut events: u64 = 0;
 

@@ -201,6 +201,8 @@ mod tests {
                 number,
                 reply,
                 serial: 7,
+                place: 0,
+                digits: 0,
                 length: 9,
             });
             assert_eq!(answer.number(), number);

@@ -3,12 +3,13 @@
 //! What the header asks of a host in C holds by the types here: references are never null, are
 //! valid for their lengths, and two `&mut` never overlap. All `unsafe` of the crate is in this file.
 
-/// Each line's numbers, eight for each line: state, collected, joined, seconds, next, last,
-/// refusing, serial.
-pub type Numbers = [u16; 64];
+use crate::layout::{self, COUNTS, NUMBERS};
+
+/// Each line's numbers, in the order of [`layout`].
+pub type Lines = [u16; NUMBERS];
 
 /// Each line's used count, then the bytes of the journal in use.
-pub type Used = [u32; 9];
+pub type Counts = [u32; COUNTS];
 
 /// `ngachodui_answered`.
 #[repr(C)]
@@ -17,6 +18,8 @@ pub struct Answered {
     pub number: u8,
     pub reply: u8,
     pub serial: u16,
+    pub place: u16,
+    pub digits: u16,
     pub length: usize,
 }
 
@@ -25,17 +28,34 @@ pub struct Answered {
 #[derive(Clone, Copy, PartialEq, Eq, Debug)]
 pub struct Made {
     pub number: u8,
+    pub spare: u8,
+    pub place: u16,
+    pub value: u32,
     pub length: usize,
+}
+
+/// `ngachodui_layout`.
+#[repr(C)]
+#[derive(Clone, Copy, PartialEq, Eq, Debug)]
+pub struct Layout {
+    pub version: u32,
+    pub numbers: u32,
+    pub counts: u32,
+    pub journal: u32,
+    pub unfinished: u32,
+    pub frames: u32,
 }
 
 #[link(name = "ngachodui", kind = "static")]
 extern "C" {
-    fn ngachodui_fresh(numbers: *mut u16, used: *mut u32);
+    fn ngachodui_sizes() -> Layout;
+    #[link_name = concat!("ngachodui_fresh_", layout::version!())]
+    fn ngachodui_fresh(lines: *mut u16, counts: *mut u32);
     fn ngachodui_byte(
         line: u8,
         byte: u8,
-        numbers: *mut u16,
-        used: *mut u32,
+        lines: *mut u16,
+        counts: *mut u32,
         journal: *mut u8,
         journal_length: usize,
         unfinished: *mut u8,
@@ -46,8 +66,8 @@ extern "C" {
     fn ngachodui_seconds(
         line: u8,
         seconds: u8,
-        numbers: *mut u16,
-        used: *mut u32,
+        lines: *mut u16,
+        counts: *mut u32,
         journal: *mut u8,
         journal_length: usize,
         unfinished: *mut u8,
@@ -57,8 +77,8 @@ extern "C" {
     ) -> Answered;
     fn ngachodui_take(
         line: u8,
-        numbers: *const u16,
-        used: *mut u32,
+        lines: *const u16,
+        counts: *mut u32,
         journal: *mut u8,
         journal_length: usize,
         buffer: *mut u8,
@@ -92,15 +112,32 @@ extern "C" {
     ) -> Made;
 }
 
-pub fn fresh(numbers: &mut Numbers, used: &mut Used) {
-    unsafe { ngachodui_fresh(numbers.as_mut_ptr(), used.as_mut_ptr()) }
+/// The layout that the library was compiled for.
+pub fn sizes() -> Layout {
+    unsafe { ngachodui_sizes() }
+}
+
+/// The layout that this program is compiled for.
+pub fn own_sizes() -> Layout {
+    Layout {
+        version: layout::VERSION,
+        numbers: NUMBERS as u32,
+        counts: COUNTS as u32,
+        journal: layout::JOURNAL_SIZE as u32,
+        unfinished: layout::UNFINISHED_SIZE as u32,
+        frames: layout::FRAMES_SIZE as u32,
+    }
+}
+
+pub fn fresh(lines: &mut Lines, counts: &mut Counts) {
+    unsafe { ngachodui_fresh(lines.as_mut_ptr(), counts.as_mut_ptr()) }
 }
 
 pub fn byte(
     line: u8,
     byte: u8,
-    numbers: &mut Numbers,
-    used: &mut Used,
+    lines: &mut Lines,
+    counts: &mut Counts,
     journal: &mut [u8],
     unfinished: &mut [u8],
     frames: &mut [u8],
@@ -109,8 +146,8 @@ pub fn byte(
         ngachodui_byte(
             line,
             byte,
-            numbers.as_mut_ptr(),
-            used.as_mut_ptr(),
+            lines.as_mut_ptr(),
+            counts.as_mut_ptr(),
             journal.as_mut_ptr(),
             journal.len(),
             unfinished.as_mut_ptr(),
@@ -124,8 +161,8 @@ pub fn byte(
 pub fn seconds(
     line: u8,
     seconds: u8,
-    numbers: &mut Numbers,
-    used: &mut Used,
+    lines: &mut Lines,
+    counts: &mut Counts,
     journal: &mut [u8],
     unfinished: &mut [u8],
     frames: &mut [u8],
@@ -134,8 +171,8 @@ pub fn seconds(
         ngachodui_seconds(
             line,
             seconds,
-            numbers.as_mut_ptr(),
-            used.as_mut_ptr(),
+            lines.as_mut_ptr(),
+            counts.as_mut_ptr(),
             journal.as_mut_ptr(),
             journal.len(),
             unfinished.as_mut_ptr(),
@@ -148,16 +185,16 @@ pub fn seconds(
 
 pub fn take(
     line: u8,
-    numbers: &Numbers,
-    used: &mut Used,
+    lines: &Lines,
+    counts: &mut Counts,
     journal: &mut [u8],
     buffer: &mut [u8],
 ) -> Answered {
     unsafe {
         ngachodui_take(
             line,
-            numbers.as_ptr(),
-            used.as_mut_ptr(),
+            lines.as_ptr(),
+            counts.as_mut_ptr(),
             journal.as_mut_ptr(),
             journal.len(),
             buffer.as_mut_ptr(),

@@ -1,7 +1,8 @@
 //! A gateway that owns its memories.
 
 use crate::answers::Answer;
-use crate::boundary::{self, Numbers, Used};
+use crate::boundary::{self, Counts, Lines};
+use crate::layout::{COUNTS, FRAMES_SIZE, JOURNAL_SIZE, LINES, NUMBERS, UNFINISHED_SIZE};
 
 /// Eight serial lines and one journal, with all the memory that they need.
 ///
@@ -24,7 +25,7 @@ use crate::boundary::{self, Numbers, Used};
 /// assert_eq!(answer, Answer::Stored);
 /// assert_eq!(answer.reply(), Some(0x06)); // ACK: from now on the copy here is the only one
 ///
-/// let mut buffer = [0; ngachodui::TEXT];
+/// let mut buffer = [0; ngachodui::TEXT_LIMIT];
 /// let answer = gateway.take(3, &mut buffer);
 /// assert_eq!(answer, Answer::Taken { length: 12, serial: 0 });
 /// assert_eq!(&buffer[..12], b"H|\\^&\rL|1|N\r");
@@ -36,24 +37,29 @@ pub struct Gateway {
 
 #[derive(Clone)]
 struct Memory {
-    numbers: Numbers,
-    used: Used,
-    journal: [u8; 32_768],
-    unfinished: [u8; 8 * 4_000],
-    frames: [u8; 8 * 246],
+    lines: Lines,
+    counts: Counts,
+    journal: [u8; JOURNAL_SIZE],
+    unfinished: [u8; UNFINISHED_SIZE],
+    frames: [u8; FRAMES_SIZE],
 }
 
 impl Gateway {
     /// Every line neutral, the journal empty, all serials 0.
+    ///
+    /// # Panics
+    ///
+    /// If the library was compiled for another layout than this crate.
     pub fn fresh() -> Gateway {
+        assert_eq!(boundary::sizes(), boundary::own_sizes());
         let mut memory = Box::new(Memory {
-            numbers: [0; 64],
-            used: [0; 9],
-            journal: [0; 32_768],
-            unfinished: [0; 8 * 4_000],
-            frames: [0; 8 * 246],
+            lines: [0; NUMBERS],
+            counts: [0; COUNTS],
+            journal: [0; JOURNAL_SIZE],
+            unfinished: [0; UNFINISHED_SIZE],
+            frames: [0; FRAMES_SIZE],
         });
-        boundary::fresh(&mut memory.numbers, &mut memory.used);
+        boundary::fresh(&mut memory.lines, &mut memory.counts);
         Gateway { memory }
     }
 
@@ -63,8 +69,8 @@ impl Gateway {
         Answer::of(boundary::byte(
             line,
             byte,
-            &mut memory.numbers,
-            &mut memory.used,
+            &mut memory.lines,
+            &mut memory.counts,
             &mut memory.journal,
             &mut memory.unfinished,
             &mut memory.frames,
@@ -78,8 +84,8 @@ impl Gateway {
         Answer::of(boundary::seconds(
             line,
             seconds,
-            &mut memory.numbers,
-            &mut memory.used,
+            &mut memory.lines,
+            &mut memory.counts,
             &mut memory.journal,
             &mut memory.unfinished,
             &mut memory.frames,
@@ -87,22 +93,22 @@ impl Gateway {
     }
 
     /// Takes a line's oldest message out of the journal and puts its text at the start of the buffer;
-    /// the buffer keeps its rest. One of [`TEXT`](crate::TEXT) bytes is never too short.
+    /// the buffer keeps its rest. One of [`TEXT_LIMIT`](crate::TEXT_LIMIT) bytes is never too short.
     pub fn take(&mut self, line: u8, buffer: &mut [u8]) -> Answer {
         let memory = &mut *self.memory;
         Answer::of(boundary::take(
             line,
-            &memory.numbers,
-            &mut memory.used,
+            &memory.lines,
+            &mut memory.counts,
             &mut memory.journal,
             buffer,
         ))
     }
 
     /// How many bytes of the journal a line's waiting messages use, 4 counted for each besides its
-    /// text; 0 for a line that there is not. Each line is sure of 2,048.
+    /// text; 0 for a line that there is not. Each line is sure of [`SHARE`](crate::SHARE).
     pub fn used(&self, line: u8) -> u32 {
-        let used = &self.memory.used[..8];
+        let used = &self.memory.counts[..LINES];
         used.get(usize::from(line)).copied().unwrap_or(0)
     }
 }

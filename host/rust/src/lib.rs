@@ -13,14 +13,11 @@ mod answers;
 #[allow(missing_docs)]
 mod boundary;
 mod gateway;
+#[allow(missing_docs)]
+mod layout;
 mod texts;
 
 pub use answers::{Answer, Refusal};
 pub use gateway::Gateway;
+pub use layout::{CUT_LIMIT, LINES, SHARE, TEXT_LIMIT, VERSION};
 pub use texts::{cut, escape, is_message, read, unescape, Record};
-
-/// The longest message, in bytes: a buffer of this length is never too short for a taking.
-pub const TEXT: usize = 4_000;
-
-/// The most bytes that the frames of a message can have: 4,000 of text in 999 frames.
-pub const CUT: usize = 10_993;

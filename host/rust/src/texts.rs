@@ -37,7 +37,7 @@ pub fn is_message(text: &[u8]) -> bool {
 }
 
 /// Cuts a message into the frames that send it and says how many bytes they are, at most
-/// [`CUT`](crate::CUT); the rest of `out` keeps its bytes.
+/// [`CUT_LIMIT`](crate::CUT_LIMIT); the rest of `out` keeps its bytes.
 ///
 /// ```
 /// let mut out = [0; 26];

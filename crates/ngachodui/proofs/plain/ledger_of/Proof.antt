@@ -7,28 +7,9 @@ use Rattle.ngachodui.proofs.plain.ledger_of.Tie as tie
 
 returns : tie.Need-returns
 unfolding ledgerOf
-returns c = let w = c .before .before .before .before .before .before .before .before .before .before .before .before .before .before .before .before .wide .ensures in (rw (w .0), w .1)
+returns c =
+    let in-use = c .before .before .wide .ensures in
+    (rw (in-use .0, c .before .used-of .ensures, c .serials-of .ensures), in-use .1)
 
 pub ledger-of-spec : {M : Type 1} → statement M
-ledger-of-spec =
-    tie.close
-    (tie.spec
-    (λ c. search needs)
-    (λ c κs. search needs)
-    (λ c. search needs)
-    (λ c. search needs)
-    (λ c. search needs)
-    (λ c. search needs)
-    (λ c. search needs)
-    (λ c. search needs)
-    (λ c. search needs)
-    (λ c. search needs)
-    (λ c. search needs)
-    (λ c. search needs)
-    (λ c. search needs)
-    (λ c. search needs)
-    (λ c. search needs)
-    (λ c. search needs)
-    (λ c. search needs)
-    (λ c. search needs)
-    returns)
+ledger-of-spec = tie.close (tie.spec (λ c. search needs) (λ c κs. search needs) (λ c κs. search needs) (λ c κs. search needs) returns)
