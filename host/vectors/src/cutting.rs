@@ -12,7 +12,7 @@
 
 use crate::boundary;
 use crate::frames::{check_digits, next_number, CR, ENQ, EOT, ETB, ETX, LF, STX};
-use crate::layout::{FRAMES, JOURNAL, NEXT, UNFINISHED};
+use crate::layout::{FRAMES_SIZE, JOURNAL_SIZE, NEXT, UNFINISHED_SIZE};
 use crate::library::Gateway;
 use crate::script::{decimal, each, hex, unknown, Said, Step};
 
@@ -32,7 +32,11 @@ struct Run {
 pub fn run(script: &str) -> Result<bool, String> {
     let memory = |size| vec![0; size].into();
     let mut run = Run {
-        gateway: Gateway::fresh(memory(JOURNAL), memory(UNFINISHED), memory(FRAMES)),
+        gateway: Gateway::fresh(
+            memory(JOURNAL_SIZE),
+            memory(UNFINISHED_SIZE),
+            memory(FRAMES_SIZE),
+        ),
         text: Vec::new(),
     };
     each(script, |said| match said {

@@ -1,7 +1,7 @@
 //! A gateway run by hand: each answer is shown with its line's record and the ledger before and
 //! after, and a digest of each memory.
 //!
-//!     = TITLE             a fresh gateway, memory of the right sizes, all bytes 0;   # TEXT   nothing
+//!     = TITLE             a fresh gateway, memory of the right sizes, all bytes 0;   # TEXT_LIMIT   nothing
 //!     B L HEX, A L N      bytes that come on line L; the byte 41 N times
 //!     S L N, T L N        N seconds on line L; a taking from it with a buffer of N bytes
 //!     C L NNN HEX         no event: the text that the digits spell (- spells none) is cut into a
@@ -25,7 +25,7 @@ use crate::script::{decimal, each, hex, unknown, Said, Step};
 const SPARE: usize = 1;
 
 /// The buffer of takings and cuttings.
-const BUFFER: usize = TEXT + 100;
+const BUFFER: usize = TEXT_LIMIT + 100;
 
 /// What the script's ledger can have, far over all that a journal has.
 const MOST: usize = 999_999;
@@ -66,7 +66,11 @@ fn memory(size: usize) -> Memory {
 impl Run {
     fn fresh() -> Run {
         Run {
-            gateway: Gateway::fresh(memory(JOURNAL), memory(UNFINISHED), memory(FRAMES)),
+            gateway: Gateway::fresh(
+                memory(JOURNAL_SIZE),
+                memory(UNFINISHED_SIZE),
+                memory(FRAMES_SIZE),
+            ),
             buffer: vec![0; BUFFER],
             quiet: 0,
         }
@@ -136,15 +140,15 @@ impl Run {
     fn set(&mut self, step: &Step) -> Result<(), String> {
         let gateway = &mut self.gateway;
         match step.letter {
-            'J' => gateway.journal.lent = step.plain_number(JOURNAL + SPARE)?,
-            'K' => gateway.unfinished.lent = step.plain_number(UNFINISHED + SPARE)?,
-            'L' => gateway.frames.lent = step.plain_number(FRAMES + SPARE)?,
+            'J' => gateway.journal.lent = step.plain_number(JOURNAL_SIZE + SPARE)?,
+            'K' => gateway.unfinished.lent = step.plain_number(UNFINISHED_SIZE + SPARE)?,
+            'L' => gateway.frames.lent = step.plain_number(FRAMES_SIZE + SPARE)?,
             'P' => {
-                let byte = &mut gateway.journal.bytes[step.number(JOURNAL)?];
+                let byte = &mut gateway.journal.bytes[step.number(JOURNAL_SIZE)?];
                 *byte = byte.wrapping_add(step.digit);
             }
-            'I' => gateway.used[IN_USE] = step.plain_number(MOST)? as u32,
-            'U' => gateway.used[step.line()?] = step.number(MOST)? as u32,
+            'I' => gateway.counts[IN_USE] = step.plain_number(MOST)? as u32,
+            'U' => gateway.counts[step.line()?] = step.number(MOST)? as u32,
             'l' => {
                 let (line, number) = (step.line()?, step.number(255)? as u8);
                 *gateway.number(line, STATE) = 1;

@@ -1,6 +1,6 @@
 //! The library with the memory that a host lends it.
 
-use crate::boundary::{self, Answered, Numbers, Used};
+use crate::boundary::{self, Answered, Counts, Lines};
 use crate::layout::{COUNTS, FIELDS, IN_USE, LINES, NUMBERS, SERIAL};
 
 /// A memory, of which the first bytes are lent.
@@ -24,8 +24,8 @@ impl From<Vec<u8>> for Memory {
 }
 
 pub struct Gateway {
-    pub numbers: Numbers,
-    pub used: Used,
+    pub lines: Lines,
+    pub counts: Counts,
     pub journal: Memory,
     pub unfinished: Memory,
     pub frames: Memory,
@@ -35,8 +35,8 @@ impl Gateway {
     pub fn fresh(journal: Memory, unfinished: Memory, frames: Memory) -> Gateway {
         let mut gateway = Gateway {
             // Whatever stood there, it is fresh afterwards.
-            numbers: [0xABCD; NUMBERS],
-            used: [0xABCD_ABCD; COUNTS],
+            lines: [0xABCD; NUMBERS],
+            counts: [0xABCD_ABCD; COUNTS],
             journal,
             unfinished,
             frames,
@@ -47,15 +47,15 @@ impl Gateway {
 
     /// Fresh again; the memories keep what they hold.
     pub fn renew(&mut self) {
-        boundary::fresh(&mut self.numbers, &mut self.used);
+        boundary::fresh(&mut self.lines, &mut self.counts);
     }
 
     pub fn byte(&mut self, line: u8, byte: u8) -> Answered {
         boundary::byte(
             line,
             byte,
-            &mut self.numbers,
-            &mut self.used,
+            &mut self.lines,
+            &mut self.counts,
             self.journal.lend(),
             self.unfinished.lend(),
             self.frames.lend(),
@@ -66,8 +66,8 @@ impl Gateway {
         boundary::seconds(
             line,
             seconds,
-            &mut self.numbers,
-            &mut self.used,
+            &mut self.lines,
+            &mut self.counts,
             self.journal.lend(),
             self.unfinished.lend(),
             self.frames.lend(),
@@ -77,8 +77,8 @@ impl Gateway {
     pub fn take(&mut self, line: u8, buffer: &mut [u8]) -> Answered {
         boundary::take(
             line,
-            &self.numbers,
-            &mut self.used,
+            &self.lines,
+            &mut self.counts,
             self.journal.lend(),
             buffer,
         )
@@ -86,20 +86,20 @@ impl Gateway {
 
     /// A line's numbers: its record, and its next serial as the last.
     pub fn line(&self, line: usize) -> &[u16] {
-        &self.numbers[FIELDS * line..][..FIELDS]
+        &self.lines[FIELDS * line..][..FIELDS]
     }
 
     pub fn number(&mut self, line: usize, field: usize) -> &mut u16 {
-        &mut self.numbers[FIELDS * line + field]
+        &mut self.lines[FIELDS * line + field]
     }
 
     /// The used count and the next serial of a line, where it is one of the eight.
     pub fn count(&self, line: u8) -> Option<(u32, u16)> {
         let line = usize::from(line);
-        (line < LINES).then(|| (self.used[line], self.line(line)[SERIAL]))
+        (line < LINES).then(|| (self.counts[line], self.line(line)[SERIAL]))
     }
 
     pub fn in_use(&self) -> u32 {
-        self.used[IN_USE]
+        self.counts[IN_USE]
     }
 }

@@ -14,6 +14,7 @@ mod boundary;
 mod cutting;
 mod frames;
 mod gateway;
+#[path = "../../rust/src/layout.rs"]
 mod layout;
 mod library;
 mod script;

@@ -47,7 +47,7 @@ pub fn states(was: &Gateway, is: &Gateway) -> bool {
             .map(|line| gateway.line(line)[SERIAL])
             .collect::<Vec<_>>()
     };
-    if was.used != is.used || serials(was) != serials(is) {
+    if was.counts != is.counts || serials(was) != serials(is) {
         parts.push("ledger differs".to_string());
     }
     for (name, was, is) in [

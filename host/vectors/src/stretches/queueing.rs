@@ -4,14 +4,14 @@ use super::items::Item;
 use super::MOST;
 use crate::boundary;
 use crate::frames::{frame, next_number, AROUND_TEXT, CR, ENQ, ETB, ETX};
-use crate::layout::{LINES, TEXT};
+use crate::layout::{LINES, TEXT_LIMIT};
 use crate::script::{decimal, hex, needed, nothing, unknown};
 
 /// The most bytes that a taking lends: more than any message has.
 const MOST_LENT: usize = 4_096;
 
 /// Room for the frames of the longest message, which has two records.
-const ROOM: usize = TEXT + 200;
+const ROOM: usize = TEXT_LIMIT + 200;
 
 /// What a step puts on a line.
 pub enum Queued {
@@ -50,7 +50,7 @@ impl Queued {
                 text: vec![b'A'; number(MOST)?],
                 end: ETB,
             },
-            'M' => Queued::Message(number(TEXT)?),
+            'M' => Queued::Message(number(TEXT_LIMIT)?),
             'T' => Queued::Taking(number(MOST_LENT)?),
             _ => return unknown(letter),
         })

@@ -3,7 +3,7 @@
 
 use super::items::Item;
 use crate::boundary::Answered;
-use crate::layout::{FRAMES, JOURNAL, UNFINISHED};
+use crate::layout::{FRAMES_SIZE, JOURNAL_SIZE, UNFINISHED_SIZE};
 use crate::library::Gateway;
 
 /// The answer to an item, and the buffer of a taking, whole.
@@ -28,7 +28,11 @@ fn filled(size: usize) -> Vec<u8> {
 /// The outcomes of the items that the order has, in its order, and what they leave.
 pub fn run(trace: &[Item], order: &[usize]) -> (Vec<Outcome>, Gateway) {
     let memory = |size| filled(size).into();
-    let mut gateway = Gateway::fresh(memory(JOURNAL), memory(UNFINISHED), memory(FRAMES));
+    let mut gateway = Gateway::fresh(
+        memory(JOURNAL_SIZE),
+        memory(UNFINISHED_SIZE),
+        memory(FRAMES_SIZE),
+    );
     let outcomes = order
         .iter()
         .map(|&k| step(&mut gateway, trace[k]))

@@ -126,7 +126,7 @@ pub fn tell(trace: &[Item], telling: Telling, totals: &mut Totals) {
     let (outcomes, gateway) = run(trace, &as_it_is);
     let order = telling.order(trace, &outcomes);
     let counts = show_sizes(trace, telling, &outcomes, &order);
-    let used: Vec<String> = gateway.used[..LINES].iter().map(u32::to_string).collect();
+    let used: Vec<String> = gateway.counts[..LINES].iter().map(u32::to_string).collect();
     println!("  in use {}, used {}", gateway.in_use(), used.join(" "));
 
     let (again, end) = run(trace, &order);
