@@ -19,8 +19,8 @@ use Rattle.gateway.specs.Events.{lineAt, putBack, freshGateway, eventOf}
 use Rattle.looking.specs.declared.Event.{Event}
 use Rattle.gateway.specs.declared.Gateway.{Gateway}
 use Rattle.looking.specs.declared.Verdict.{Verdict}
-use Rattle.looking.specs.declared.Verdict.the-variants.{Left, Opens, Closes, Begins, Counts, Collects, Refuses, Accepts, Stores, Against}
 use Rattle.gateway_laws.specs.Classes.{Class, quiet, opening, closing, refusing, accepting, storing, against, taking as gives, classOf, verdictClass}
+use Rattle.gateway_laws.proofs.Rows.{Of, of-class}
 use Rattle.gateway_laws.proofs.Proper.{verdict-proper}
 use Rattle.serial.specs.Serial.{event, taking, annotate, final, Every}
 use Rattle.promises.specs.Machine.{State, Told, GatewayItem, onLine, step, Sound, May}
@@ -47,17 +47,14 @@ abbrev isNone : List ℕ → Bool
 isNone [] = true
 isNone (v ∷ vs) = false
 
-never-gives : (v : Verdict) → isGiving (verdictClass v) ≡ false
-never-gives (Left a) = refl
-never-gives Opens = refl
-never-gives (Closes a) = refl
-never-gives Begins = refl
-never-gives (Counts n) = refl
-never-gives Collects = refl
-never-gives (Refuses a) = refl
-never-gives (Accepts n) = refl
-never-gives (Stores n) = refl
-never-gives (Against a n) = refl
+never-gives : (c : Class) (v : Verdict) → Of c v → isGiving c ≡ false
+never-gives quiet v o = refl
+never-gives opening v o = refl
+never-gives closing v o = refl
+never-gives refusing v o = refl
+never-gives accepting v o = refl
+never-gives storing v o = refl
+never-gives against v o = refl
 
 -- and but for 8 no answer carries values
 abbrev isPlain : Answer → Bool
@@ -84,7 +81,7 @@ event-gives g e m = by-line (ltb (e .line) lines)
     by-line : (b : Bool) → isGiving (classOf (unless b (record { handled = record { gateway = g; answer = NoLine }; memory = m }) (putBack g (e .line) (stepOf todaysShares (lineAt g (e .line)) (g .ledger) e m)) .handled .answer)) ≡ false
     by-line true =
         let v = verdictOf todaysShares (lineAt g (e .line)) (g .ledger) e (m .journal) (m .unfinished) (m .frames) in
-        ap isGiving (verdict-proper todaysShares (lineAt g (e .line)) (g .ledger) e (m .journal) (m .unfinished) (m .frames)) ∙ never-gives v
+        ap isGiving (verdict-proper todaysShares (lineAt g (e .line)) (g .ledger) e (m .journal) (m .unfinished) (m .frames)) ∙ never-gives (verdictClass v) v (of-class v)
     by-line false = refl
 
 -- one call

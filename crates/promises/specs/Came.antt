@@ -1,4 +1,4 @@
--- What an event comes to. Every statement about one event is shown from this, so that an event of a new kind has to be shown this of, and nothing more.
+-- What an event comes to. The statements about one event are shown from this alone, so for an event of a new kind this is what has to be shown.
 -- Assumes nothing.
 use Prim.Native.Nat.{ℕ}
 use mathlib.Core.Path.{_≡_}
