@@ -3,29 +3,42 @@
 use mathlib.Core.Path.{_≡_, refl, sym, ap, _∙_}
 use mathlib.Core.Bool.{Bool, true, false, cond}
 use mathlib.Core.List.{List, [], _∷_}
-use Prim.Native.Nat.{ℕ, zero, suc, _+_, _-_, _≤_, _<_}
+use Prim.Native.Nat.{ℕ, zero, suc, _+_, _-_, _≤_, _<_, min}
 use native.Mathlib.Omega.{arith}
-use native.Mathlib.Numerals.{add-one}
-use borrow.Author.Tests.{lt-leb, eq-eqb, ne-eqb}
+use native.Mathlib.Numerals.{add-one, unary-clauses}
+use borrow.Author.Tests.{lt-leb, eq-eqb, ne-eqb, eqb-true, ltb-true, ltb-false}
 use lib.ListN.{length, getD, take, drop, length-drop, length-take}
-use lib.Seq.{drop-drop, drop-cons}
-use Rattle.memory.specs.Tests.{is}
+use lib.Dec.{ltb}
+use lib.Seq.{drop-drop, drop-cons, getD-drop}
+use Rattle.memory.specs.Tests.{is, find}
 use Rattle.characters.specs.Control.{cr}
 use Rattle.frame.specs.Shape.{aroundText}
+use Rattle.records.specs.Records.{endsWithCr}
 use Rattle.records.proofs.Scans.{tailAt, rest-part}
 use Rattle.cutting.specs.Pieces.{Piece, piece, onto, pieceSize, piecesFrom, piecesOf, endAfter, throughCr}
 
--- at most one byte is passed whole, CR or not
-through-short : (s : List ℕ) → length s ≤ 1 → throughCr s ≡ length s
-through-short [] h = refl
-through-short (b ∷ []) h = by-first (is cr b)
-  where
-    by-first : (a : Bool) → _≡_ {A = ℕ} (cond a 1 1) 1
-    by-first true = refl
-    by-first false = refl
-through-short (b ∷ c ∷ s) h = absurd (omega arith)
+-- a text that ends with CR has a byte, and one that is not CR has another behind it
+pub ended-some : (text : List ℕ) → endsWithCr text ≡ true → 0 < length text
+ended-some [] e = let z : _≡_ {A = ℕ} 0 1 = cc in absurd (omega arith)
+ended-some (b ∷ bs) e = omega arith
 
--- the scan for a CR that stands at n: it stops here, goes on, or has at most one byte of the piece before it
+pub ended-next : (text : List ℕ) (n : ℕ) → endsWithCr text ≡ true → n < length text → (getD text n 0 ≡ cr → ⊥) → n + 1 < length text
+ended-next text n e h other = by-place (ltb (n + 1) (length text)) refl
+  where
+    by-place : (a : Bool) → ltb (n + 1) (length text) ≡ a → n + 1 < length text
+    by-place true p = ltb-true (n + 1) (length text) p
+    by-place false p =
+        let q : length text ≤ n + 1 = ltb-false (n + 1) (length text) p in
+        let last : n ≡ length text - 1 = omega arith in
+        absurd (other (ap (λ (i : ℕ). getD text i 0) last ∙ eqb-true (getD text (length text - 1) 0) cr e))
+
+-- its part from a place on ends with CR too
+pub ended-tail : (text : List ℕ) (at : ℕ) → endsWithCr text ≡ true → at < length text → endsWithCr (tailAt text at) ≡ true
+ended-tail text at e h =
+    let last : at + (length text - at - 1) ≡ length text - 1 = omega arith in
+    rw (rest-part text at, length-drop at text, getD-drop at text (length text - at - 1) 0, last) e
+
+-- the scan for a CR that stands at n: it stops here, goes on, or has passed a whole piece
 module _ (text : List ℕ) (size n : ℕ) where
   through-here : n < size → n < length text
       → throughCr (take (size - n) (drop n text)) ≡ cond (is cr (getD text n 0)) 1 (suc (throughCr (take (size - (n + 1)) (drop (n + 1) text))))
@@ -38,8 +51,33 @@ module _ (text : List ℕ) (size n : ℕ) where
       → n + 1 + throughCr (take (size - (n + 1)) (drop (n + 1) text)) ≡ r
   through-next h k t e = let z = rw (ne-eqb (getD text n 0) cr t) at (through-here h k) in omega arith
 
-  pub through-last : {r : ℕ} → length (take (size - n) (drop n text)) ≤ 1 → n + throughCr (take (size - n) (drop n text)) ≡ r → n + length (take (size - n) (drop n text)) ≡ r
-  through-last h e = omega (arith, through-short (take (size - n) (drop n text)) h)
+  pub through-all : {r : ℕ} → size ≡ n → n + throughCr (take (size - n) (drop n text)) ≡ r → n ≡ r
+  through-all h e = let none : size - n ≡ 0 = omega arith in let z = rw none at e in omega arith
+
+-- the same by the first CR's index
+pub through-none : (s : List ℕ) → find (is cr) s ≡ length s → throughCr s ≡ find (is cr) s
+through-none [] e = refl
+through-none (b ∷ s) e = by-first (is cr b) e (through-none s)
+  where
+    by-first : (a : Bool) → cond a 0 (suc (find (is cr) s)) ≡ suc (length s) → (find (is cr) s ≡ length s → throughCr s ≡ find (is cr) s)
+        → cond a 1 (suc (throughCr s)) ≡ cond a 0 (suc (find (is cr) s))
+    by-first true e g = absurd (omega arith)
+    by-first false e g = ap suc (g (omega arith))
+
+pub through-found : (s : List ℕ) → (find (is cr) s ≡ length s → ⊥) → throughCr s ≡ find (is cr) s + 1
+through-found [] e = absurd (e refl)
+through-found (b ∷ s) e = by-first (is cr b) e (through-found s)
+  where
+    by-first : (a : Bool) → (cond a 0 (suc (find (is cr) s)) ≡ suc (length s) → ⊥) → ((find (is cr) s ≡ length s → ⊥) → throughCr s ≡ find (is cr) s + 1)
+        → cond a 1 (suc (throughCr s)) ≡ cond a 0 (suc (find (is cr) s)) + 1
+    by-first true e g = omega arith
+    by-first false e g = let z = g (λ q. e (ap suc q)) in omega arith
+
+-- the first `size` bytes, where there may be fewer
+pub take-most : (size : ℕ) (s : List ℕ) → take (min size (length s)) s ≡ take size s
+take-most zero s = simp unary-clauses
+take-most (suc size) [] = simp unary-clauses
+take-most (suc size) (b ∷ s) = simp unary-clauses (ap (λ (t : List ℕ). b ∷ t) (take-most size s))
 
 through-most : (s : List ℕ) → throughCr s ≤ length s
 through-most [] = omega arith

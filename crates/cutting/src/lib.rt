@@ -4,7 +4,7 @@ ghost use lib.ListN.{take};
 ghost use Rattle.cutting.specs.Pieces.{pieceSize, throughCr};
 ghost use Rattle.cutting.specs.Frames.{CutInto};
 
-mod pieces; // pieces.rt: how long pieces may be, and how long the frames are
+mod pieces; // pieces.rt: where pieces end, and how long the frames are
 mod writing; // writing.rt: the frames in lent memory
 
 // The frames' length, or why there are none.
@@ -14,24 +14,16 @@ pub enum Framed {
     NotFitting,
 }
 
-// The length of a text's first piece: through the first CR, or as many bytes as a frame within the limit holds.
-// Its last byte need not be looked at, as it ends the piece whether it is CR or not; the others are looked at in pairs.
+// The length of a text's first piece: through its first CR, or as many bytes as a frame within the limit holds.
 pub fn first_piece(limit: usize, text: &[u8]) -> usize
     ensures { λ r. ⌜ r ≡ throughCr (take (pieceSize limit) (now (text .entry))) ⌝ }
 {
     let most = pieces::most_within(limit, text.len());
-    let mut n: usize = 0;
-    while n + 1 < most {
-        if text[n] == records::CR {
-            return n + 1;
-        }
-        n += 1;
-        if text[n] == records::CR {
-            return n + 1;
-        }
-        n += 1;
+    let n = records::index_of(&text[..most], records::CR);
+    if n == most {
+        return n;
     }
-    most
+    n + 1
 }
 
 // Writes the frames of a message over the start of out. All is measured first, so that a refusal writes nothing.

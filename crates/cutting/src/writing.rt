@@ -1,11 +1,13 @@
 // The frames of a text in lent memory.
 ghost use mathlib.Core.Path.{_≡_};
+ghost use mathlib.Core.Bool.{true};
 ghost use Prim.Native.Nat.{_+_, _-_, _<_, _≤_};
 ghost use lib.ListN.{length, getD, take};
 ghost use Rattle.memory.specs.Parts.{splice};
 ghost use Rattle.digits.specs.Number.{mostNumber};
 ghost use Rattle.frame.specs.Shape.{aroundText};
 ghost use Rattle.frame.specs.Writing.{frameOf};
+ghost use Rattle.records.specs.Records.{endsWithCr};
 ghost use Rattle.cutting.specs.Pieces.{endAfter};
 ghost use Rattle.cutting.specs.Frames.{cutOf};
 use frame::End;
@@ -34,7 +36,7 @@ fn write_piece(number: u8, text: &[u8], n: usize, out: &mut [u8], done: usize)
 
 // All frames of a text, over the start of out.
 pub fn write_all(limit: usize, text: &[u8], out: &mut [u8])
-    requires { ⌜ (aroundText < limit) × (length (cutOf limit (now text)) ≤ length (now out)) ⌝ }
+    requires { ⌜ (aroundText < limit) × (length (cutOf limit (now text)) ≤ length (now out)) × (endsWithCr (now text) ≡ true) ⌝ }
     ensures { λ _. ⌜ now (out .exit) ≡ splice (now (out .entry)) 0 (cutOf limit (now (text .entry))) ⌝ }
 {
     let mut at: usize = 0;
@@ -42,7 +44,7 @@ pub fn write_all(limit: usize, text: &[u8], out: &mut [u8])
     let mut number: u8 = FIRST_NUMBER;
     while at < text.len() {
         let tail = &text[at..];
-        let n = crate::first_piece(limit, tail);
+        let n = crate::pieces::piece_length(limit, tail);
         write_piece(number, tail, n, out, done);
         done = done + (n + frame::AROUND_TEXT);
         at = at + n;

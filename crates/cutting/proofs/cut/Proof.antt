@@ -9,7 +9,7 @@ use denote.Ref.{now}
 use lib.ListN.{length}
 use Rattle.kinds.specs.Delimiters.{standard}
 use Rattle.faults.specs.Faults.{isMessage}
-use Rattle.faults.proofs.Messages.{message-short}
+use Rattle.faults.proofs.Messages.{message-short, message-ends}
 use Rattle.cutting.specs.Frames.{isCuttable, cutOf}
 use Rattle.cutting.proofs.Written.{no-message, no-room, cut-written, limit-small, by-message}
 use Rattle.cutting.proofs.Laws.{cut-long}
@@ -46,7 +46,9 @@ cuttable : (c : tie.Else2) → let a = start (c .before) .args in isCuttable (a 
 cuttable c = let a = start (c .before) .args in by-message (a .limit) (now (a .text)) (omega arith) (a-message c)
 
 measure-requires : tie.Need-measure-requires
-measure-requires c κs = (omega arith, message-short standard (now (start (c .before) .args .text)) (a-message c))
+measure-requires c κs =
+    let text = now (start (c .before) .args .text) in
+    (omega arith, message-short standard text (a-message c), message-ends standard text (a-message c))
 
 -- what was measured is the length of the frames
 measured : (c : tie.After-measure) → c .measure .result ≡ length (cutOf (entry c .args .limit) (now (entry c .args .text)))
@@ -60,7 +62,10 @@ returns-3 c =
     no-room (a .limit) (now (a .text)) (now (a .out)) (cuttable (passed m)) (omega arith)
 
 write-all-requires : tie.Need-write-all-requires
-write-all-requires c κs = let long = measured (c .before .before) in (omega arith, omega arith)
+write-all-requires c κs =
+    let m = c .before .before in
+    let long = measured m in
+    (omega arith, omega arith, message-ends standard (now (entry m .args .text)) (a-message (passed m)))
 
 returns-4 : tie.Need-returns-4
 returns-4 c =

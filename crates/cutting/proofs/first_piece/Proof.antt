@@ -1,106 +1,61 @@
--- `cutting::first_piece` meets its contract: the bytes from n on decide, and at most the last of them is not looked at.
+-- `cutting::first_piece` meets its contract: among the bytes that a frame holds, the first CR decides.
 -- Assumes nothing.
-use mathlib.Core.Path.{_≡_, sym, _∙_}
-use mathlib.Core.List.{List}
-use Prim.Native.Nat.{ℕ, _+_, _-_, _≤_, _<_, min}
-use native.Mathlib.Nat.{zero-add}
+use mathlib.Core.Path.{_≡_, sym, ap, _∙_}
+use Prim.Native.Nat.{ℕ, _+_, _≤_}
 use native.Mathlib.Omega.{arith}
 use borrow.Author.Needs.{needs}
 use denote.Ref.{now}
-use lib.ListN.{length, take, drop, length-take, length-drop}
+use lib.ListN.{length, take}
+use lib.Seq.{length-take-le}
+use Rattle.memory.specs.Tests.{is, find}
+use Rattle.memory.proofs.Tests.{find-le}
+use Rattle.characters.specs.Control.{cr}
 use Rattle.cutting.specs.Pieces.{pieceSize, throughCr}
-use Rattle.cutting.proofs.Steps.{through-stop, through-next, through-last}
+use Rattle.cutting.proofs.Steps.{through-none, through-found, take-most}
 use Rattle.cutting.proofs.first_piece.Statement.{statement}
 use Rattle.cutting.proofs.first_piece.Tie as tie
 
--- before a turn: what is left of the piece, from n on, decides
-record Scanning (limit : ℕ) (text : List ℕ) (most n : ℕ) : Type 0 where
-  most-is : most ≡ min (pieceSize limit) (length text)
-  n-within : n ≤ most
-  goes-on : n + throughCr (take (pieceSize limit - n) (drop n text)) ≡ throughCr (take (pieceSize limit) text)
+-- the bytes that a frame holds are those lent to the scan
+abbrev start : tie.After-most-within → tie.Start
+start c = c .before .before
 
-abbrev Inv-loop : tie.InvT-loop
-Inv-loop limit text most n₀ n = Scanning limit text most n
+lent : (c : tie.After-most-within) → let a = start c .args in take (c .most-within .result) (now (a .text)) ≡ take (pieceSize (a .limit)) (now (a .text))
+lent c =
+    let a = start c .args in
+    ap (λ (n : ℕ). take n (now (a .text))) (c .most-within .ensures) ∙ take-most (pieceSize (a .limit)) (now (a .text))
 
-abbrev μ-loop : tie.MeasureT-loop
-μ-loop limit text most n₀ n = most - n
+long : (c : tie.After-most-within) → length (take (c .most-within .result) (now (start c .args .text))) ≡ c .most-within .result
+long c = length-take-le (c .most-within .result) (now (start c .args .text)) (omega arith)
 
--- the places: a turn's start, from behind its first test, and the function's start
-abbrev turn : tie.Else1 Inv-loop μ-loop → tie.At-loop Inv-loop μ-loop
-turn c = c .before .before .before
+slice-aggregate-index-of : tie.Need-slice-aggregate-index-of
+slice-aggregate-index-of c = sym (long (c .before))
 
-abbrev start : tie.At-loop Inv-loop μ-loop → tie.Start Inv-loop μ-loop
-start c = c .before .before .before
-
--- the first byte of a pair is passed
-passed : (c : tie.Else1 Inv-loop μ-loop)
-    → let a = start (turn c) .args in
-    let n = turn c .loop .n in
-    n + 1 + throughCr (take (pieceSize (a .limit) - (n + 1)) (drop (n + 1) (now (a .text)))) ≡ throughCr (take (pieceSize (a .limit)) (now (a .text)))
-passed c =
-    let a = start (turn c) .args in
-    let l = turn c .loop in
-    through-next (now (a .text)) (pieceSize (a .limit)) (l .n) (omega arith) (omega arith) (c .if1 .left) (l .inv .goes-on)
-
-loop-holds : tie.Need-loop-holds Inv-loop μ-loop
-loop-holds c =
-    let limit = c .before .before .args .limit in
-    let whole : pieceSize limit - 0 ≡ pieceSize limit = omega arith in
-    record { most-is = c .most-within .ensures; n-within = omega arith; goes-on = rw (whole, zero-add) }
-
-returns : tie.Need-returns Inv-loop μ-loop
+returns : tie.Need-returns
 returns c =
-    let t = c .before .before .before in
-    let l = t .loop in
-    let a = start t .args in
-    through-stop (now (a .text)) (pieceSize (a .limit)) (l .n) (omega arith) (omega arith) (c .if1 .taken) (l .inv .goes-on)
+    let i = c .before in
+    let m = i .before .before in
+    let s = take (m .most-within .result) (now (start m .args .text)) in
+    let none : find (is cr) s ≡ length s = sym (i .index-of .ensures) ∙ c .if1 .taken ∙ sym (long m) in
+    i .index-of .ensures ∙ sym (through-none s none) ∙ ap throughCr (lent m)
 
-returns-2 : tie.Need-returns-2 Inv-loop μ-loop
+-- the scan stays within what was lent
+within : (c : tie.After-index-of) → c .index-of .result ≤ c .before .before .most-within .result
+within c =
+    let m = c .before .before in
+    let s = take (m .most-within .result) (now (start m .args .text)) in
+    let k : c .index-of .result ≤ length s = rw (c .index-of .ensures) (find-le (is cr) s) in
+    omega (arith, k, long m)
+
+returns-2 : tie.Need-returns-2
 returns-2 c =
-    let e = c .before .before in
-    let a = start (turn e) .args in
-    through-stop (now (a .text)) (pieceSize (a .limit)) (turn e .loop .n + 1) (omega arith) (omega arith) (c .if2 .taken) (passed e)
-
-loop-again : tie.Need-loop-again Inv-loop μ-loop
-loop-again c =
-    let e = c .before .before in
-    let a = start (turn e) .args in
-    let l = turn e .loop in record {
-      most-is = l .inv .most-is;
-      n-within = omega arith;
-      goes-on = through-next (now (a .text)) (pieceSize (a .limit)) (l .n + 1) (omega arith) (omega arith) (c .if2 .left) (passed e);
-    }
-
--- at most one byte is left, and it ends the piece
-returns-3 : tie.Need-returns-3 Inv-loop μ-loop
-returns-3 c =
-    let a = start (c .before) .args in
-    let l = c .before .loop in
-    let size = pieceSize (a .limit) in
-    let text = now (a .text) in
-    let taken : length (take (size - l .n) (drop (l .n) text)) ≡ _ = length-take (size - l .n) (drop (l .n) text) in
-    let dropped = length-drop (l .n) text in
-    let few : length (take (size - l .n) (drop (l .n) text)) ≤ 1 = omega arith in
-    let end : c .before .before .most-within .result ≡ l .n + length (take (size - l .n) (drop (l .n) text)) = omega arith in
-    end ∙ through-last text size (l .n) few (l .inv .goes-on)
+    let i = c .before in
+    let m = i .before .before in
+    let s = take (m .most-within .result) (now (start m .args .text)) in
+    let found : i .index-of .result ≡ find (is cr) s = i .index-of .ensures in
+    let end = through-found s (λ e. c .if1 .left (found ∙ e ∙ long m)) in
+    let through : i .index-of .result + 1 ≡ throughCr s = omega (arith, found, end) in
+    through ∙ ap throughCr (lent m)
 
 pub first-piece-spec : {M : Type 1} → statement M
 first-piece-spec =
-    tie.close
-    (tie.spec
-    Inv-loop
-    μ-loop
-    (λ c κs. search needs)
-    loop-holds
-    (λ c. search needs)
-    (λ c. search needs)
-    (λ c. search needs)
-    returns
-    (λ c. search needs)
-    (λ c. search needs)
-    (λ c. search needs)
-    returns-2
-    (λ c. search needs)
-    (λ c. search needs)
-    loop-again
-    returns-3)
+    tie.close (tie.spec (λ c κs. search needs) slice-aggregate-index-of (λ c κs. search needs) returns (λ c. omega (arith, within (c .before), c .if1 .left)) returns-2)

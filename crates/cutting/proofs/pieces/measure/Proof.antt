@@ -9,7 +9,7 @@ use denote.Ref.{now}
 use lib.ListN.{length, drop, drop-of-length-le}
 use Rattle.frame.specs.Shape.{aroundText}
 use Rattle.cutting.specs.Pieces.{piecesOf}
-use Rattle.cutting.proofs.Steps.{Turn, turn}
+use Rattle.cutting.proofs.Steps.{Turn, turn, ended-tail}
 use Rattle.cutting.proofs.pieces.measure.Statement.{statement}
 use Rattle.cutting.proofs.pieces.measure.Tie as tie
 
@@ -26,7 +26,7 @@ abbrev μ-loop : tie.MeasureT-loop
 μ-loop limit text at₀ total₀ at total = length text - at
 
 -- the places: this turn's start, and the function's
-abbrev at-turn : tie.After-first-piece Inv-loop μ-loop → tie.At-loop Inv-loop μ-loop
+abbrev at-turn : tie.After-piece-length Inv-loop μ-loop → tie.At-loop Inv-loop μ-loop
 at-turn c = c .before .before .before
 
 abbrev start : tie.At-loop Inv-loop μ-loop → tie.Start Inv-loop μ-loop
@@ -35,17 +35,22 @@ start c = c .before .before
 loop-holds : tie.Need-loop-holds Inv-loop μ-loop
 loop-holds c = record { at-within = omega arith; counted = omega arith; small = omega arith }
 
+piece-length-requires : tie.Need-piece-length-requires Inv-loop μ-loop
+piece-length-requires c κs =
+    let l = c .before .before in
+    (omega arith, ended-tail (now (start l .args .text)) (l .loop .at) (start l .pre .2) (omega arith))
+
 -- the turn of the piece that was found
-turned : (c : tie.After-first-piece Inv-loop μ-loop) → let a = start (at-turn c) .args in Turn (a .limit) (now (a .text)) (at-turn c .loop .at) (c .first-piece .result)
+turned : (c : tie.After-piece-length Inv-loop μ-loop) → let a = start (at-turn c) .args in Turn (a .limit) (now (a .text)) (at-turn c .loop .at) (c .piece-length .result)
 turned c =
     let a = start (at-turn c) .args in
-    turn (a .limit) (now (a .text)) (at-turn c .loop .at) (c .first-piece .result) (omega arith) (omega arith) (c .first-piece .ensures)
+    turn (a .limit) (now (a .text)) (at-turn c .loop .at) (c .piece-length .result) (omega arith) (omega arith) (c .piece-length .ensures)
 
 loop-again : tie.Need-loop-again Inv-loop μ-loop
 loop-again c =
     let a = start (at-turn c) .args in
     let at = at-turn c .loop .at in
-    let next = at + c .first-piece .result in
+    let next = at + c .piece-length .result in
     let t = turned c in
     let one-less : length (piecesOf (a .limit) (drop at (now (a .text)))) ≡ suc (length (piecesOf (a .limit) (drop next (now (a .text))))) = ap length (t .cut) in
     record { at-within = omega (arith, t .within); counted = omega (arith, t .within, one-less); small = omega (arith, t .some) }
@@ -68,7 +73,7 @@ measure-spec =
     (λ c. search needs)
     (λ c. search needs)
     (λ c. search needs)
-    (λ c κs. search needs)
+    piece-length-requires
     (λ c. omega (arith, turned c .within, start (at-turn c) .pre))
     (λ c. omega (arith, turned c .within, turned c .some, start (at-turn c) .pre))
     (λ c. omega (arith, turned c .within, start (at-turn c) .pre))

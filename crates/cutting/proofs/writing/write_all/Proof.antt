@@ -13,7 +13,7 @@ use Rattle.digits.specs.Number.{mostNumber, nextNumber}
 use Rattle.frame.specs.Shape.{aroundText}
 use Rattle.records.proofs.Scans.{tailAt, rest-part}
 use Rattle.cutting.specs.Frames.{cutOf}
-use Rattle.cutting.proofs.Steps.{Turn, turn}
+use Rattle.cutting.proofs.Steps.{Turn, turn, ended-tail}
 use Rattle.cutting.proofs.Written.{left, left-long, written-on, left-none}
 use Rattle.cutting.proofs.writing.write_all.Statement.{statement}
 use Rattle.cutting.proofs.writing.write_all.Tie as tie
@@ -33,35 +33,40 @@ abbrev μ-loop : tie.MeasureT-loop
 μ-loop limit text out₀ at₀ done₀ number₀ out at done number = length text - at
 
 -- the places: the piece found, this turn's start, the function's start
-abbrev at-turn : tie.After-first-piece Inv-loop μ-loop → tie.At-loop Inv-loop μ-loop
+abbrev at-turn : tie.After-piece-length Inv-loop μ-loop → tie.At-loop Inv-loop μ-loop
 at-turn c = c .before .before .before
 
 abbrev start : tie.At-loop Inv-loop μ-loop → tie.Start Inv-loop μ-loop
 start c = c .before .before .before
 
-abbrev found : tie.After-slice-known2 Inv-loop μ-loop → tie.After-first-piece Inv-loop μ-loop
+abbrev found : tie.After-slice-known2 Inv-loop μ-loop → tie.After-piece-length Inv-loop μ-loop
 found c = c .before .before .before .before
 
 loop-holds : tie.Need-loop-holds Inv-loop μ-loop
 unfolding cutOf
 loop-holds c = record { at-within = omega arith; numbered = omega arith; out-length = refl; all-written = refl; counted = omega arith }
 
+piece-length-requires : tie.Need-piece-length-requires Inv-loop μ-loop
+piece-length-requires c κs =
+    let l = c .before .before in
+    (omega arith, ended-tail (now (start l .args .text)) (l .loop .at) (start l .pre .2) (omega arith))
+
 -- the turn of the piece that was found
-turned : (c : tie.After-first-piece Inv-loop μ-loop) → let a = start (at-turn c) .args in Turn (a .limit) (now (a .text)) (at-turn c .loop .at) (c .first-piece .result)
+turned : (c : tie.After-piece-length Inv-loop μ-loop) → let a = start (at-turn c) .args in Turn (a .limit) (now (a .text)) (at-turn c .loop .at) (c .piece-length .result)
 turned c =
     let a = start (at-turn c) .args in
-    turn (a .limit) (now (a .text)) (at-turn c .loop .at) (c .first-piece .result) (omega arith) (omega arith) (c .first-piece .ensures)
+    turn (a .limit) (now (a .text)) (at-turn c .loop .at) (c .piece-length .result) (omega arith) (omega arith) (c .piece-length .ensures)
 
 -- its frame is the first of those left to write
-ahead : (c : tie.After-first-piece Inv-loop μ-loop)
+ahead : (c : tie.After-piece-length Inv-loop μ-loop)
     → let l = at-turn c .loop in
     let a = start (at-turn c) .args in
     length (left (a .limit) (now (a .text)) (l .at) (l .number))
-    ≡ c .first-piece .result + aroundText + length (left (a .limit) (now (a .text)) (l .at + c .first-piece .result) (nextNumber (l .number)))
+    ≡ c .piece-length .result + aroundText + length (left (a .limit) (now (a .text)) (l .at + c .piece-length .result) (nextNumber (l .number)))
 ahead c =
     let l = at-turn c .loop in
     let a = start (at-turn c) .args in
-    left-long (a .limit) (now (a .text)) (l .at) (c .first-piece .result) (l .number) (turned c)
+    left-long (a .limit) (now (a .text)) (l .at) (c .piece-length .result) (l .number) (turned c)
 
 write-piece-requires : tie.Need-write-piece-requires Inv-loop μ-loop
 write-piece-requires c κs =
@@ -79,7 +84,7 @@ loop-again c =
     let s = start (at-turn f) in
     let a = s .args in
     let (at-within, numbered, out-length, all-written, counted) =
-    written-on (a .limit) (now (a .text)) (l .at) (f .first-piece .result) (l .number) (turned f) (l .out) (now (a .out)) (l .done) (l .inv .out-length) (s .pre .1)
+    written-on (a .limit) (now (a .text)) (l .at) (f .piece-length .result) (l .number) (turned f) (l .out) (now (a .out)) (l .done) (l .inv .out-length) (s .pre .1)
     (l .inv .counted) (l .inv .all-written) (c .before .before .before .write-piece .ensures) (c .next-number .ensures) in
     record { at-within = at-within; numbered = numbered; out-length = out-length; all-written = all-written; counted = counted }
 
@@ -101,7 +106,7 @@ write-all-spec =
     (λ c. search needs)
     (λ c. search needs)
     (λ c. search needs)
-    (λ c κs. search needs)
+    piece-length-requires
     write-piece-requires
     (λ c. omega (arith, turned (found c) .short))
     (λ c. let f = found c in omega (arith, ahead f, at-turn f .loop .inv .counted, start (at-turn f) .pre .1))
