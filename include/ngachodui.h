@@ -39,10 +39,10 @@ extern "C" {
 
 /* ---- Version ---- */
 
-/* The version of the layout: of all sizes, structs and numbers below. It is higher with each layout
- * that an object compiled for another one cannot use, or that cannot read what another one saved, so
- * it belongs in front of a state that a host saves. It is changed here alone: by it ngachodui_fresh
- * has its name in the library, so that an object of another version finds none. */
+/* The version of the layout, that is of the sizes and structs below. A library of another layout has
+ * another version, and what a host saved under one version is no state of another: save the number in
+ * front of it. It stands here alone, for C: the library's ngachodui_fresh has it in its name, so that
+ * an object of another version does not find it. */
 #define NGACHODUI_VERSION 1
 
 #define NGACHODUI_JOINED(name, version) name##_##version
@@ -52,21 +52,21 @@ extern "C" {
 /* ---- Sizes ---- */
 
 enum {
-    NGACHODUI_LINES = 8,               /* the lines are numbered 0 to 7 */
-    NGACHODUI_NUMBERS = 64,            /* the 16-bit numbers of a state: eight for each line */
-    NGACHODUI_COUNTS = 9,              /* its 32-bit numbers: one for each line, and one of them all */
+    NGACHODUI_LINES = 8,                         /* the lines are numbered 0 to 7 */
+    NGACHODUI_NUMBERS = 8 * NGACHODUI_LINES,     /* the numbers of all lines, of 16 bits */
+    NGACHODUI_COUNTS = NGACHODUI_LINES + 1,      /* the counts: one for each line, one of them all */
 
     /* What is never exceeded: memory for so many is never too short. */
-    NGACHODUI_TEXT_LIMIT = 4000,       /* bytes of a message, for a taking */
-    NGACHODUI_FRAME_LIMIT = 247,       /* bytes of a frame, from STX to LF */
-    NGACHODUI_RECORDS_LIMIT = 999,     /* records of a message, for reading */
-    NGACHODUI_CUT_LIMIT = 10993,       /* bytes of a message's frames: 4,000 of text in 999 frames */
+    NGACHODUI_TEXT_LIMIT = 4000,                 /* bytes of a message, for a taking */
+    NGACHODUI_FRAME_LIMIT = 247,                 /* bytes of a frame, from STX to LF */
+    NGACHODUI_FRAME_PART = NGACHODUI_FRAME_LIMIT - 1,   /* without STX, as a line keeps it */
+    NGACHODUI_RECORDS_LIMIT = 999,               /* records of a message, for reading */
+    NGACHODUI_CUT_LIMIT = 10993,                 /* bytes of a message's frames: 4,000 in 999 frames */
 
     /* The three memories, in bytes. Lent at any other size, an event is answered 41. */
-    NGACHODUI_JOURNAL_SIZE = 32768,    /* the messages that wait */
+    NGACHODUI_JOURNAL_SIZE = 32768,              /* the messages that wait */
     NGACHODUI_UNFINISHED_SIZE = NGACHODUI_LINES * NGACHODUI_TEXT_LIMIT,   /* each line's unfinished text */
-    NGACHODUI_FRAME_PART = NGACHODUI_FRAME_LIMIT - 1,                     /* a frame without its STX */
-    NGACHODUI_FRAMES_SIZE = NGACHODUI_LINES * NGACHODUI_FRAME_PART,       /* what each line is receiving */
+    NGACHODUI_FRAMES_SIZE = NGACHODUI_LINES * NGACHODUI_FRAME_PART,       /* each line's frame so far */
 
     /* Bytes of the journal that each line is sure of, 4 counted for each message besides its text. */
     NGACHODUI_SHARE = 2048
