@@ -1,5 +1,5 @@
 // The header of an entry, read and spelt; and the room that an entry takes. Nothing else knows how a header is laid out.
-// Every function that another crate can call is total: a text's length is a u16 here, so that no sum can overflow.
+// Every function that another crate can call is total: it is given a text's length as a u32, so that no sum can overflow.
 ghost use mathlib.Core.Path.{_≡_};
 ghost use Prim.Native.Nat.{_+_, _≤_, _<_};
 ghost use Rattle.memory.specs.Fields.{unpack, longestField};
@@ -9,7 +9,7 @@ ghost use Rattle.header.specs.Entry.{wholeHead, firstHead};
 pub struct Header {
     pub line: usize,
     pub spare: u8,
-    pub count: u16,
+    pub count: usize,
     pub serial: u16,
 }
 
@@ -24,20 +24,20 @@ const SPARE_AT: u64 = 268435456;
 const LINE_AT: u64 = 536870912;
 
 // The bytes of a header, and of an entry, by the length of the text.
-pub fn head_size(count: u16) -> usize
+pub fn head_size(count: u32) -> usize
     ensures { λ r. ⌜ (r ≡ headSize count) × (r ≤ longestField) ⌝ }
 {
     LEAST_HEAD
 }
 
-pub fn entry_size(count: u16) -> usize
+pub fn entry_size(count: u32) -> usize
     ensures { λ r. ⌜ (r ≡ entrySize count) × (r ≤ longestField + count) ⌝ }
 {
     head_size(count) + count as usize
 }
 
 // The number that the bytes of a header spell: its spare bit is 0. That the serial is one is said for callers that read it from an array.
-pub fn number(line: u8, count: u16, serial: u16) -> u64
+pub fn number(line: u8, count: u32, serial: u16) -> u64
     ensures { λ r. ⌜ (r ≡ headNumber line count serial) × (serial < serialCount) ⌝ }
 {
     line as u64 * LINE_AT + count as u64 * LENGTH_AT + serial as u64
@@ -50,7 +50,7 @@ fn fields(n: u64) -> Header
     Header {
         line: (n / LINE_AT % 8) as usize,
         spare: (n / SPARE_AT % 2) as u8,
-        count: (n / LENGTH_AT % 4096) as u16,
+        count: (n / LENGTH_AT % 4096) as usize,
         serial: (n % 65536) as u16,
     }
 }
@@ -69,13 +69,13 @@ fn whole(h: Header, room: usize) -> Header
     if h.count < 1 {
         return none;
     }
-    if memory::MESSAGE_LIMIT < h.count as usize {
+    if memory::MESSAGE_LIMIT < h.count {
         return none;
     }
     if h.spare != 0 {
         return none;
     }
-    let count = h.count;
+    let count = h.count as u32;
     if room < entry_size(count) {
         return none;
     }

@@ -32,7 +32,7 @@ fn walk(s: &[u8], line: usize) -> Sums
             };
         }
         let owner = h.line;
-        let size = header::entry_size(count);
+        let size = header::entry_size(count as u32);
         sums[owner] += size as u32;
         at += size;
         if sums[line] == 0 {

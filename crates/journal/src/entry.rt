@@ -8,7 +8,7 @@ pub fn append(ledger: crate::Ledger, line: usize, text: &[u8], journal: &mut [u8
     requires { ⌜ Ready ledger line (now text) (now journal) ⌝ }
     ensures { λ r. ⌜ Appended ledger line (now (text .entry)) (now (journal .entry)) r (now (journal .exit)) ⌝ }
 {
-    let count = text.len() as u16;
+    let count = text.len() as u32;
     let size = header::entry_size(count);
     let head = header::head_size(count);
     let at = ledger.in_use;
@@ -39,19 +39,20 @@ pub fn take_at(
 {
     let in_use = ledger.in_use;
     let h = header::entry_at(&journal[at..in_use]);
-    let count = h.count as usize;
+    let count = h.count;
     if buffer.len() < count {
         return crate::Taking {
             ledger,
             answer: crate::Took::BufferShort,
         };
     }
-    let head = header::head_size(h.count);
+    let length = count as u32;
+    let head = header::head_size(length);
     let start = at + head;
     let end = start + count;
     memory::copy(buffer, &journal[start..end]);
     memory::close_up(journal, at, head + count, in_use); // the header goes with its text
-    let size = header::entry_size(h.count);
+    let size = header::entry_size(length);
     let mut used = ledger.used;
     used[line] -= size as u32;
     let serials = ledger.serials;

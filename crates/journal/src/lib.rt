@@ -81,7 +81,7 @@ pub fn judge(ledger: Ledger, shares: [u16; 8], line: u8, length: usize, journal:
         return Verdict::Broken;
     }
     let mut used = ledger.used;
-    used[l] += header::entry_size(length as u16) as u32;
+    used[l] += header::entry_size(length as u32) as u32;
     if !room::has_room(used, shares) {
         return Verdict::NoRoom;
     }

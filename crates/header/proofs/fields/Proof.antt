@@ -14,5 +14,4 @@ fields-spec =
     (tie.spec
     (λ c. search needs)
     (λ c. search needs)
-    (λ c. search needs)
     returns)

@@ -20,13 +20,15 @@ returns-3 c =
 
 returns-4 : tie.Need-returns-4
 returns-4 c =
-    let long = c .before .before .before .before in
+    let spared = c .before .before .before in
+    let long = spared .before .before in
     let a = long .before .before .before .before .args in
     no-whole (a .h) (a .room) (λ f. omega (arith, c .before .entry-size .ensures .0))
 
 returns-5 : tie.Need-returns-5
 returns-5 c =
-    let long = c .before .before .before .before in
+    let spared = c .before .before .before in
+    let long = spared .before .before in
     let a = long .before .before .before .before .args in
     a-whole (a .h) (a .room) (record { spare = omega arith; low = omega arith; high = omega arith; room = omega (arith, c .before .entry-size .ensures .0) })
 
@@ -35,9 +37,9 @@ whole-spec =
     tie.close
     (tie.spec
     returns
-    (λ c. search needs)
     returns-2
     returns-3
+    (λ c. search needs)
     (λ c κs. search needs)
     returns-4
     returns-5)

@@ -148,6 +148,7 @@ walk-spec =
     (λ c. omega arith)
     (λ c κs. search needs)
     returns
+    (λ c. omega (arith, stepped c))
     (λ c κs. search needs)
     (λ c. omega (arith, stepped (c .before)))
     (λ c. omega (arith, stepped (c .before)))

@@ -12,7 +12,7 @@ abbrev start : tie.After-entry-at → tie.Start
 start c = let lent = c .before .before .before in lent .before .before
 
 abbrev read : tie.After-head-size → tie.After-entry-at
-read c = c .before .before .before
+read c = c .before .before
 
 abbrev sized : tie.After-copy → tie.After-head-size
 sized c = c .before .before .before .before
@@ -30,20 +30,25 @@ known c =
 
 returns : tie.Need-returns
 returns c =
-    let r = c .before .before in
+    let r = c .before in
     let a = start r .args in
     taken-short (a .ledger) (a .line) (a .at) (now (a .journal)) (start r .pre) (r .entry-at .result) (r .entry-at .ensures) (now (a .buffer)) (c .if1 .taken)
 
 part-copy-end : tie.Need-part-copy-end
 part-copy-end c = let s = c .before .before in omega (arith, known (read s), s .head-size .ensures)
 
+cast-used : tie.Need-cast-used
+cast-used c =
+    let closed = c .before .before .before .before in
+    omega (arith, known (read (sized (copied closed))), c .before .entry-size .ensures)
+
 sub-used : tie.Need-sub-used
 sub-used c =
     let closed = c .before .before .before .before in
     omega (arith, known (read (sized (copied closed))), c .before .entry-size .ensures)
 
-sub-t16 : tie.Need-sub-t16
-sub-t16 c =
+sub-t17 : tie.Need-sub-t17
+sub-t17 c =
     let used = c .before in
     let closed = used .before .before .before .before in
     omega (arith, known (read (sized (copied closed))), used .before .entry-size .ensures)
@@ -68,8 +73,8 @@ take-at-spec =
     (λ c. search needs)
     (λ c κs. search needs)
     (λ c. search needs)
-    (λ c. search needs)
     returns
+    (λ c. omega (arith, known (c .before)))
     (λ c κs. search needs)
     (λ c. search needs)
     (λ c. omega (arith, known (read c)))
@@ -80,12 +85,12 @@ take-at-spec =
     (λ c. omega (arith, known (read (sized (c .before .before .before)))))
     (λ c κs. search needs)
     (λ c κs. search needs)
-    (λ c. search needs)
+    cast-used
     (λ c. search needs)
     (λ c. search needs)
     sub-used
     (λ c. search needs)
-    sub-t16
+    sub-t17
     (λ c. search needs)
     (λ c. search needs)
     returns-2)
