@@ -9,7 +9,7 @@ use lib.Dec.{leb, eqb}
 use lib.ListN.{length, getD}
 use borrow.Author.Tests.{leb-true, eqb-true, eqb-false}
 use Rattle.memory.specs.Sizes.{messageLimit}
-use Rattle.memory.specs.Tests.{unless, is, all}
+use Rattle.memory.specs.Tests.{unless, all}
 use Rattle.memory.proofs.Tests.{and-left, and-right}
 use Rattle.characters.specs.Allowed.{allowed}
 use Rattle.kinds.specs.Kinds.{letterOf, kindOf, typeOf, mayFollow, isTerminator}
