@@ -124,7 +124,7 @@ fn list(
     let mut i: usize = 0;
     while at < text.len() {
         let tail = &text[at..];
-        let e = records::index_of(tail, records::CR);
+        let e = records::index_of(tail, characters::CR);
         row(i, types[i], offsets[i], lengths[i], owners[i]);
         fields(d, types[i], &tail[..e]);
         at = at + (e + 1);

@@ -4,11 +4,9 @@ ghost use mathlib.Core.List.{_++_};
 ghost use lib.ListN.{length};
 ghost use Rattle.memory.specs.Tests.{is, find};
 ghost use Rattle.records.specs.Records.{records, lastStart, endsWithL};
+use characters::CR;
 
 mod ends; // ends.rt: how many records of a text are ended
-
-// The byte that ends a record.
-pub const CR: u8 = 0x0d;
 
 // The index of the first byte b, or the length where there is none.
 pub fn index_of(text: &[u8], b: u8) -> usize
