@@ -37,7 +37,7 @@ enum Measured {
 pub fn component_end(d: Delimiters, text: &[u8], start: usize) -> usize
     ensures { λ r. ⌜ r ≡ componentEnd d (now (text .entry)) start ⌝ }
 {
-    let stops = [d.field, d.repeat, d.component, records::CR];
+    let stops = [d.field, d.repeat, d.component, characters::CR];
     let mut i = start;
     let end = 'scan: loop {
         if text.len() <= i {

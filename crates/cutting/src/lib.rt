@@ -19,7 +19,7 @@ pub fn first_piece(limit: usize, text: &[u8]) -> usize
     ensures { λ r. ⌜ r ≡ throughCr (take (pieceSize limit) (now (text .entry))) ⌝ }
 {
     let most = pieces::most_within(limit, text.len());
-    let n = records::index_of(&text[..most], records::CR);
+    let n = records::index_of(&text[..most], characters::CR);
     if n == most {
         return n;
     }

@@ -29,7 +29,7 @@ pub fn piece_length(limit: usize, text: &[u8]) -> usize
     let size = limit - frame::AROUND_TEXT;
     let mut n: usize = 0;
     while n < size {
-        if text[n] == records::CR {
+        if text[n] == characters::CR {
             return n + 1;
         }
         n += 1;

@@ -19,7 +19,7 @@ const FIRST_NUMBER: u8 = 1;
 fn end_after(b: u8) -> End
     ensures { λ r. ⌜ r ≡ endAfter b ⌝ }
 {
-    if b == records::CR {
+    if b == characters::CR {
         return End::Etx;
     }
     End::Etb

@@ -21,7 +21,7 @@ pub fn scan(text: &[u8]) -> Scanned
     let mut i: usize = 0;
     while i < text.len() {
         let b = text[i];
-        if b == records::CR {
+        if b == characters::CR {
             return Scanned::End(i);
         }
         if !characters::is_marked(&table, b) {

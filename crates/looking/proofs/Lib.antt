@@ -1,4 +1,3 @@
-pub mod Joined
 pub mod Views
 pub mod Looks
 pub mod Cases

@@ -2,20 +2,17 @@
 ghost use mathlib.Core.Path.{_≡_};
 ghost use mathlib.Core.List.{_++_};
 ghost use Prim.Native.Nat.{_+_, _≤_};
-ghost use Rattle.records.specs.Records.{endsWithCr};
 ghost use Rattle.line.specs.Turn.{turnOf};
 ghost use Rattle.looking.specs.Views.{Ready, framesOf, textsOf, joinedText};
 ghost use Rattle.looking.specs.Looks.{frameLook, turnLook, endLook};
 use super::Look;
 use super::Verdict;
-use characters::CR;
-use characters::LF;
-use characters::STX;
 use frame::End;
 use frame::Shape;
 use line::Answer;
 use line::Line;
 use line::Turn;
+use records::Ending;
 
 // Its shape, then its turn.
 pub fn look_frame(line: Line, i: usize, b: u8, unfinished: &[u8], frames: &[u8]) -> Look
@@ -75,23 +72,9 @@ fn look_end(end: End, n: usize, old: &[u8], new: &[u8]) -> Look
 fn look_text(n: usize, old: &[u8], new: &[u8]) -> Look
     ensures { λ r. ⌜ r ≡ endLook End.Etx n (now (old .entry) ++ now (new .entry)) ⌝ }
 {
-    if !ends_with_cr(old, new) {
-        return Look::Done(Verdict::Refuses(Answer::NoCr));
+    match records::ending_of(old, new) {
+        Ending::WithoutCr => Look::Done(Verdict::Refuses(Answer::NoCr)),
+        Ending::WithL => Look::Decides(n),
+        Ending::WithOther => Look::Done(Verdict::Accepts(n)),
     }
-    if records::joined_ends_with_l(old, new) {
-        return Look::Decides(n);
-    }
-    Look::Done(Verdict::Accepts(n))
-}
-
-fn ends_with_cr(old: &[u8], new: &[u8]) -> bool
-    ensures { λ r. ⌜ r ≡ endsWithCr (now (old .entry) ++ now (new .entry)) ⌝ }
-{
-    if 0 < new.len() {
-        return new[new.len() - 1] == CR;
-    }
-    if 0 < old.len() {
-        return old[old.len() - 1] == CR;
-    }
-    false
 }

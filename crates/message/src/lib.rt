@@ -2,8 +2,8 @@
 ghost use mathlib.Core.Path.{_≡_};
 ghost use Rattle.kinds.specs.Delimiters.{standard};
 ghost use Rattle.faults.specs.Faults.{isMessage};
+use characters::CR;
 use kinds::Delimiters;
-use records::CR;
 
 mod whole; // whole.rt: the records behind the header, to the first fault
 

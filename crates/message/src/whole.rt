@@ -98,7 +98,7 @@ fn number_at(b: u8, text: &[u8]) -> u32
         }
         let v = std::num::wrapping_sub_u8(c, b'0');
         if 9 < v {
-            if c == records::CR {
+            if c == characters::CR {
                 return n;
             }
             return 0;
@@ -184,7 +184,7 @@ pub fn is_right(d: Delimiters, classes: &[u8; 256], rest: &[u8]) -> bool
         // Its type and a delimiter were read: its end is behind them.
         let behind = &tail[2..];
         let e = end_of(classes, behind);
-        if behind[e] != records::CR {
+        if behind[e] != characters::CR {
             return false;
         }
         at = at + (e + 3);

@@ -17,7 +17,7 @@ pub fn fill_rows(text: &[u8], types: &mut [u8], offsets: &mut [u16], lengths: &m
     let mut n: usize = 0;
     while at < text.len() {
         let tail = &text[at..];
-        let e = records::index_of(tail, records::CR);
+        let e = records::index_of(tail, characters::CR);
         types[n] = text[at];
         offsets[n] = at as u16;
         lengths[n] = e as u16;

@@ -8,6 +8,7 @@ use faults::Checked;
 use faults::Fault;
 use kinds::Delimiters;
 use owner::Reading;
+use records::Ending;
 
 pub fn show(kind: u8, text: &[u8]) {
     match kind {
@@ -45,7 +46,7 @@ fn message(text: &[u8]) {
     if message::is_message(text) {
         io::write_all(1, b" message");
     }
-    if records::joined_ends_with_l(text, &text[..0]) {
+    if ends_with_l(text, &text[..0]) {
         io::write_all(1, b" L");
     }
     if text.len() < 100 {
@@ -79,12 +80,21 @@ fn fault(f: Fault, place: u16) {
     small(place);
 }
 
+// Whether the two pieces, joined, end with an L record.
+fn ends_with_l(old: &[u8], new: &[u8]) -> bool {
+    match records::ending_of(old, new) {
+        Ending::WithL => true,
+        Ending::WithOther => false,
+        Ending::WithoutCr => false,
+    }
+}
+
 // At how many places the text can be cut in two so that the two pieces, joined, end with an L record.
 fn splits(text: &[u8]) -> usize {
     let mut n: usize = 0;
     let mut k: usize = 0;
     while k < text.len() {
-        let ends = records::joined_ends_with_l(&text[..k], &text[k..]);
+        let ends = ends_with_l(&text[..k], &text[k..]);
         k += 1;
         if ends {
             n += 1;
@@ -124,7 +134,7 @@ fn list(
     let mut i: usize = 0;
     while at < text.len() {
         let tail = &text[at..];
-        let e = records::index_of(tail, records::CR);
+        let e = records::index_of(tail, characters::CR);
         row(i, types[i], offsets[i], lengths[i], owners[i]);
         fields(d, types[i], &tail[..e]);
         at = at + (e + 1);

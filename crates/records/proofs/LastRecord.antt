@@ -1,20 +1,20 @@
--- The bytes behind the last CR of a text, as a scan from the end finds them, and the last record of a text that lies in one or two pieces.
+-- The bytes behind the last CR of a text, as a scan from the end finds them.
 -- Assumes nothing.
 use mathlib.Core.Path.{_≡_, refl, ap, sym, _∙_}
 use mathlib.Core.Bool.{Bool, true, false, cond, _&&_}
-use mathlib.Core.List.{List, [], _∷_, _++_, append-nil}
+use mathlib.Core.List.{List, [], _∷_, _++_}
 use Prim.Native.Nat.{ℕ, suc, _+_, _-_, _<_, _≤_, zero-le}
 use native.Mathlib.Nat.{add-zero}
 use native.Mathlib.Omega.{arith}
 use native.Mathlib.Decide.{decLt}
 use lib.Dec.{eqb}
-use lib.ListN.{length, getD, take, drop, length-append, length-drop, take-append-drop, drop-of-length-le, List·getD-eq-default}
-use lib.Seq.{drop-cons, getD-drop, getD-take, length-take-le, take-append-add, getD-append-add}
-use borrow.Author.Tests.{eq-eqb, ne-eqb}
+use lib.ListN.{length, getD, take, drop, length-drop, take-append-drop, List·getD-eq-default}
+use lib.Seq.{drop-cons, getD-drop, getD-take, length-take-le}
+use borrow.Author.Tests.{ne-eqb}
 use Rattle.memory.specs.Tests.{all}
 use Rattle.memory.proofs.Tests.{and-not-right, all-append, is-false}
 use Rattle.characters.specs.Control.{cr}
-use Rattle.records.specs.Records.{isNotCr, behindLastCr, lastStart, lastRecord, beginsWithL, endsWithL}
+use Rattle.records.specs.Records.{isNotCr, behindLastCr, lastStart, beginsWithL}
 
 -- a text with no CR is all behind it
 pub lacks-behind : (s : List ℕ) → all isNotCr s ≡ true → behindLastCr s ≡ s
@@ -121,64 +121,3 @@ first-byte s last start h e k =
           let past : getD (take last s) start 0 ≡ 0 = List·getD-eq-default (take last s) 0 le in
           rw (there, past, same, e)
     ]
-
--- the answers for a text in one piece
-pub ends-empty : (s : List ℕ) → length s ≡ 0 → endsWithL s ≡ false
-unfolding endsWithL
-ends-empty [] e = refl
-ends-empty (x ∷ s) e = absurd (omega arith)
-
-pub ends-open : (s : List ℕ) → (getD s (length s - 1) 0 ≡ cr → ⊥) → endsWithL s ≡ false
-unfolding endsWithL
-ends-open s n = rw (ne-eqb (getD s (length s - 1) 0) cr n)
-
-pub ends-closed : (s : List ℕ) (start : ℕ) → 0 < length s → getD s (length s - 1) 0 ≡ cr → start ≡ lastStart (take (length s - 1) s)
-    → eqb (getD s start 0) 0x4c ≡ endsWithL s
-unfolding endsWithL lastRecord
-ends-closed s start h e k = rw (eq-eqb (getD s (length s - 1) 0) cr e) (first-byte s (length s - 1) start (omega arith) e k)
-
--- the answers for a text in two pieces
-pub joined-nothing : (old new : List ℕ) → length new ≡ 0 → old ++ new ≡ old
-joined-nothing old [] e = append-nil old
-joined-nothing old (x ∷ new) e = absurd (omega arith)
-
-module _ (old new : List ℕ) (some : 0 < length new) where
-  joined-length : length (old ++ new) - 1 ≡ length old + (length new - 1)
-  joined-length = rw length-append (omega arith)
-
-  joined-last : getD (old ++ new) (length (old ++ new) - 1) 0 ≡ getD new (length new - 1) 0
-  joined-last = rw joined-length (getD-append-add old new (length new - 1) 0)
-
-  joined-front : take (length (old ++ new) - 1) (old ++ new) ≡ old ++ take (length new - 1) new
-  joined-front = rw joined-length (take-append-add old new (length new - 1))
-
-  pub joined-open : (getD new (length new - 1) 0 ≡ cr → ⊥) → endsWithL (old ++ new) ≡ false
-  joined-open n = ends-open (old ++ new) (λ e. n (sym joined-last ∙ e))
-
-  module _ (closed : getD new (length new - 1) 0 ≡ cr) where
-    joined-is : endsWithL (old ++ new) ≡ beginsWithL (behindLastCr (old ++ take (length new - 1) new))
-    unfolding endsWithL lastRecord
-    joined-is = rw (joined-last, closed, joined-front)
-
-    -- the last record lies in the new piece
-    pub joined-within : (start : ℕ) → start ≡ lastStart (take (length new - 1) new) → 0 < start → eqb (getD new start 0) 0x4c ≡ endsWithL (old ++ new)
-    joined-within start k h =
-        let has : all isNotCr (take (length new - 1) new) ≡ false = start-has (take (length new - 1) new) (omega arith) in
-        first-byte new (length new - 1) start (omega arith) closed k ∙ sym (joined-is ∙ ap beginsWithL (behind-join-has old (take (length new - 1) new) has))
-
-    -- it begins in the old piece, or just where the new one begins
-    module _ (only : lastStart (take (length new - 1) new) ≡ 0) where
-      joined-over : endsWithL (old ++ new) ≡ beginsWithL (behindLastCr old ++ take (length new - 1) new)
-      joined-over = joined-is ∙ ap beginsWithL (behind-join-lacks old (take (length new - 1) new) (start-lacks (take (length new - 1) new) only))
-
-      pub joined-across : (begin : ℕ) → begin ≡ lastStart old → begin < length old → eqb (getD old begin 0) 0x4c ≡ endsWithL (old ++ new)
-      joined-across begin k h =
-          let old-rest : behindLastCr old ≡ getD old begin 0 ∷ drop (suc begin) old =
-          sym (behind-drop old) ∙ ap (λ (n : ℕ). drop n old) (sym k) ∙ drop-cons old begin 0 h in
-          sym (joined-over ∙ rw old-rest)
-
-      pub joined-behind : (begin : ℕ) → begin ≡ lastStart old → length old ≤ begin → eqb (getD new 0 0) 0x4c ≡ endsWithL (old ++ new)
-      joined-behind begin k h =
-          let none : behindLastCr old ≡ [] = sym (behind-drop old) ∙ ap (λ (n : ℕ). drop n old) (sym k) ∙ drop-of-length-le old h in
-          let whole : behindLastCr (take (length new - 1) new) ≡ take (length new - 1) new = lacks-behind (take (length new - 1) new) (start-lacks (take (length new - 1) new) only) in
-          first-byte new (length new - 1) 0 (omega arith) closed (sym only) ∙ ap beginsWithL whole ∙ sym (joined-over ∙ rw none)

@@ -1,12 +1,11 @@
 -- Any two outcomes that a contract of this crate allows are equal.
 -- Assumes nothing.
 use mathlib.Core.Path.{_≡_, sym, _∙_}
-use mathlib.Core.Bool.{Bool}
-use mathlib.Core.List.{List, _++_}
+use mathlib.Core.List.{List}
 use Prim.Native.Nat.{ℕ}
 use lib.ListN.{length}
 use Rattle.memory.specs.Tests.{is, find}
-use Rattle.records.specs.Records.{records, endsWithL}
+use Rattle.records.specs.Records.{records}
 
 -- `index_of`
 pub index-once : (text : List ℕ) (b : ℕ) {r q : ℕ} → r ≡ find (is b) text → q ≡ find (is b) text → r ≡ q
@@ -15,7 +14,3 @@ index-once text b a e = a ∙ sym e
 -- `count_records`
 pub count-once : (text : List ℕ) {r q : ℕ} → r ≡ length (records text) → q ≡ length (records text) → r ≡ q
 count-once text a b = a ∙ sym b
-
--- `joined_ends_with_l`
-pub joined-ends-once : (old new : List ℕ) {r q : Bool} → r ≡ endsWithL (old ++ new) → q ≡ endsWithL (old ++ new) → r ≡ q
-joined-ends-once old new a b = a ∙ sym b

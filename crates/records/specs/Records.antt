@@ -1,13 +1,15 @@
--- The records of a text, each ended by CR, and its last record.
+-- The records of a text, each ended by CR, and how the text ends.
 -- Assumes nothing.
 use Prim.Native.Nat.{ℕ, _-_}
 use mathlib.Core.List.{List, [], _∷_, _++_}
 use mathlib.Core.Bool.{Bool, false, true, not, cond, _&&_}
 use lib.ListN.{length, getD, take}
-use Rattle.memory.specs.Tests.{is, all}
+use Rattle.memory.specs.Tests.{unless, is, all}
 use Rattle.characters.specs.Control.{cr}
 use Rattle.kinds.specs.declared.Kind.the-variants.{Terminator}
 use Rattle.kinds.specs.Kinds.{letterOf}
+use Rattle.records.specs.declared.Ending.{Ending}
+use Rattle.records.specs.declared.Ending.the-variants.{WithoutCr, WithL, WithOther}
 
 -- a byte in front of the first record
 abbrev pub onto : ℕ → List (List ℕ) → List (List ℕ)
@@ -54,3 +56,7 @@ beginsWithL r = is (letterOf Terminator) (getD r 0 0)
 -- the text ends with CR and its last record begins with L: the message is decided now
 unfoldable pub endsWithL : List ℕ → Bool
 endsWithL text = endsWithCr text && beginsWithL (lastRecord text)
+
+-- how a text ends: without CR, with a record that begins with L, or with another record
+unfoldable pub endingOf : List ℕ → Ending
+endingOf text = unless (endsWithCr text) WithoutCr (cond (endsWithL text) WithL WithOther)

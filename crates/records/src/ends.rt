@@ -4,6 +4,7 @@ ghost use Prim.Native.Nat.{_≤_};
 ghost use lib.ListN.{length};
 ghost use Rattle.memory.specs.Tests.{is, count};
 ghost use Rattle.characters.specs.Control.{cr};
+use characters::CR;
 
 // So many bytes are counted at a time: their count fits one byte, so that sixteen of them can be counted at once.
 const BLOCK: usize = 128;
@@ -17,7 +18,7 @@ fn count_block(text: &[u8]) -> u8
     while i < text.len() {
         let b = text[i];
         i += 1;
-        if b == crate::CR {
+        if b == CR {
             n += 1;
         }
     }

@@ -10,7 +10,6 @@ use Rattle.record_vectors.proofs.listing.splits.Statement.{statement}
 use Rattle.record_vectors.proofs.listing.splits.Tie as tie
 use Rattle.record_vectors.proofs.listing.splits.Reads as reads
 use Rattle.record_vectors.proofs.listing.splits.Lts as lts
-use Rattle.records.proofs.joined_ends_with_l.Reads as joined-ends-with-l-reads
 
 abbrev Inv-loop : tie.InvT-loop
 Inv-loop text n₀ k₀ n k = (n ≤ k) × (k ≤ length text)
@@ -23,24 +22,24 @@ loop-holds : tie.Need-loop-holds Inv-loop μ-loop
 loop-holds c = (omega arith, omega arith)
 
 -- src/listing.rt:83:47
-slice-aggregate-joined-ends-with-l : tie.Need-slice-aggregate-joined-ends-with-l Inv-loop μ-loop
-slice-aggregate-joined-ends-with-l c = let l = c .before .before in sym (length-take-le (l .loop .k) (l .before .before .args .text .now) (omega arith))
+slice-aggregate-ends-with-l : tie.Need-slice-aggregate-ends-with-l Inv-loop μ-loop
+slice-aggregate-ends-with-l c = let l = c .before .before in sym (length-take-le (l .loop .k) (l .before .before .args .text .now) (omega arith))
 
 -- src/listing.rt:83:59
-sub-joined-ends-with-l : tie.Need-sub-joined-ends-with-l Inv-loop μ-loop
-sub-joined-ends-with-l c = search needs
+sub-ends-with-l : tie.Need-sub-ends-with-l Inv-loop μ-loop
+sub-ends-with-l c = search needs
 
 -- src/listing.rt:83:59
-part-joined-ends-with-l-start : tie.Need-part-joined-ends-with-l-start Inv-loop μ-loop
-part-joined-ends-with-l-start c = search needs
+part-ends-with-l-start : tie.Need-part-ends-with-l-start Inv-loop μ-loop
+part-ends-with-l-start c = search needs
 
 -- src/listing.rt:83:59
-part-joined-ends-with-l-end : tie.Need-part-joined-ends-with-l-end Inv-loop μ-loop
-part-joined-ends-with-l-end c = search needs
+part-ends-with-l-end : tie.Need-part-ends-with-l-end Inv-loop μ-loop
+part-ends-with-l-end c = search needs
 
 -- src/listing.rt:83:13
-joined-ends-with-l-requires : tie.Need-joined-ends-with-l-requires Inv-loop μ-loop
-joined-ends-with-l-requires c κs = search needs
+ends-with-l-requires : tie.Need-ends-with-l-requires Inv-loop μ-loop
+ends-with-l-requires c κs = search needs
 
 -- src/listing.rt:84:9
 add-k : tie.Need-add-k Inv-loop μ-loop
@@ -77,11 +76,11 @@ splits-spec =
     Inv-loop
     μ-loop
     loop-holds
-    slice-aggregate-joined-ends-with-l
-    sub-joined-ends-with-l
-    part-joined-ends-with-l-start
-    part-joined-ends-with-l-end
-    joined-ends-with-l-requires
+    slice-aggregate-ends-with-l
+    sub-ends-with-l
+    part-ends-with-l-start
+    part-ends-with-l-end
+    ends-with-l-requires
     add-k
     add-n
     loop-less

@@ -1,4 +1,4 @@
--- `records::last_start` meets its contract: no byte from i on is a CR.
+-- `records::last::last_start` meets its contract: no byte from i on is a CR.
 -- Assumes nothing.
 use borrow.Author.Needs.{needs}
 use native.Mathlib.Omega.{arith}
@@ -9,8 +9,8 @@ use lib.ListN.{length, drop, drop-of-length-le}
 use Rattle.memory.specs.Tests.{all}
 use Rattle.records.specs.Records.{isNotCr}
 use Rattle.records.proofs.LastRecord.{scan-stop, scan-on, start-zero}
-use Rattle.records.proofs.last_start.Statement.{statement}
-use Rattle.records.proofs.last_start.Tie as tie
+use Rattle.records.proofs.last.last_start.Statement.{statement}
+use Rattle.records.proofs.last.last_start.Tie as tie
 
 abbrev Inv-loop : tie.InvT-loop
 Inv-loop text i₀ i = (i ≤ length text) × (all isNotCr (drop i text) ≡ true)
