@@ -67,7 +67,7 @@ returns-2 : tie.Need-returns-2
 returns-2 c = settled-as (c .before .enum-told2 .given .1) (record { line = c .opened .ensures; texts = refl; frames = refl })
 
 returns-3 : tie.Need-returns-3
-returns-3 c = settled-as (c .before .enum-told3 .given .1) (record { line = c .fresh .ensures; texts = refl; frames = refl })
+returns-3 c = settled-as (c .before .enum-told3 .given .1) (record { line = c .closed .ensures; texts = refl; frames = refl })
 
 returns-4 : tie.Need-returns-4
 returns-4 c = settled-as (c .before .enum-told4 .given .1) (record { line = c .begun .ensures; texts = refl; frames = refl })
