@@ -14,11 +14,11 @@ use Rattle.memory.specs.Sizes.{lines}
 use Rattle.memory.specs.Tests.{unless}
 use Rattle.journal.specs.Storage.{grown, appended}
 use Rattle.journal.specs.declared.Ledger.{Ledger}
-use Rattle.line.specs.Line.{withinLimits, freshLine, openedLine, waitingLine}
+use Rattle.line.specs.Line.{withinLimits, waitingLine}
 use Rattle.line.specs.declared.Line.{Line}
 use Rattle.line.specs.declared.Answer.{Answer}
 use Rattle.line.specs.declared.Answer.the-variants.{Nothing, Stored, NoLine}
-use Rattle.line.proofs.Limits.{Within, within-facts, within-of, fresh-within, opened-within, begun-within, collected-within, counted-within, waiting-within, accepted-within, refusing-within}
+use Rattle.line.proofs.Limits.{Within, within-facts, within-of, opened-within, closed-within, begun-within, collected-within, counted-within, waiting-within, accepted-within, refusing-within}
 use Rattle.looking.specs.Views.{framesOf, textsOf, joinedText}
 use Rattle.looking.specs.Looks.{lookOf}
 use Rattle.receiving.specs.Verdicts.{ownWork, verdictOf}
@@ -126,8 +126,8 @@ module _ (shares : List ℕ) (l : Line) (d : Ledger) (e : Event) (m : Memory) wh
 
   pub line-within : (v : Verdict) → Within l → Fitting v l → Within (lineAfter v l)
   line-within (Left a) w t = w
-  line-within Opens w t = within-facts openedLine opened-within
-  line-within (Closes a) w t = within-facts freshLine fresh-within
+  line-within Opens w t = opened-within l w
+  line-within (Closes a) w t = closed-within l w
   line-within Begins w t = begun-within l w
   line-within (Counts n) w t = counted-within l w n t
   line-within Collects w t = collected-within l w (l .collected + 1) (omega arith)

@@ -1,3 +1,4 @@
 pub mod Paper
 pub mod Limits
+pub mod Closed
 pub mod Turns

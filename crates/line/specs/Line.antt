@@ -10,9 +10,9 @@ use Rattle.line.specs.declared.State.the-variants.{Neutral, Waiting, Ins
 use Rattle.line.specs.declared.Last.{Last}
 use Rattle.line.specs.declared.Last.the-variants.{NoneYet, Number}
 
--- a frame is judged at the last byte of the limit at the latest, and STX is not collected
-abbrev pub mostCollected : ℕ
-mostCollected = frameLimit - 2
+-- a frame is judged at the last byte of its line's limit at the latest, and STX is not collected; today every line has the same limit
+unfoldable pub mostCollected : Line → ℕ
+mostCollected l = frameLimit - 2
 
 -- at 30 seconds the line turns neutral
 abbrev pub mostSeconds : ℕ
@@ -22,9 +22,12 @@ mostSeconds = 29
 abbrev pub freshLine : Line
 freshLine = record { state = Neutral; collected = 0; joined = 0; seconds = 0; next = 1; last = NoneYet; refusing = false }
 
--- the same, waiting
-abbrev pub openedLine : Line
-openedLine = record { state = Waiting; collected = 0; joined = 0; seconds = 0; next = 1; last = NoneYet; refusing = false }
+-- where a transfer is opened, and where it is over: what the old record had of a transfer is gone
+abbrev pub openedLine : Line → Line
+openedLine l = record { state = Waiting; collected = 0; joined = 0; seconds = 0; next = 1; last = NoneYet; refusing = false }
+
+abbrev pub closedLine : Line → Line
+closedLine l = record { state = Neutral; collected = 0; joined = 0; seconds = 0; next = 1; last = NoneYet; refusing = false }
 
 abbrev pub lastWithin : Last → Bool
 lastWithin NoneYet = true
@@ -33,7 +36,7 @@ lastWithin (Number n) = leb n mostNumber
 -- collected up to 245, joined up to 4,000, seconds up to 29, numbers up to 7
 unfoldable pub withinLimits : Line → Bool
 withinLimits l =
-    leb (l .collected) mostCollected && (leb (l .joined) messageLimit && (leb (l .seconds) mostSeconds && (leb (l .next) mostNumber && lastWithin (l .last))))
+    leb (l .collected) (mostCollected l) && (leb (l .joined) messageLimit && (leb (l .seconds) mostSeconds && (leb (l .next) mostNumber && lastWithin (l .last))))
 
 -- STX: inside, and nothing else
 abbrev pub begunLine : Line → Line

@@ -1,6 +1,6 @@
 // The record of a serial line, what an event makes of it by value, and the answers of document 01.
 ghost use mathlib.Core.Path.{_≡_};
-ghost use Rattle.line.specs.Line.{freshLine, openedLine, withinLimits, begunLine, collectedLine, countedLine, waitingLine, acceptedLine, refusingLine};
+ghost use Rattle.line.specs.Line.{freshLine, openedLine, closedLine, withinLimits, begunLine, collectedLine, countedLine, waitingLine, acceptedLine, refusingLine};
 ghost use Rattle.line.specs.Seconds.{passedOf};
 ghost use Rattle.line.specs.Turn.{isLast, turnOf};
 ghost use Rattle.line.specs.Paper.{numberOf, replyOf};
@@ -105,7 +105,7 @@ impl Line {
         ensures { λ r. ⌜ r ≡ freshLine ⌝ }
     {
         Line {
-            state: State::Neutral,
+            state: State::Neutral, // no transfer has begun
             collected: 0,
             joined: 0,
             seconds: 0,
@@ -115,9 +115,9 @@ impl Line {
         }
     }
 
-    // A line whose transfer has just been opened.
-    pub fn opened() -> Line
-        ensures { λ r. ⌜ r ≡ openedLine ⌝ }
+    // What ENQ leaves: the line waits for the first frame, whatever it held before.
+    pub fn opened(self) -> Line
+        ensures { λ r. ⌜ r ≡ openedLine self ⌝ }
     {
         Line {
             state: State::Waiting,
@@ -125,6 +125,21 @@ impl Line {
             joined: 0,
             seconds: 0,
             next: 1, // a transfer's frames count from 1
+            last: Last::NoneYet,
+            refusing: false,
+        }
+    }
+
+    // What the end of a transfer leaves, by EOT or by time.
+    pub fn closed(self) -> Line
+        ensures { λ r. ⌜ r ≡ closedLine self ⌝ }
+    {
+        Line {
+            state: State::Neutral, // the transfer is over
+            collected: 0,
+            joined: 0,
+            seconds: 0,
+            next: 1,
             last: Last::NoneYet,
             refusing: false,
         }

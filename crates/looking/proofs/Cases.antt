@@ -50,7 +50,7 @@ pub record Cases (P : Look → Type 0) (l : Line) : Type 0 where
   pub timed-out : P (Done (Closes TimedOut))
   pub begins : P (Done Begins)
   pub counts : (n : ℕ) → n ≤ mostSeconds → P (Done (Counts n))
-  pub collects : l .collected < mostCollected → P (Done Collects)
+  pub collects : l .collected < mostCollected l → P (Done Collects)
   pub unended : P (Done (Refuses Unended))
   pub torn : P (Done (Refuses Torn))
   pub unchecked : P (Done (Refuses WrongCheck))
@@ -109,13 +109,13 @@ module _ (P : Look → Type 0) (l : Line) (c : Cases P l) where
     by-frame b = by-shape b (shapeOf frameLimit (frameBytes l b f)) refl
 
     -- inside and not judged: there is room for one byte more
-    by-room : (t : Bool) (x : Look) → eqb (l .collected) mostCollected ≡ t → P x → P (cond t x (Done Collects))
+    by-room : (t : Bool) (x : Look) → eqb (l .collected) (mostCollected l) ≡ t → P x → P (cond t x (Done Collects))
     by-room true x e p = p
-    by-room false x e p = c .collects (omega (arith, within-facts l (own .within), eqb-false (l .collected) mostCollected e))
+    by-room false x e p = c .collects (omega (arith, within-facts l (own .within), eqb-false (l .collected) (mostCollected l) e))
 
     by-inside : (b : ℕ) → P (insideLook l b t f)
     unfolding insideLook
-    by-inside b = by-test (is lf b) _ _ (by-frame b) (by-room (eqb (l .collected) mostCollected) (frameLook l b t f) refl (by-frame b))
+    by-inside b = by-test (is lf b) _ _ (by-frame b) (by-room (eqb (l .collected) (mostCollected l)) (frameLook l b t f) refl (by-frame b))
 
     by-neutral : (b : ℕ) → P (neutralLook b)
     unfolding neutralLook

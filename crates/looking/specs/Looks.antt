@@ -72,11 +72,11 @@ waitingLook l b =
     (cond (is eot b) (Done (Closes (cond (eqb (l .joined) 0) Ended Dropped)))
     (cond (is enq b) (Done (Left Busy)) (Done (Left Nothing))))
 
--- a frame is judged at its first LF, or at the last byte of the limit
+-- a frame is judged at its first LF, or at the last byte of its line's limit
 unfoldable pub insideLook : Line → ℕ → List ℕ → List ℕ → Look
 insideLook l b texts frames =
     cond (is lf b) (frameLook l b texts frames)
-    (cond (eqb (l .collected) mostCollected) (frameLook l b texts frames) (Done Collects))
+    (cond (eqb (l .collected) (mostCollected l)) (frameLook l b texts frames) (Done Collects))
 
 abbrev pub byState : {A : Type 0} → State → A → A → A → A
 byState Neutral neutral waiting inside = neutral

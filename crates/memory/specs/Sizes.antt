@@ -1,6 +1,6 @@
 -- The sizes that document 01 fixes, each named once.
 -- Assumes nothing.
-use Prim.Native.Nat.{ℕ, _*_, _-_}
+use Prim.Native.Nat.{ℕ, _*_}
 
 -- the serial lines, numbered from 0
 abbrev pub lines : ℕ
@@ -18,9 +18,9 @@ frameLimit = 247
 abbrev pub journalSize : ℕ
 journalSize = 32768
 
--- a line's part of the frames: a frame without its STX
+-- a line's part of the frames: the longest frame that a line may take, without its STX
 abbrev pub framePart : ℕ
-framePart = frameLimit - 1
+framePart = 246
 
 -- the frames and the unfinished texts of all lines
 abbrev pub framesSize : ℕ

@@ -16,7 +16,7 @@ pub const FRAME_LIMIT: usize = 247;
 
 pub const JOURNAL_SIZE: usize = 32768;
 
-pub const FRAME_PART: usize = FRAME_LIMIT - 1;
+pub const FRAME_PART: usize = 246;
 
 pub const FRAMES_SIZE: usize = LINES * FRAME_PART;
 

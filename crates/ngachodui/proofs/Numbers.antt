@@ -15,13 +15,13 @@ use Rattle.memory.proofs.Tests.{and-left, and-right}
 use Rattle.digits.specs.Number.{mostNumber}
 use Rattle.line.specs.Line.{mostCollected, mostSeconds, lastWithin, withinLimits, collectedLine}
 use Rattle.line.specs.declared.Last.the-variants.{Number}
-use Rattle.line.proofs.Limits.{within-of}
+use Rattle.line.proofs.Limits.{collected-fits, within-of}
 use Rattle.line.specs.declared.Line.{Line}
 use Rattle.ngachodui.specs.Plain.{inside, start, firstAt, numberAt, stateOf, stateNumber, lastOf, lastNumber, flag, withinNumbers, lineOf, withLine, ledgerOf, withSerial, withUsed}
 
 pub record WithinNumbers (ns : List ℕ) (i : ℕ) : Type 0 where
   pub state : firstAt ns i ≤ inside
-  pub collected : numberAt ns i 1 ≤ mostCollected
+  pub collected : numberAt ns i 1 ≤ mostCollected (lineOf ns i)
   pub joined : numberAt ns i 2 ≤ messageLimit
   pub seconds : numberAt ns i 3 ≤ mostSeconds
   pub next : numberAt ns i 4 ≤ mostNumber
@@ -33,13 +33,13 @@ module _ (ns : List ℕ) (i : ℕ) where
   unfolding withinNumbers
   numbers-facts e =
       let rest₁ = and-right (leb (firstAt ns i) inside) _ e in
-      let rest₂ = and-right (leb (numberAt ns i 1) mostCollected) _ rest₁ in
+      let rest₂ = and-right (leb (numberAt ns i 1) (mostCollected (lineOf ns i))) _ rest₁ in
       let rest₃ = and-right (leb (numberAt ns i 2) messageLimit) _ rest₂ in
       let rest₄ = and-right (leb (numberAt ns i 3) mostSeconds) _ rest₃ in
       let rest₅ = and-right (leb (numberAt ns i 4) mostNumber) _ rest₄ in
       record {
         state = leb-true _ _ (and-left (leb (firstAt ns i) inside) _ e);
-        collected = leb-true _ _ (and-left (leb (numberAt ns i 1) mostCollected) _ rest₁);
+        collected = leb-true _ _ (and-left (leb (numberAt ns i 1) (mostCollected (lineOf ns i))) _ rest₁);
         joined = leb-true _ _ (and-left (leb (numberAt ns i 2) messageLimit) _ rest₂);
         seconds = leb-true _ _ (and-left (leb (numberAt ns i 3) mostSeconds) _ rest₃);
         next = leb-true _ _ (and-left (leb (numberAt ns i 4) mostNumber) _ rest₄);
@@ -76,7 +76,7 @@ last-fits (suc n) h = le-leb n mostNumber (omega arith)
 pub told-within : (ns : List ℕ) (i : ℕ) → withinNumbers ns i ≡ true → withinLimits (lineOf ns i) ≡ true
 told-within ns i e =
     let w = numbers-facts ns i e in
-    within-of (lineOf ns i) (record { collected = w .collected; joined = w .joined; seconds = w .seconds; next = w .next; last = last-fits (numberAt ns i 5) (w .last) })
+    within-of (lineOf ns i) (record { collected = w .collected; most = collected-fits (lineOf ns i); joined = w .joined; seconds = w .seconds; next = w .next; last = last-fits (numberAt ns i 5) (w .last) })
 
 -- seven stores are the numbers with another record
 pub put-line : (ns : List ℕ) (i : ℕ) (l : Line) (s t r : ℕ) → s ≡ stateNumber (l .state) → t ≡ lastNumber (l .last) → r ≡ flag (l .refusing)

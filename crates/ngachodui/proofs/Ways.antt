@@ -113,14 +113,14 @@ module _ (ns : List ℕ) (i b : ℕ) (q : quick ns i b ≡ true) where
   unfolding onlyCollects
   is-inside =
       let only = and-left (onlyCollects ns i b) (withinNumbers ns i) q in
-      rw (eqb-true (firstAt ns i) inside (and-left (eqb (firstAt ns i) inside) (not (is lf b) && not (eqb (numberAt ns i 1) mostCollected)) only))
+      rw (eqb-true (firstAt ns i) inside (and-left (eqb (firstAt ns i) inside) (not (is lf b) && not (eqb (numberAt ns i 1) (mostCollected (lineOf ns i)))) only))
 
-  no-end : (is lf b ≡ false) × (eqb (numberAt ns i 1) mostCollected ≡ false)
+  no-end : (is lf b ≡ false) × (eqb (numberAt ns i 1) (mostCollected (lineOf ns i)) ≡ false)
   unfolding onlyCollects
   no-end =
       let only = and-left (onlyCollects ns i b) (withinNumbers ns i) q in
-      let rest = and-right (eqb (firstAt ns i) inside) (not (is lf b) && not (eqb (numberAt ns i 1) mostCollected)) only in
-      (not-true _ (and-left (not (is lf b)) (not (eqb (numberAt ns i 1) mostCollected)) rest), not-true _ (and-right (not (is lf b)) (not (eqb (numberAt ns i 1) mostCollected)) rest))
+      let rest = and-right (eqb (firstAt ns i) inside) (not (is lf b) && not (eqb (numberAt ns i 1) (mostCollected (lineOf ns i)))) only in
+      (not-true _ (and-left (not (is lf b)) (not (eqb (numberAt ns i 1) (mostCollected (lineOf ns i)))) rest), not-true _ (and-right (not (is lf b)) (not (eqb (numberAt ns i 1) (mostCollected (lineOf ns i)))) rest))
 
 module _ (ns us : List ℕ) (i b : ℕ) (j u f : List ℕ) (h : i < lines) (s : rightLengths (length j) (length u) (length f) ≡ true) (q : quick ns i b ≡ true) where
   abbrev here : Event
@@ -131,7 +131,7 @@ module _ (ns us : List ℕ) (i b : ℕ) (j u f : List ℕ) (h : i < lines) (s : 
 
   verdict : verdictOf todaysShares (lineOf ns i) (ledgerOf ns us) here j u f ≡ Collects
   unfolding verdictOf ownWork byteLook insideLook
-  verdict = rw (lt-ltb i lines h, s, told-within ns i within, is-inside ns i b q, no-end ns i b q .0, no-end ns i b q .1)
+  verdict = rw (lt-ltb i lines h, s, told-within ns i within, no-end ns i b q .0, no-end ns i b q .1, is-inside ns i b q)
 
   collects : stepOf todaysShares (lineOf ns i) (ledgerOf ns us) here (memoryOf j u f) ≡ settle Collects (lineOf ns i) (ledgerOf ns us) here (memoryOf j u f)
   unfolding stepOf

@@ -85,25 +85,7 @@ lastNumber (Number n) = n + 1
 abbrev pub flag : Bool → ℕ
 flag b = cond b 1 0
 
--- a line's first seven numbers are those of a record within its limits; the eighth, a serial, may be any
-unfoldable pub withinNumbers : List ℕ → ℕ → Bool
-withinNumbers ns i =
-    leb (firstAt ns i) inside && (leb (numberAt ns i collectedAt) mostCollected && (leb (numberAt ns i joinedAt) messageLimit && (leb (numberAt ns i secondsAt) mostSeconds
-    && (leb (numberAt ns i nextAt) mostNumber && (leb (numberAt ns i lastAt) (mostNumber + 1) && leb (numberAt ns i refusingAt) 1)))))
-
--- inside a frame that this byte does not end: it is only collected
-unfoldable pub onlyCollects : List ℕ → ℕ → ℕ → Bool
-onlyCollects ns i b = eqb (firstAt ns i) inside && (not (is lf b) && not (eqb (numberAt ns i collectedAt) mostCollected))
-
--- and nothing else stands against it: its line's numbers are within their limits
-abbrev pub quick : List ℕ → ℕ → ℕ → Bool
-quick ns i b = onlyCollects ns i b && withinNumbers ns i
-
--- then it has one more collected
-abbrev pub oneMore : List ℕ → ℕ → List ℕ
-oneMore ns i = set ns (start i + collectedAt) (numberAt ns i collectedAt + 1)
-
--- the record that they tell
+-- the record that a line's first seven numbers tell
 abbrev pub lineOf : List ℕ → ℕ → Line
 lineOf ns i = record {
   state = stateOf (firstAt ns i);
@@ -114,6 +96,24 @@ lineOf ns i = record {
   last = lastOf (numberAt ns i lastAt);
   refusing = eqb (numberAt ns i refusingAt) 1;
 }
+
+-- they are those of a record within its limits; the eighth, a serial, may be any
+unfoldable pub withinNumbers : List ℕ → ℕ → Bool
+withinNumbers ns i =
+    leb (firstAt ns i) inside && (leb (numberAt ns i collectedAt) (mostCollected (lineOf ns i)) && (leb (numberAt ns i joinedAt) messageLimit && (leb (numberAt ns i secondsAt) mostSeconds
+    && (leb (numberAt ns i nextAt) mostNumber && (leb (numberAt ns i lastAt) (mostNumber + 1) && leb (numberAt ns i refusingAt) 1)))))
+
+-- inside a frame that this byte does not end: it is only collected
+unfoldable pub onlyCollects : List ℕ → ℕ → ℕ → Bool
+onlyCollects ns i b = eqb (firstAt ns i) inside && (not (is lf b) && not (eqb (numberAt ns i collectedAt) (mostCollected (lineOf ns i))))
+
+-- and nothing else stands against it: its line's numbers are within their limits
+abbrev pub quick : List ℕ → ℕ → ℕ → Bool
+quick ns i b = onlyCollects ns i b && withinNumbers ns i
+
+-- then it has one more collected
+abbrev pub oneMore : List ℕ → ℕ → List ℕ
+oneMore ns i = set ns (start i + collectedAt) (numberAt ns i collectedAt + 1)
 
 -- the numbers with another record of line i
 unfoldable pub withLine : List ℕ → ℕ → Line → List ℕ

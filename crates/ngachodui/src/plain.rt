@@ -96,7 +96,7 @@ pub fn is_quick(numbers: &[u16; NUMBERS], i: usize, byte: u8) -> bool
 
 // The byte behind those collected, and one more collected.
 pub fn collect(i: usize, byte: u8, numbers: &mut [u16; NUMBERS], frames: &mut [u8])
-    requires { ⌜ (i < lines) × (numberAt (now numbers) i 1 ≤ mostCollected) × (length (now frames) ≡ framesSize) ⌝ }
+    requires { ⌜ (i < lines) × (numberAt (now numbers) i 1 ≤ mostCollected (lineOf (now numbers) i)) × (length (now frames) ≡ framesSize) ⌝ }
     ensures { λ _. ⌜ (now (numbers .exit) ≡ oneMore (now (numbers .entry)) i) × (now (frames .exit) ≡ set (now (frames .entry)) (frameStart i + numberAt (now (numbers .entry)) i 1) byte) ⌝ }
 {
     let at = i * FIELDS + COLLECTED;

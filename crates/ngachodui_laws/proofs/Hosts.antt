@@ -15,6 +15,7 @@ use Rattle.room.specs.Room.{todaysShares}
 use Rattle.journal.specs.Removal.{AfterTaking, takeOf as takeEntry}
 use Rattle.journal.specs.declared.Took.{Took}
 use Rattle.journal.specs.declared.Took.the-variants.{Taken as Got, NothingWaiting, BufferShort, BrokenJournal, NoSuchLine, WrongSize as OtherSize}
+use Rattle.line.specs.Line.{mostCollected}
 use Rattle.line.specs.Paper.{replyOf}
 use Rattle.line.specs.declared.Answer.{Answer}
 use Rattle.line.specs.declared.Answer.the-variants.{WrongSize}
@@ -155,7 +156,7 @@ module _ (ns us : List ℕ) (o : Ordered ns us) (i : ℕ) (j b : List ℕ) where
 
 -- fresh numbers tell the fresh gateway, and are in order
 fresh-within : (k : ℕ) → k < lines → withinNumbers (freshNumbers lines) k ≡ true
-unfolding withinNumbers
+unfolding withinNumbers mostCollected
 fresh-within zero h = refl
 fresh-within (suc zero) h = refl
 fresh-within (suc (suc zero)) h = refl

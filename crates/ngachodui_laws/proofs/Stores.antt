@@ -151,6 +151,7 @@ module _ (ns : List ℕ) (i : ℕ) (l : Line) (d : Ledger) where
     within-own h =
         let w = within-facts l h in
         rw (
+          line-own,
           first-own ns i l d room,
           number-own ns i l d room 1 (omega arith),
           number-own ns i l d room 2 (omega arith),

@@ -137,13 +137,13 @@ module _ (i : ℕ) (j : Store) (l : Line) (texts : List ℕ) where
   begins frames = refl
 
   -- a byte is collected
-  pub collects : (b c : ℕ) (frames : List ℕ) → c < mostCollected → is lf b ≡ false
+  pub collects : (b c : ℕ) (frames : List ℕ) → c < mostCollected l → is lf b ≡ false
       → onEvent i (inside c frames) (Byte b) j ≡ (unanswered b, inside (c + 1) (splice frames c (b ∷ [])), j)
-  unfolding ownWork byteLook insideLook
-  collects b c frames h n = rw (n, ne-eqb c mostCollected (λ e. absurd (omega (arith, e))))
+  unfolding ownWork byteLook insideLook mostCollected
+  collects b c frames h n = rw (n, ne-eqb c (mostCollected l) (λ e. absurd (omega (arith, e))))
 
   -- and so are bytes of which none is LF
-  pub collected-all : (bs : List ℕ) (c : ℕ) (frames : List ℕ) → all notLf bs ≡ true → c + length bs ≤ mostCollected → c + length bs ≤ length frames
+  pub collected-all : (bs : List ℕ) (c : ℕ) (frames : List ℕ) → all notLf bs ≡ true → c + length bs ≤ mostCollected l → c + length bs ≤ length frames
       → feed i (inside c frames) j bs ≡ (map unanswered bs, inside (c + length bs) (splice frames c bs), j)
   collected-all [] c frames n h s = λ z. ([], inside (zero-more c z) ((sym (splice-nil frames c)) z), j)
     where
@@ -166,6 +166,11 @@ module _ (i : ℕ) (j : Store) (l : Line) (texts : List ℕ) where
 
     fits : 0 + length (early number end text) ≤ length frames
     fits = omega (arith, usable, long number end text)
+
+    -- no more comes before its LF than the line collects
+    few : 0 + length (early number end text) ≤ mostCollected l
+    unfolding mostCollected
+    few = omega (arith, usable, long number end text)
 
     all-held : part held 0 (length (early number end text)) ≡ early number end text
     all-held = part-splice frames 0 (early number end text) fits
@@ -198,7 +203,7 @@ module _ (i : ℕ) (j : Store) (l : Line) (texts : List ℕ) where
     sent kind new next most =
         let n = length (early number end text) in
         let opened = begins frames in
-        let all-of-it = collected-all (early number end text) 0 frames (early-clear number end text clean) (omega (arith, usable, long number end text)) fits in
+        let all-of-it = collected-all (early number end text) 0 frames (early-clear number end text clean) few fits in
         let from-none : 0 + n ≡ n = omega arith in
         let look = judged kind new next most in
         ap (λ (bs : List ℕ). feed i (ready frames) j (stx ∷ bs)) (spelt number end text)

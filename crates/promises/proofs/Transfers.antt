@@ -16,10 +16,11 @@ use Rattle.faults.specs.Faults.{isMessage}
 use Rattle.faults.proofs.Messages.{message-some, message-short}
 use Rattle.cutting.specs.Pieces.{Piece, piecesOf}
 use Rattle.cutting.specs.Frames.{firstNumber, framesFrom, cutOf}
-use Rattle.line.specs.Line.{freshLine, openedLine}
+use Rattle.line.specs.Line.{freshLine, openedLine, closedLine}
 use Rattle.line.specs.Paper.{enq, eot}
 use Rattle.line.specs.declared.Line.{Line}
 use Rattle.line.specs.declared.Answer.the-variants.{Opened, Ended}
+use Rattle.line.proofs.Closed.{closed-fresh}
 use Rattle.header.specs.Header.{entrySize}
 use Rattle.header.specs.Entry.{Entry}
 use Rattle.room.specs.Room.{todaysShares, fits, raised}
@@ -106,18 +107,18 @@ went-on s i bs cs ts us ms ns P Q x y =
 -- ---- ENQ, the frames of a message, EOT
 
 opens : (i : ℕ) (texts frames : List ℕ) (j : Store)
-    → onEvent i (record { line = freshLine; texts = texts; frames = frames }) (Byte enq) j ≡ (told Opened [], record { line = openedLine; texts = texts; frames = frames }, j)
+    → onEvent i (record { line = freshLine; texts = texts; frames = frames }) (Byte enq) j ≡ (told Opened [], record { line = openedLine freshLine; texts = texts; frames = frames }, j)
 unfolding ownWork byteLook neutralLook
 opens i texts frames j = refl
 
 closes : (i : ℕ) (l : Line) (texts frames : List ℕ) (j : Store) → l .joined ≡ 0
-    → onEvent i (ready i j l texts frames) (Byte eot) j ≡ (told Ended [], record { line = freshLine; texts = texts; frames = frames }, j)
+    → onEvent i (ready i j l texts frames) (Byte eot) j ≡ (told Ended [], record { line = closedLine (ready i j l texts frames .line); texts = texts; frames = frames }, j)
 unfolding ownWork byteLook waitingLook
 closes i l texts frames j h = rw h
 
 -- where a line opens a transfer, it is open for frame 1
-opened-open : Open firstNumber openedLine
-opened-open = record { waits = refl; joined = refl; refusing = refl; new = refl; next = refl; low = omega arith }
+opened-open : (l : Line) → Open firstNumber (openedLine l)
+opened-open l = record { waits = refl; joined = refl; refusing = refl; new = refl; next = refl; low = omega arith }
 
 module _ (limit : ℕ) (usable : Usable limit) (i : ℕ) (h : i < lines) where
   -- one byte, by the line's parts
@@ -138,7 +139,7 @@ module _ (limit : ℕ) (usable : Usable limit) (i : ℕ) (h : i < lines) where
       let texts = partsOf s i .texts in
       let frames = partsOf s i .frames in
       let is = ap (λ (l : Line). onEvent i (record { line = l; texts = texts; frames = frames }) (Byte enq) (storeOf s)) fresh ∙ opens i texts frames (storeOf s) in
-      one-byte s enq (told Opened []) (record { line = openedLine; texts = texts; frames = frames }) (Open firstNumber) w is opened-open
+      one-byte s enq (told Opened []) (record { line = openedLine freshLine; texts = texts; frames = frames }) (Open firstNumber) w is (opened-open freshLine)
 
   closing : (s : State) (number : ℕ) → Sound s → Open number (lineAt (s .gateway) i) → Went s i (eot ∷ []) (told Ended [] ∷ []) [] (λ (l : Line). l ≡ freshLine)
   closing s number w o =
@@ -147,7 +148,8 @@ module _ (limit : ℕ) (usable : Usable limit) (i : ℕ) (h : i < lines) where
       let is =
       ap (λ (l : Line). onEvent i (record { line = l; texts = texts; frames = frames }) (Byte eot) (storeOf s)) (o .waits)
       ∙ closes i (lineAt (s .gateway) i) texts frames (storeOf s) (o .joined) in
-      one-byte s eot (told Ended []) (record { line = freshLine; texts = texts; frames = frames }) (λ (l : Line). l ≡ freshLine) w is refl
+      let old = ready i (storeOf s) (lineAt (s .gateway) i) texts frames .line in
+      one-byte s eot (told Ended []) (record { line = closedLine old; texts = texts; frames = frames }) (λ (l : Line). l ≡ freshLine) w is (closed-fresh old)
 
   module _ (s : State) (w : Sound s) (number : ℕ) (o : Open number (lineAt (s .gateway) i)) (m : List ℕ) (message : isMessage standard m ≡ true)
       (room : fits todaysShares (raised (s .gateway .ledger .used) i (entrySize (length m))) ≡ true) where

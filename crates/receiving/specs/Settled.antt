@@ -7,7 +7,7 @@ use lib.ListN.{length, set}
 use Rattle.memory.specs.Parts.{splice}
 use Rattle.journal.specs.Storage.{grown, appended}
 use Rattle.journal.specs.declared.Ledger.{Ledger}
-use Rattle.line.specs.Line.{freshLine, openedLine, begunLine, collectedLine, countedLine, waitingLine, acceptedLine, refusingLine}
+use Rattle.line.specs.Line.{openedLine, closedLine, begunLine, collectedLine, countedLine, waitingLine, acceptedLine, refusingLine}
 use Rattle.line.specs.declared.Line.{Line}
 use Rattle.looking.specs.Views.{frameStart, textStart, framesOf, frameText}
 use Rattle.looking.specs.declared.Kind.{Kind}
@@ -19,8 +19,8 @@ use Rattle.looking.specs.declared.Verdict.the-variants.{Left, Opens, Closes, Be
 -- 2 and 4 advance the number, 30 and 31 make it refuse; the joined count grows after 2 and is 0 after the others
 abbrev pub lineAfter : Verdict → Line → Line
 lineAfter (Left a) l = l
-lineAfter Opens l = openedLine
-lineAfter (Closes a) l = freshLine
+lineAfter Opens l = openedLine l
+lineAfter (Closes a) l = closedLine l
 lineAfter Begins l = begunLine l
 lineAfter (Counts n) l = countedLine l n
 lineAfter Collects l = collectedLine l (l .collected + 1)

@@ -25,8 +25,8 @@ pub fn settle(
 {
     match v {
         Verdict::Left(_) => line,
-        Verdict::Opens => Line::opened(),
-        Verdict::Closes(_) => Line::fresh(),
+        Verdict::Opens => line.opened(),
+        Verdict::Closes(_) => line.closed(),
         Verdict::Begins => line.begun(),
         Verdict::Counts(n) => line.with_seconds(n),
         Verdict::Collects => {

@@ -2,20 +2,21 @@
 -- Assumes nothing.
 use borrow.Author.Needs.{needs}
 use Rattle.memory.proofs.Told.{told}
+use Rattle.line.specs.Line.{mostCollected}
 use Rattle.ngachodui.specs.Plain.{onlyCollects}
 use Rattle.ngachodui.proofs.plain.collects.Statement.{statement}
 use Rattle.ngachodui.proofs.plain.collects.Tie as tie
 
 returns : tie.Need-returns
-unfolding onlyCollects
+unfolding onlyCollects mostCollected
 returns c = search told
 
 returns-2 : tie.Need-returns-2
-unfolding onlyCollects
+unfolding onlyCollects mostCollected
 returns-2 c = search told
 
 returns-3 : tie.Need-returns-3
-unfolding onlyCollects
+unfolding onlyCollects mostCollected
 returns-3 c = search told
 
 pub collects-spec : {M : Type 1} → statement M

@@ -3,6 +3,7 @@
 use borrow.Author.Needs.{needs}
 use mathlib.Core.Path.{refl}
 use native.Mathlib.Omega.{arith}
+use Rattle.line.proofs.Limits.{collected-fits}
 use Rattle.receiving.proofs.Rows.{settled-as, fitting-as, ready-as}
 use Rattle.receiving.proofs.settling.settle.Statement.{statement}
 use Rattle.receiving.proofs.settling.settle.Tie as tie
@@ -27,7 +28,7 @@ add-byte-requires : tie.Need-add-byte-requires
 add-byte-requires c κs = let at = c .before in let r = ready-as (at .enum-told5 .given .1) refl (collecting at .pre) in (r .line, r .within, r .bytes)
 
 add-with-collected : tie.Need-add-with-collected
-add-with-collected c = let at = c .before .before .before .before .before in omega (arith, fitting-as (collecting at .args .line) (at .enum-told5 .given .1) (collecting at .pre .0))
+add-with-collected c = let at = c .before .before .before .before .before in omega (arith, collected-fits (collecting at .args .line), fitting-as (collecting at .args .line) (at .enum-told5 .given .1) (collecting at .pre .0))
 
 add-byte-requires-2 : tie.Need-add-byte-requires-2
 add-byte-requires-2 c κs = let at = c .before in let r = ready-as (at .enum-told6 .given .1) refl (refusing at .pre) in (r .line, r .within, r .bytes)
@@ -67,7 +68,7 @@ returns-2 : tie.Need-returns-2
 returns-2 c = settled-as (c .before .enum-told2 .given .1) (record { line = c .opened .ensures; texts = refl; frames = refl })
 
 returns-3 : tie.Need-returns-3
-returns-3 c = settled-as (c .before .enum-told3 .given .1) (record { line = c .fresh .ensures; texts = refl; frames = refl })
+returns-3 c = settled-as (c .before .enum-told3 .given .1) (record { line = c .closed .ensures; texts = refl; frames = refl })
 
 returns-4 : tie.Need-returns-4
 returns-4 c = settled-as (c .before .enum-told4 .given .1) (record { line = c .begun .ensures; texts = refl; frames = refl })
