@@ -5,7 +5,6 @@ use mathlib.Core.Bool.{Bool, true, false, cond}
 use mathlib.Core.List.{List}
 use Prim.Native.Nat.{ℕ}
 use lib.ListN.{length}
-use Rattle.kinds.specs.Delimiters.{standard}
 use Rattle.faults.specs.Faults.{isMessage}
 use Rattle.journal.specs.Verdicts.{judgeOf}
 use Rattle.journal.specs.declared.Ledger.{Ledger}
@@ -76,7 +75,7 @@ module _ (shares : List ℕ) (l : Line) (d : Ledger) (e : Event) (j u f : List �
   decided-proper texts frames (Done v) p = p
   decided-proper texts frames (Decides n) p =
       let text = joinedText l n texts frames in
-      verdict-by-test (isMessage standard text) _ _ (room-proper (judgeOf d shares (e .line) (length text) j) n) refl
+      verdict-by-test (isMessage text) _ _ (room-proper (judgeOf d shares (e .line) (length text) j) n) refl
 
   work-proper : Ready l (e .line) u f → Proper (workOf shares l d e j u f)
   unfolding ownWork

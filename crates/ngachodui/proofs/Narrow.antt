@@ -10,7 +10,6 @@ use lib.Dec.{ltb, leb, eqb}
 use lib.ListN.{length}
 use Rattle.memory.specs.Sizes.{lines, journalSize}
 use Rattle.memory.specs.Tests.{unless}
-use Rattle.kinds.specs.Delimiters.{standard}
 use Rattle.faults.specs.Faults.{isMessage}
 use Rattle.header.specs.Entry.{Entry}
 use Rattle.journal.specs.Entries.{sizes, before, from}
@@ -66,7 +65,7 @@ module _ (d : Ledger) (i : ℕ) (j : List ℕ) (w : Narrow d) where
 
     decision-narrow : Narrow (ledgerAfter (decisionOf todaysShares d i n (text n) j) d i text)
     unfolding decisionOf
-    decision-narrow = by-message (isMessage standard (text n))
+    decision-narrow = by-message (isMessage (text n))
       where
         by-message : (b : Bool) → Narrow (ledgerAfter (unless b (Against NoMessage n) (roomVerdict (judgeOf d todaysShares i (length (text n)) j) n)) d i text)
         by-message true = room-narrow (judgeOf d todaysShares i (length (text n)) j) refl

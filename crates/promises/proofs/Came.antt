@@ -9,7 +9,6 @@ use lib.Dec.{eqb}
 use lib.ListN.{length}
 use Rattle.memory.specs.Sizes.{lines}
 use Rattle.memory.proofs.Tests.{clash}
-use Rattle.kinds.specs.Delimiters.{standard}
 use Rattle.faults.specs.Faults.{isMessage}
 use Rattle.faults.proofs.Messages.{message-some, message-short}
 use Rattle.room.specs.Room.{todaysShares}
@@ -128,29 +127,29 @@ module _ (s : State) (w : Sound s) (i : ℕ) (k : Kind) (line : i < lines) where
       left = store-is v of;
     }
 
-    no-message : isMessage standard text ≡ false → work s w i k line ≡ Against NoMessage n
+    no-message : isMessage text ≡ false → work s w i k line ≡ Against NoMessage n
     unfolding decisionOf
     no-message m = work-is (Decides n) is ∙ rw m
 
-    module _ (m : isMessage standard text ≡ true) where
+    module _ (m : isMessage text ≡ true) where
       judged : (room : Bool) → hasSpace s i (length text) ≡ room → work s w i k line ≡ roomVerdict (cond room Fits Full) n
       unfolding decisionOf
       judged room has =
           let d = s .gateway .ledger in
           work-is (Decides n) is
-          ∙ rw (m, ← (held-judged todaysShares d i text (s .memory .journal) (w .entries) (w .held) line (message-some standard text m) (message-short standard text m) room has))
+          ∙ rw (m, ← (held-judged todaysShares d i text (s .memory .journal) (w .entries) (w .held) line (message-some _ text m) (message-short _ text m) room has))
 
       by-space : (room : Bool) → hasSpace s i (length text) ≡ room → Came s i k
       by-space true has = stored text m has (settles (Stores n) (judged true has) refl (λ c. c ≡ 4) refl)
       by-space false has = crowded text m has (settles (Against NoRoom n) (judged false has) refl (λ c. c ≡ 31) refl)
 
-    by-message : (b : Bool) → isMessage standard text ≡ b → Came s i k
+    by-message : (b : Bool) → isMessage text ≡ b → Came s i k
     by-message true m = by-space m (hasSpace s i (length text)) refl
     by-message false m = against text m (settles (Against NoMessage n) (no-message m) refl (λ c. isObjection c ≡ true) refl)
 
   by-look : (x : Look) → look ≡ x → LookFits x (own .line) → Harmless x → Came s i k
   by-look (Done v) is fits plain = quiet (passes v is fits plain)
-  by-look (Decides n) is fits plain = by-message n is (isMessage standard (text n is)) refl
+  by-look (Decides n) is fits plain = by-message n is (isMessage (text n is)) refl
 
   pub comes-to : Came s i k
   comes-to =

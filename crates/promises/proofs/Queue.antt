@@ -9,7 +9,6 @@ use native.Mathlib.Omega.{arith}
 use lib.Dec.{eqb}
 use lib.ListN.{length}
 use Rattle.memory.specs.Sizes.{lines}
-use Rattle.kinds.specs.Delimiters.{standard}
 use Rattle.faults.specs.Faults.{isMessage}
 use Rattle.faults.proofs.Messages.{message-some, message-short}
 use Rattle.journal.specs.Answers.{isFits}
@@ -85,9 +84,9 @@ module _ (s : State) (w : Sound s) (i : ℕ) (k : Kind) (h : i < lines) where
   no-operation other kept = record { operation = none; store = kept; entering = λ l. rw other (not-stored (eqb i l) (completed s i k)); leaving = λ l. refl }
 
   -- a message with room for it is stored there: the journal's answer is 4 too
-  module _ (t : List ℕ) (m : isMessage standard t ≡ true) (room : hasSpace s i (length t) ≡ true) (x : Settles s i k t (λ n. n ≡ 4) (storedIn i t (storeOf s))) where
+  module _ (t : List ℕ) (m : isMessage t ≡ true) (room : hasSpace s i (length t) ≡ true) (x : Settles s i k t (λ n. n ≡ 4) (storedIn i t (storeOf s))) where
     in-journal : storeEntry (s .gateway .ledger) todaysShares i t (s .memory .journal) ≡ afterStoring (grown (s .gateway .ledger) i (length t)) Fits (appended (s .gateway .ledger) i t (s .memory .journal))
-    in-journal = store-fits todaysShares (s .gateway .ledger) i t (s .memory .journal) (w .entries) (w .held) h (message-some standard t m) (message-short standard t m) room .is
+    in-journal = store-fits todaysShares (s .gateway .ledger) i t (s .memory .journal) (w .entries) (w .held) h (message-some _ t m) (message-short _ t m) room .is
 
     stores : Does s (came i k)
     stores = record {

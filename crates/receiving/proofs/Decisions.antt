@@ -5,7 +5,6 @@ use mathlib.Core.Bool.{true, false}
 use mathlib.Core.List.{List}
 use Prim.Native.Nat.{ℕ}
 use lib.ListN.{length}
-use Rattle.kinds.specs.Delimiters.{standard}
 use Rattle.faults.specs.Faults.{isMessage}
 use Rattle.room.specs.Room.{todaysShares}
 use Rattle.journal.specs.Verdicts.{judgeOf}
@@ -34,15 +33,15 @@ room-row OtherSize d i n text j = (refl, refl, refl)
 room-row NoText d i n text j = (refl, refl, refl)
 
 module _ (d : Ledger) (i n : ℕ) (text j : List ℕ) where
-  pub no-message : isMessage standard text ≡ false → Decision d i n text j (record { verdict = Against NoMessage n; ledger = d }) j
+  pub no-message : isMessage text ≡ false → Decision d i n text j (record { verdict = Against NoMessage n; ledger = d }) j
   unfolding decisionOf
   no-message e = record { verdict = rw e; ledger = rw e; journal = rw e }
 
-  is-room : isMessage standard text ≡ true → decisionOf todaysShares d i n text j ≡ roomVerdict (judgeOf d todaysShares i (length text) j) n
+  is-room : isMessage text ≡ true → decisionOf todaysShares d i n text j ≡ roomVerdict (judgeOf d todaysShares i (length text) j) n
   unfolding decisionOf
   is-room e = rw e
 
-  pub by-store : (s : Storing) (v : Verdict) (j′ : List ℕ) → isMessage standard text ≡ true → Stored d todaysShares i text j s j′ → v ≡ roomVerdict (s .answer) n
+  pub by-store : (s : Storing) (v : Verdict) (j′ : List ℕ) → isMessage text ≡ true → Stored d todaysShares i text j s j′ → v ≡ roomVerdict (s .answer) n
       → Decision d i n text j (record { verdict = v; ledger = s .ledger }) j′
   unfolding storeOf
   by-store s v j′ e st w =

@@ -5,7 +5,6 @@ use mathlib.Core.Bool.{Bool, true, false, cond}
 use mathlib.Core.List.{List}
 use Prim.Native.Nat.{ℕ}
 use lib.ListN.{length}
-use Rattle.kinds.specs.Delimiters.{standard}
 use Rattle.faults.specs.Faults.{isMessage}
 use Rattle.journal.specs.Verdicts.{judgeOf}
 use Rattle.journal.specs.declared.Ledger.{Ledger}
@@ -43,7 +42,7 @@ room-fits l NoText n t = t
 
 pub decision-fits : (l : Line) (shares : List ℕ) (d : Ledger) (i n : ℕ) (text j : List ℕ) → TextFits l n → Fitting (decisionOf shares d i n text j) l
 unfolding decisionOf
-decision-fits l shares d i n text j t = by-message (isMessage standard text)
+decision-fits l shares d i n text j t = by-message (isMessage text)
   where
     by-message : (b : Bool) → Fitting (cond b (roomVerdict (judgeOf d shares i (length text) j) n) (Against NoMessage n)) l
     by-message true = room-fits l (judgeOf d shares i (length text) j) n t

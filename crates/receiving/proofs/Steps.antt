@@ -11,7 +11,6 @@ use lib.Dec.{ltb, leb}
 use Rattle.memory.specs.Sizes.{lines, messageLimit}
 use Rattle.memory.specs.Tests.{unless}
 use Rattle.memory.proofs.Tests.{and-left, and-right}
-use Rattle.kinds.specs.Delimiters.{standard}
 use Rattle.faults.specs.Faults.{isMessage}
 use Rattle.room.specs.Room.{todaysShares}
 use Rattle.journal.specs.Verdicts.{judgeOf}
@@ -59,7 +58,7 @@ decision-text : (shares : List ℕ) (d : Ledger) (i n : ℕ) (text : ℕ → Lis
     → (ledgerAfter (decisionOf shares d i n (text n) j) d i (λ m. text n) ≡ ledgerAfter (decisionOf shares d i n (text n) j) d i text)
     × (journalAfter (decisionOf shares d i n (text n) j) d i (λ m. text n) j ≡ journalAfter (decisionOf shares d i n (text n) j) d i text j)
 unfolding decisionOf
-decision-text shares d i n text j = by-message (isMessage standard (text n)) (judgeOf d shares i (length (text n)) j)
+decision-text shares d i n text j = by-message (isMessage (text n)) (judgeOf d shares i (length (text n)) j)
   where
     by-message : (b : Bool) (q : Judgement)
         → (ledgerAfter (cond b (roomVerdict q n) (Against NoMessage n)) d i (λ m. text n) ≡ ledgerAfter (cond b (roomVerdict q n) (Against NoMessage n)) d i text)

@@ -6,7 +6,6 @@ use lib.ListN.{length}
 use lib.Dec.{ltb}
 use Rattle.memory.specs.Sizes.{lines}
 use Rattle.memory.specs.Tests.{unless}
-use Rattle.kinds.specs.Delimiters.{standard}
 use Rattle.faults.specs.Faults.{isMessage}
 use Rattle.journal.specs.Verdicts.{judgeOf}
 use Rattle.journal.specs.declared.Ledger.{Ledger}
@@ -37,7 +36,7 @@ roomVerdict NoText n = Against NoMessage n
 -- a complete text: 30, then the journal
 unfoldable pub decisionOf : List ℕ → Ledger → ℕ → ℕ → List ℕ → List ℕ → Verdict
 decisionOf shares d i n text journal =
-    unless (isMessage standard text) (Against NoMessage n) (roomVerdict (judgeOf d shares i (length text) journal) n)
+    unless (isMessage text) (Against NoMessage n) (roomVerdict (judgeOf d shares i (length text) journal) n)
 
 abbrev pub decided : Look → List ℕ → Line → Ledger → ℕ → List ℕ → List ℕ → List ℕ → Verdict
 decided (Done v) shares l d i journal texts frames = v
