@@ -77,7 +77,7 @@ isFaultless (Faulty f place) = false
 abbrev pub isMessageBy : Delimiters → List ℕ → Bool
 isMessageBy d text = isFaultless (fault d text)
 
--- the first fault of a text, by the delimiters in force: today the standard ones
+-- what is wrong with a text first, read by the delimiters in force: today the standard ones
 abbrev pub faultOf : List ℕ → Checked
 faultOf text = fault standard text
 

@@ -28,14 +28,14 @@ use Rattle.journal.proofs.Wholes.{kept}
 use Rattle.line.specs.Line.{withinLimits}
 use Rattle.line.specs.declared.Line.{Line}
 use Rattle.looking.specs.Views.{framesOf, textsOf, joinedText}
-use Rattle.receiving.specs.Verdicts.{roomVerdict, decisionOf}
+use Rattle.receiving.specs.Verdicts.{objectionTo, roomVerdict, decisionOf}
 use Rattle.looking.specs.Lent.{rightSizes}
 use Rattle.receiving.specs.Settled.{ledgerAfter}
 use Rattle.receiving.specs.Steps.{Memory}
 use Rattle.receiving.specs.Alone.{textFits, completed, completionOf, decideOf}
 use Rattle.looking.specs.declared.Event.{Event}
 use Rattle.looking.specs.declared.Verdict.the-variants.{Left, Against}
-use Rattle.line.specs.declared.Answer.the-variants.{NoMessage, NoLine, WrongSize, BeyondLimits}
+use Rattle.line.specs.declared.Answer.the-variants.{NoLine, WrongSize, BeyondLimits}
 
 -- d's bytes in use fit into 32 bits
 abbrev pub Narrow : Ledger → Type 0
@@ -67,7 +67,7 @@ module _ (d : Ledger) (i : ℕ) (j : List ℕ) (w : Narrow d) where
     unfolding decisionOf
     decision-narrow = by-message (isMessage (text n))
       where
-        by-message : (b : Bool) → Narrow (ledgerAfter (unless b (Against NoMessage n) (roomVerdict (judgeOf d todaysShares i (length (text n)) j) n)) d i text)
+        by-message : (b : Bool) → Narrow (ledgerAfter (unless b (Against (objectionTo (text n)) n) (roomVerdict (judgeOf d todaysShares i (length (text n)) j) n)) d i text)
         by-message true = room-narrow (judgeOf d todaysShares i (length (text n)) j) refl
         by-message false = w
 

@@ -13,12 +13,18 @@ use Rattle.journal.specs.declared.Ledger.{Ledger}
 use Rattle.journal.specs.declared.Storing.{Storing}
 use Rattle.journal.specs.declared.Verdict.{Verdict as Judgement}
 use Rattle.journal.specs.declared.Verdict.the-variants.{Fits, NoRoom as Full, Broken as Damaged, NoLine as Nowhere, OtherSize, NoText}
-use Rattle.line.specs.declared.Answer.the-variants.{NoMessage}
-use Rattle.receiving.specs.Verdicts.{roomVerdict, decisionOf}
+use Rattle.line.specs.Paper.{numberOf, isObjection}
+use Rattle.line.specs.declared.Answer.{Answer}
+use Rattle.receiving.specs.Verdicts.{objectionTo, roomVerdict, decisionOf}
 use Rattle.receiving.specs.Settled.{ledgerAfter, journalAfter}
 use Rattle.receiving.specs.Decided.{Decision}
 use Rattle.looking.specs.declared.Verdict.{Verdict}
 use Rattle.looking.specs.declared.Verdict.the-variants.{Against}
+
+-- the answer to a text that is no message has the number of an objection
+pub objection-number : (text : List ℕ) → isObjection (numberOf (objectionTo text)) ≡ true
+unfolding objectionTo
+objection-number text = refl
 
 -- what the journal's storing leaves is the row of the verdict that its answer comes to
 pub room-row : (q : Judgement) (d : Ledger) (i n : ℕ) (text j : List ℕ)
@@ -33,9 +39,12 @@ room-row OtherSize d i n text j = (refl, refl, refl)
 room-row NoText d i n text j = (refl, refl, refl)
 
 module _ (d : Ledger) (i n : ℕ) (text j : List ℕ) where
-  pub no-message : isMessage text ≡ false → Decision d i n text j (record { verdict = Against NoMessage n; ledger = d }) j
+  is-objection : isMessage text ≡ false → decisionOf todaysShares d i n text j ≡ Against (objectionTo text) n
   unfolding decisionOf
-  no-message e = record { verdict = rw e; ledger = rw e; journal = rw e }
+  is-objection e = rw e
+
+  pub no-message : (a : Answer) → a ≡ objectionTo text → isMessage text ≡ false → Decision d i n text j (record { verdict = Against a n; ledger = d }) j
+  no-message a of e = record { verdict = rw (of, is-objection e); ledger = rw (is-objection e); journal = rw (is-objection e) }
 
   is-room : isMessage text ≡ true → decisionOf todaysShares d i n text j ≡ roomVerdict (judgeOf d todaysShares i (length text) j) n
   unfolding decisionOf
