@@ -17,7 +17,6 @@ use Rattle.frame.specs.Writing.{frameOf, putIn, FramePut}
 use Rattle.frame.specs.declared.End.{End}
 use Rattle.frame.specs.declared.Written.{Written}
 use Rattle.frame.proofs.Put.{length-collected}
-use Rattle.kinds.specs.Delimiters.{standard}
 use Rattle.faults.specs.Faults.{isMessage}
 use Rattle.records.proofs.Scans.{tailAt, rest-part}
 use Rattle.cutting.specs.Pieces.{Piece, piecesOf, bytesOf}
@@ -129,6 +128,6 @@ pub limit-small : (limit : ℕ) (text : List ℕ) → limit ≤ aroundText → i
 unfolding isCuttable
 limit-small limit text h = rw (le-ltb aroundText limit h)
 
-pub by-message : (limit : ℕ) (text : List ℕ) → aroundText < limit → {b : Bool} → isMessage standard text ≡ b → isCuttable limit text ≡ b
+pub by-message : (limit : ℕ) (text : List ℕ) → aroundText < limit → {b : Bool} → isMessage text ≡ b → isCuttable limit text ≡ b
 unfolding isCuttable
 by-message limit text h e = rw (lt-ltb aroundText limit h) e

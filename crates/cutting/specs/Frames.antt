@@ -12,7 +12,6 @@ use Rattle.memory.specs.Tests.{unless}
 use Rattle.digits.specs.Number.{nextNumber}
 use Rattle.frame.specs.Shape.{aroundText}
 use Rattle.frame.specs.Writing.{frameOf}
-use Rattle.kinds.specs.Delimiters.{standard}
 use Rattle.faults.specs.Faults.{isMessage}
 use Rattle.cutting.specs.Pieces.{Piece, piecesOf}
 use Rattle.cutting.specs.declared.Framed.{Framed}
@@ -33,7 +32,7 @@ cutOf limit text = framesFrom firstNumber (piecesOf limit text)
 
 -- the text is a message, and the limit leaves room for a byte of it in a frame
 unfoldable pub isCuttable : ℕ → List ℕ → Bool
-isCuttable limit text = ltb aroundText limit && isMessage standard text
+isCuttable limit text = ltb aroundText limit && isMessage text
 
 abbrev pub holds : List ℕ → List ℕ → Bool
 holds out bs = leb (length bs) (length out)

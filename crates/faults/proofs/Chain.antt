@@ -9,7 +9,7 @@ use lib.ListN.{getD}
 use Rattle.kinds.specs.Kinds.{letterOf, kindOf, mayFollow}
 use Rattle.records.specs.Records.{records, none}
 use Rattle.sequence.specs.Numbers.{counted}
-use Rattle.faults.specs.Faults.{recordStep, headerStep, restFault, recordsFault, isFaultless, isMessage}
+use Rattle.faults.specs.Faults.{recordStep, headerStep, restFault, recordsFault, isFaultless, isMessageBy}
 use Rattle.kinds.specs.declared.Delimiters.{Delimiters}
 use Rattle.sequence.specs.declared.Counts.{Counts}
 use Rattle.kinds.specs.declared.Letter.the-variants.{Known}
@@ -73,5 +73,5 @@ chained d (r ∷ rs) h =
       chain = rw begun at (chain-rest d (p .next) 2 rs (p .rest));
     }
 
-pub message-chained : (d : Delimiters) (m : List ℕ) → isMessage d m ≡ true → Chained (records m)
+pub message-chained : (d : Delimiters) (m : List ℕ) → isMessageBy d m ≡ true → Chained (records m)
 message-chained d m h = chained d (records m) (sound d m h .right)

@@ -17,7 +17,7 @@ use Rattle.kinds.specs.Header.{isHeader}
 use Rattle.records.specs.Fields.{before, fieldOf}
 use Rattle.records.specs.Records.{records, joined, none, isNotCr, endsWithCr, beginsWithL, endsWithL}
 use Rattle.sequence.specs.Numbers.{numberOf, started, countOf, counted}
-use Rattle.faults.specs.Faults.{placed, kindStep, recordStep, headerStep, after, restFault, recordsFault, fault, isFaultless, isMessage}
+use Rattle.faults.specs.Faults.{placed, kindStep, recordStep, headerStep, after, restFault, recordsFault, fault, isFaultless, isMessageBy}
 use Rattle.kinds.specs.declared.Delimiters.{Delimiters}
 use Rattle.sequence.specs.declared.Counts.{Counts}
 use Rattle.kinds.specs.declared.Kind.{Kind}
@@ -49,7 +49,7 @@ tests true false true f g n k x h = (refl, refl, refl, h)
 tests true false false f g n k x h = let z : _≡_ {A = ℕ} 0 1 = cc in absurd (omega arith)
 tests false b e f g n k x h = let z : _≡_ {A = ℕ} 0 1 = cc in absurd (omega arith)
 
-pub sound : (d : Delimiters) (m : List ℕ) → isMessage d m ≡ true → Sound d m
+pub sound : (d : Delimiters) (m : List ℕ) → isMessageBy d m ≡ true → Sound d m
 unfolding fault
 sound d m h =
     let (text, some, ended, right) =
@@ -184,7 +184,7 @@ ending r (x ∷ rs) =
     let e = ending x rs in
     record { front = r ∷ e .front; last = e .last; whole = ap (λ (l : List (List ℕ)). r ∷ l) (e .whole) }
 
-module _ (d : Delimiters) (m : List ℕ) (h : isMessage d m ≡ true) where
+module _ (d : Delimiters) (m : List ℕ) (h : isMessageBy d m ≡ true) where
   -- a message is not empty, at most the limit long, of allowed bytes, and ends with CR
   pub message-some : 0 < length m
   message-some = sound d m h .some

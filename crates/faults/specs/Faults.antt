@@ -10,6 +10,7 @@ use Rattle.memory.specs.Tests.{unless, all}
 use Rattle.characters.specs.Allowed.{allowed}
 use Rattle.kinds.specs.Kinds.{typeOf, mayFollow, isTerminator}
 use Rattle.kinds.specs.Header.{isHeader}
+use Rattle.kinds.specs.Delimiters.{standard}
 use Rattle.records.specs.Fields.{fieldOf}
 use Rattle.records.specs.Records.{records, none, endsWithCr}
 use Rattle.sequence.specs.Numbers.{numberOf, started, countOf, counted}
@@ -72,8 +73,17 @@ isFaultless Message = true
 isFaultless NotText = false
 isFaultless (Faulty f place) = false
 
-abbrev pub isMessage : Delimiters → List ℕ → Bool
-isMessage d text = isFaultless (fault d text)
+-- a text is a message by these delimiters
+abbrev pub isMessageBy : Delimiters → List ℕ → Bool
+isMessageBy d text = isFaultless (fault d text)
+
+-- what is wrong with a text first, read by the delimiters in force: today the standard ones
+abbrev pub faultOf : List ℕ → Checked
+faultOf text = fault standard text
+
+-- a text is a message: no fault by the delimiters in force
+abbrev pub isMessage : List ℕ → Bool
+isMessage text = isMessageBy standard text
 
 -- the number of a fault's kind in document 02, request [1]
 abbrev pub faultNumber : Fault → ℕ

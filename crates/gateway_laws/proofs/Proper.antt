@@ -5,7 +5,6 @@ use mathlib.Core.Bool.{Bool, true, false, cond}
 use mathlib.Core.List.{List}
 use Prim.Native.Nat.{ℕ}
 use lib.ListN.{length}
-use Rattle.kinds.specs.Delimiters.{standard}
 use Rattle.faults.specs.Faults.{isMessage}
 use Rattle.journal.specs.Verdicts.{judgeOf}
 use Rattle.journal.specs.declared.Ledger.{Ledger}
@@ -14,7 +13,7 @@ use Rattle.journal.specs.declared.Verdict.the-variants.{Fits, NoRoom as Full, B
 use Rattle.line.specs.declared.Line.{Line}
 use Rattle.looking.specs.Views.{framesOf, textsOf, joinedText, Ready}
 use Rattle.looking.specs.Looks.{lookOf}
-use Rattle.receiving.specs.Verdicts.{roomVerdict, decisionOf, decided, ownWork, workOf, verdictOf}
+use Rattle.receiving.specs.Verdicts.{objectionTo, roomVerdict, decisionOf, decided, ownWork, workOf, verdictOf}
 use Rattle.looking.specs.Answers.{answerOf}
 use Rattle.looking.specs.declared.Event.{Event}
 use Rattle.looking.specs.declared.Look.{Look}
@@ -23,7 +22,7 @@ use Rattle.looking.specs.declared.Verdict.{Verdict}
 use Rattle.looking.specs.declared.Verdict.the-variants.{Left}
 use Rattle.looking.proofs.Views.{own-parts}
 use Rattle.looking.proofs.Cases.{Cases, every-look}
-use Rattle.gateway_laws.specs.Classes.{classOf, verdictClass}
+use Rattle.gateway_laws.specs.Classes.{against, classOf, verdictClass}
 use Rattle.gateway_laws.proofs.Found.{Found, refused, worked, verdict-found}
 
 abbrev pub Proper : Verdict → Type 0
@@ -66,6 +65,11 @@ room-proper Nowhere n = refl
 room-proper OtherSize n = refl
 room-proper NoText n = refl
 
+-- the answer to a text that is no message decides against it
+pub objection-against : (text : List ℕ) → classOf (objectionTo text) ≡ against
+unfolding objectionTo
+objection-against text = refl
+
 verdict-by-test : (t : Bool) (x y : Verdict) → Proper x → Proper y → Proper (cond t x y)
 verdict-by-test true x y p q = p
 verdict-by-test false x y p q = q
@@ -76,7 +80,7 @@ module _ (shares : List ℕ) (l : Line) (d : Ledger) (e : Event) (j u f : List �
   decided-proper texts frames (Done v) p = p
   decided-proper texts frames (Decides n) p =
       let text = joinedText l n texts frames in
-      verdict-by-test (isMessage standard text) _ _ (room-proper (judgeOf d shares (e .line) (length text) j) n) refl
+      verdict-by-test (isMessage text) _ _ (room-proper (judgeOf d shares (e .line) (length text) j) n) (objection-against text)
 
   work-proper : Ready l (e .line) u f → Proper (workOf shares l d e j u f)
   unfolding ownWork

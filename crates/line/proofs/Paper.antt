@@ -1,15 +1,18 @@
--- The list of all answers: the paper's number and values tell the answer, and what a test finds of each in the list it finds of every answer.
+-- The list of all answers: the paper's number and values tell the answer, and what a test finds of each in the list it finds of every answer; and what holds of every objection's number.
 -- Assumes nothing.
-use mathlib.Core.Path.{_≡_, refl, sym, ap, ap₂, _∙_}
+use mathlib.Core.Path.{_≡_, refl, sym, ap, ap₂, subst, _∙_}
 use mathlib.Core.Bool.{Bool, true, false, cond, _&&_}
 use mathlib.Core.List.{List, [], _∷_}
 use mathlib.Core.Option.{Option, none, some}
 use Prim.Native.Nat.{ℕ}
+use borrow.Author.Tests.{eqb-true}
 use lib.Dec.{eqb}
 use lib.ListN.{getD}
+use Rattle.memory.specs.Tests.{between}
 use Rattle.memory.proofs.Tests.{clash, and-left, and-right}
-use Rattle.line.specs.Paper.{numberOf, valuesOf}
+use Rattle.line.specs.Paper.{numberOf, valuesOf, nak, replyOf, isObjection}
 use Rattle.line.specs.declared.Answer.{Answer}
+use Rattle.line.specs.declared.Reply.the-variants.{Byte}
 use Rattle.line.specs.declared.Answer.the-variants.{Nothing, Opened, Accepted, Repeated, Stored, Ended, Dropped, TimedOut, Taken, Busy, Unended, Torn, WrongCheck, BadText, BadNumber, Refusing, OutOfTurn, TooLong, NoCr, NoMessage, NoRoom, NoLine, WrongSize, BeyondLimits, Broken, NothingWaiting, BufferShort, Malformed, NotFitting}
 
 -- all answers: those that carry values carry these
@@ -108,3 +111,14 @@ pub paper-injective : (a b : Answer) → numberOf a ≡ numberOf b → valuesOf 
 paper-injective a b n v =
     let same : some a ≡ some b = sym (told a) ∙ ap₂ (λ (m : ℕ) (vs : List ℕ). first m (answers vs)) n v ∙ told b in
     cc same
+
+-- an objection gets NAK; it is not 4, which stores, nor 31, which is for want of room, nor 41 to 43, which tell of memory, a record or a journal
+pub record Plain (n : ℕ) : Type 0 where
+  pub refused : replyOf n ≡ Byte nak
+  pub not-4 : eqb n 4 ≡ false
+  pub not-31 : eqb n 31 ≡ false
+  pub no-fault : between 41 43 n ≡ false
+
+pub objection-plain : (n : ℕ) → isObjection n ≡ true → Plain n
+unfolding replyOf
+objection-plain n e = subst Plain (sym (eqb-true n 30 e)) (record { refused = refl; not-4 = refl; not-31 = refl; no-fault = refl })

@@ -4,13 +4,12 @@ use mathlib.Core.Path.{_≡_, sym, _∙_}
 use mathlib.Core.Bool.{Bool}
 use mathlib.Core.List.{List}
 use Prim.Native.Nat.{ℕ}
-use Rattle.kinds.specs.Delimiters.{standard}
 use Rattle.kinds.specs.declared.Delimiters.{Delimiters}
-use Rattle.faults.specs.Faults.{isMessage}
+use Rattle.faults.specs.Faults.{isMessage, isMessageBy}
 
 -- `is_message_by` and, at the standard delimiters, `is_message`
-pub message-once : (d : Delimiters) (text : List ℕ) {r q : Bool} → r ≡ isMessage d text → q ≡ isMessage d text → r ≡ q
+pub message-once : (d : Delimiters) (text : List ℕ) {r q : Bool} → r ≡ isMessageBy d text → q ≡ isMessageBy d text → r ≡ q
 message-once d text a b = a ∙ sym b
 
-pub standard-message-once : (text : List ℕ) {r q : Bool} → r ≡ isMessage standard text → q ≡ isMessage standard text → r ≡ q
-standard-message-once text a b = message-once standard text a b
+pub standard-message-once : (text : List ℕ) {r q : Bool} → r ≡ isMessage text → q ≡ isMessage text → r ≡ q
+standard-message-once text a b = a ∙ sym b

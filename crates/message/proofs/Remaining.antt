@@ -19,7 +19,7 @@ use Rattle.kinds.specs.Header.{isHeader}
 use Rattle.records.specs.Fields.{before, behind, fieldOf}
 use Rattle.records.specs.Records.{records, endsWithCr}
 use Rattle.sequence.specs.Numbers.{numberOf, started, countOf, counted}
-use Rattle.faults.specs.Faults.{kindStep, recordStep, headerStep, after, restFault, recordsFault, fault, isFaultless, isMessage}
+use Rattle.faults.specs.Faults.{kindStep, recordStep, headerStep, after, restFault, recordsFault, fault, isFaultless, isMessageBy}
 use Rattle.message.specs.Rest.{breaks, fineAnd, goOn, rightRest}
 use Rattle.kinds.specs.declared.Delimiters.{Delimiters}
 use Rattle.sequence.specs.declared.Counts.{Counts}
@@ -113,7 +113,7 @@ header-ordinary d text h e =
 
 -- a text within the limit that ends with CR, cut at its first CR
 module _ (d : Delimiters) (text : List ℕ) (short : length text ≤ messageLimit) (some : 0 < length text) (ends : endsWithCr text ≡ true) where
-  by-records : isMessage d text ≡ all allowed text && isFaultless (recordsFault d (records text))
+  by-records : isMessageBy d text ≡ all allowed text && isFaultless (recordsFault d (records text))
   unfolding fault
   by-records = rw (le-leb (length text) messageLimit short, ne-eqb (length text) 0 (λ z. omega arith), ends) (by-clean (all allowed text))
     where
@@ -121,16 +121,16 @@ module _ (d : Delimiters) (text : List ℕ) (short : length text ≤ messageLimi
       by-clean true = refl
       by-clean false = refl
 
-  whole : isMessage d text ≡ all allowed text && (isHeader d (before cr text) && goOn d started (records (behind cr text)))
+  whole : isMessageBy d text ≡ all allowed text && (isHeader d (before cr text) && goOn d started (records (behind cr text)))
   whole =
       by-records
       ∙ ap (λ (rs : List (List ℕ)). all allowed text && isFaultless (recordsFault d rs)) (records-cons text some)
       ∙ ap (λ (b : Bool). all allowed text && b) (records-right d (before cr text) (records (behind cr text)))
 
-  pub headless : isHeader d (before cr text) ≡ false → isMessage d text ≡ false
+  pub headless : isHeader d (before cr text) ≡ false → isMessageBy d text ≡ false
   headless h = whole ∙ rw h (and-not-right (all allowed text) false refl)
 
-  pub header-passed : isHeader d (before cr text) ≡ true → all allowed (before cr text) ≡ true → rightRest d started (behind cr text) ≡ isMessage d text
+  pub header-passed : isHeader d (before cr text) ≡ true → all allowed (before cr text) ≡ true → rightRest d started (behind cr text) ≡ isMessageBy d text
   unfolding rightRest
   header-passed h a = sym (whole ∙ rw (h, all-parts text, a))
 

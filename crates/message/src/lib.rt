@@ -1,7 +1,6 @@
 // Whether a text is a message, in one walk that asks for no fault and no place.
 ghost use mathlib.Core.Path.{_≡_};
-ghost use Rattle.kinds.specs.Delimiters.{standard};
-ghost use Rattle.faults.specs.Faults.{isMessage};
+ghost use Rattle.faults.specs.Faults.{isMessage, isMessageBy};
 use characters::CR;
 use kinds::Delimiters;
 
@@ -9,7 +8,7 @@ mod whole; // whole.rt: the records behind the header, to the first fault
 
 // Whether a text is a message by these delimiters: the walk ends at the first fault, whatever it is.
 pub fn is_message_by(d: Delimiters, text: &[u8]) -> bool
-    ensures { λ r. ⌜ r ≡ isMessage d (now (text .entry)) ⌝ }
+    ensures { λ r. ⌜ r ≡ isMessageBy d (now (text .entry)) ⌝ }
 {
     let n = text.len();
     if n == 0 {
@@ -34,7 +33,7 @@ pub fn is_message_by(d: Delimiters, text: &[u8]) -> bool
 
 // Whether a text is a message, by the delimiters | \ ^ &.
 pub fn is_message(text: &[u8]) -> bool
-    ensures { λ r. ⌜ r ≡ isMessage standard (now (text .entry)) ⌝ }
+    ensures { λ r. ⌜ r ≡ isMessage (now (text .entry)) ⌝ }
 {
     is_message_by(Delimiters::standard(), text)
 }

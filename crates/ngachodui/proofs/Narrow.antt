@@ -10,7 +10,6 @@ use lib.Dec.{ltb, leb, eqb}
 use lib.ListN.{length}
 use Rattle.memory.specs.Sizes.{lines, journalSize}
 use Rattle.memory.specs.Tests.{unless}
-use Rattle.kinds.specs.Delimiters.{standard}
 use Rattle.faults.specs.Faults.{isMessage}
 use Rattle.header.specs.Entry.{Entry}
 use Rattle.journal.specs.Entries.{sizes, before, from}
@@ -29,14 +28,14 @@ use Rattle.journal.proofs.Wholes.{kept}
 use Rattle.line.specs.Line.{withinLimits}
 use Rattle.line.specs.declared.Line.{Line}
 use Rattle.looking.specs.Views.{framesOf, textsOf, joinedText}
-use Rattle.receiving.specs.Verdicts.{roomVerdict, decisionOf}
+use Rattle.receiving.specs.Verdicts.{objectionTo, roomVerdict, decisionOf}
 use Rattle.looking.specs.Lent.{rightSizes}
 use Rattle.receiving.specs.Settled.{ledgerAfter}
 use Rattle.receiving.specs.Steps.{Memory}
 use Rattle.receiving.specs.Alone.{textFits, completed, completionOf, decideOf}
 use Rattle.looking.specs.declared.Event.{Event}
 use Rattle.looking.specs.declared.Verdict.the-variants.{Left, Against}
-use Rattle.line.specs.declared.Answer.the-variants.{NoMessage, NoLine, WrongSize, BeyondLimits}
+use Rattle.line.specs.declared.Answer.the-variants.{NoLine, WrongSize, BeyondLimits}
 
 -- d's bytes in use fit into 32 bits
 abbrev pub Narrow : Ledger → Type 0
@@ -66,9 +65,9 @@ module _ (d : Ledger) (i : ℕ) (j : List ℕ) (w : Narrow d) where
 
     decision-narrow : Narrow (ledgerAfter (decisionOf todaysShares d i n (text n) j) d i text)
     unfolding decisionOf
-    decision-narrow = by-message (isMessage standard (text n))
+    decision-narrow = by-message (isMessage (text n))
       where
-        by-message : (b : Bool) → Narrow (ledgerAfter (unless b (Against NoMessage n) (roomVerdict (judgeOf d todaysShares i (length (text n)) j) n)) d i text)
+        by-message : (b : Bool) → Narrow (ledgerAfter (unless b (Against (objectionTo (text n)) n) (roomVerdict (judgeOf d todaysShares i (length (text n)) j) n)) d i text)
         by-message true = room-narrow (judgeOf d todaysShares i (length (text n)) j) refl
         by-message false = w
 

@@ -1,6 +1,5 @@
 // Texts for hosts: cut, read, escaped and unescaped, with the standard delimiters and today's frame limit.
 ghost use mathlib.Core.Path.{_≡_};
-ghost use Rattle.kinds.specs.Delimiters.{standard};
 ghost use Rattle.faults.specs.Faults.{isMessage};
 ghost use Rattle.ngachodui.specs.Texts.{done, refusedWith, madeByCutting, madeByPutting, madeByReading, CutFrames, Escaped, Unescaped, RecordsRead};
 use component::Put;
@@ -73,7 +72,7 @@ pub extern "C" fn ngachodui_read(
 // Whether a text is a message.
 #[no_mangle]
 pub extern "C" fn ngachodui_is_message(text: &[u8]) -> bool
-    ensures { λ r. ⌜ r ≡ isMessage standard (now (text .entry)) ⌝ }
+    ensures { λ r. ⌜ r ≡ isMessage (now (text .entry)) ⌝ }
 {
     message::is_message(text)
 }

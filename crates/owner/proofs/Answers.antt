@@ -15,7 +15,7 @@ use Rattle.memory.proofs.Tests.{and-left, and-right}
 use Rattle.memory.proofs.Parts.{sets-splice}
 use Rattle.characters.specs.Control.{cr}
 use Rattle.records.specs.Records.{onto, records}
-use Rattle.faults.specs.Faults.{isMessage}
+use Rattle.faults.specs.Faults.{isMessageBy}
 use Rattle.kinds.specs.declared.Delimiters.{Delimiters}
 use Rattle.owner.specs.declared.Reading.the-variants.{Read, Malformed, NotFitting}
 use Rattle.owner.specs.Nearest.{nearestOwners}
@@ -72,15 +72,15 @@ room-all n a b c e h =
     )
 
 module _ (d : Delimiters) (text ts os ls ws : List ℕ) where
-  pub read-none : isMessage d text ≡ false → ReadAs d text ts os ls ws ts os ls ws Malformed
+  pub read-none : isMessageBy d text ≡ false → ReadAs d text ts os ls ws ts os ls ws Malformed
   unfolding readingOf
   read-none e = record { answer = rw e; types = refl; offsets = refl; lengths = refl; owners = refl }
 
-  pub read-short : isMessage d text ≡ true → roomFor (length (records text)) (length ts) (length os) (length ls) (length ws) ≡ false → ReadAs d text ts os ls ws ts os ls ws NotFitting
+  pub read-short : isMessageBy d text ≡ true → roomFor (length (records text)) (length ts) (length os) (length ls) (length ws) ≡ false → ReadAs d text ts os ls ws ts os ls ws NotFitting
   unfolding readingOf
   read-short e f = record { answer = rw (e, f); types = refl; offsets = refl; lengths = refl; owners = refl }
 
-  pub read-done : (ts′ os′ ls′ ws′ us : List ℕ) (n : ℕ) → n ≡ length (records text) → isMessage d text ≡ true
+  pub read-done : (ts′ os′ ls′ ws′ us : List ℕ) (n : ℕ) → n ≡ length (records text) → isMessageBy d text ≡ true
       → roomFor (length (records text)) (length ts) (length os) (length ls) (length ws) ≡ true
       → ts′ ≡ sets ts 0 (typesOf (records text)) → os′ ≡ sets os 0 (offsetsOf 0 (records text)) → ls′ ≡ sets ls 0 (lengthsOf (records text))
       → us ≡ take n ts′ → ws′ ≡ sets ws 0 (nearestOwners us) → ReadAs d text ts os ls ws ts′ os′ ls′ ws′ (Read n)
@@ -103,7 +103,7 @@ module _ (d : Delimiters) (text ts os ls ws : List ℕ) where
 pub read-fits : (d : Delimiters) (text : List ℕ) (a b c e n : ℕ) → readingOf d text a b c e ≡ Read n
     → (length (records text) ≤ a) × (length (records text) ≤ b) × (length (records text) ≤ c) × (length (records text) ≤ e)
 unfolding readingOf
-read-fits d text a b c e n h = room-all (length (records text)) a b c e (by-tests (isMessage d text) (roomFor (length (records text)) a b c e) h)
+read-fits d text a b c e n h = room-all (length (records text)) a b c e (by-tests (isMessageBy d text) (roomFor (length (records text)) a b c e) h)
   where
     by-tests : (m r : Bool) → unless m Malformed (unless r NotFitting (Read (length (records text)))) ≡ Read n → r ≡ true
     by-tests true true g = refl

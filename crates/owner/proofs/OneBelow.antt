@@ -14,7 +14,7 @@ use lib.Seq.{getD-drop, drop-drop}
 use Rattle.characters.specs.Control.{cr}
 use Rattle.kinds.specs.Kinds.{letterOf, kindOf, mayFollow}
 use Rattle.records.specs.Records.{records}
-use Rattle.faults.specs.Faults.{isMessage}
+use Rattle.faults.specs.Faults.{isMessageBy}
 use Rattle.kinds.specs.declared.Delimiters.{Delimiters}
 use Rattle.kinds.specs.declared.Letter.{Letter}
 use Rattle.kinds.specs.declared.Letter.the-variants.{Known}
@@ -130,7 +130,7 @@ chained : (r : List ℕ) (rs : List (List ℕ)) → getD r 0 0 ≡ letterOf Head
 unfolding ownersOf
 chained r rs h c k q = all-below (getD r 0 cr) (typesOf rs) (first-letter r Header (header-kind (getD r 0 0) h)) (follow-types Header rs c) k q
 
-pub one-below : (d : Delimiters) (m : List ℕ) → isMessage d m ≡ true → OneBelow (records m)
+pub one-below : (d : Delimiters) (m : List ℕ) → isMessageBy d m ≡ true → OneBelow (records m)
 one-below d m h =
     let c = message-chained d m h in
     subst OneBelow (sym (c .all)) (chained (c .first) (c .others) (c .is-header) (c .chain))

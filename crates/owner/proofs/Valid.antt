@@ -9,7 +9,7 @@ use lib.ListN.{length, getD}
 use Rattle.characters.specs.Control.{cr}
 use Rattle.kinds.specs.Kinds.{letterOf, kindOf, mayFollow}
 use Rattle.records.specs.Records.{records}
-use Rattle.faults.specs.Faults.{isMessage}
+use Rattle.faults.specs.Faults.{isMessageBy}
 use Rattle.kinds.specs.declared.Delimiters.{Delimiters}
 use Rattle.kinds.specs.declared.Letter.the-variants.{Known}
 use Rattle.kinds.specs.declared.Kind.{Kind}
@@ -61,7 +61,7 @@ owners-chained r rs h c =
     (λ j g. near-head (getD r 0 cr) (typesOf rs) (depthBy (Known j)) kind ∙ agree-head j g) (follow-types Header rs c) in
     rw kind (ap (λ (l : List ℕ). 0 ∷ l) on)
 
-pub owners-message : (d : Delimiters) (m : List ℕ) → isMessage d m ≡ true → nearestOwners (typesOf (records m)) ≡ ownersOf (records m)
+pub owners-message : (d : Delimiters) (m : List ℕ) → isMessageBy d m ≡ true → nearestOwners (typesOf (records m)) ≡ ownersOf (records m)
 owners-message d m h =
     let c = message-chained d m h in
     rw (c .all) (owners-chained (c .first) (c .others) (c .is-header) (c .chain))

@@ -9,7 +9,7 @@ use lib.ListN.{length}
 use Rattle.memory.specs.Tests.{unless}
 use Rattle.memory.specs.Parts.{splice}
 use Rattle.records.specs.Records.{records}
-use Rattle.faults.specs.Faults.{isMessage}
+use Rattle.faults.specs.Faults.{isMessageBy}
 use Rattle.kinds.specs.declared.Delimiters.{Delimiters}
 use Rattle.owner.specs.Owners.{typesOf, ownersOf}
 use Rattle.owner.specs.declared.Reading.{Reading}
@@ -31,7 +31,7 @@ roomFor n types offsets lengths owners = leb n types && leb n offsets && leb n l
 -- the answer: 46 for what is no message, then 47 where one of four memories of these lengths is too short, else the number of records
 unfoldable pub readingOf : Delimiters → List ℕ → ℕ → ℕ → ℕ → ℕ → Reading
 readingOf d text types offsets lengths owners =
-    unless (isMessage d text) Malformed
+    unless (isMessageBy d text) Malformed
     (unless (roomFor (length (records text)) types offsets lengths owners) NotFitting (Read (length (records text))))
 
 -- a memory after an answer: these numbers at its start and its rest kept where the message was read, else as it was

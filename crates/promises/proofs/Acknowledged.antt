@@ -10,13 +10,14 @@ use Rattle.memory.specs.Sizes.{lines}
 use Rattle.memory.proofs.Tests.{clash}
 use Rattle.line.specs.Paper.{ack, replyOf}
 use Rattle.line.specs.declared.Reply.the-variants.{Byte}
+use Rattle.line.proofs.Paper.{objection-plain}
 use Rattle.receiving.specs.Steps.{Memory}
 use Rattle.looking.specs.declared.Kind.{Kind}
 use Rattle.serial.specs.Serial.{final, Every}
 use Rattle.promises.specs.Machine.{State, GatewayItem, came, step, storeOf, May}
 use Rattle.promises.specs.Runs.{RightSizes, fresh, answered, replied, isAck, Completes}
 use Rattle.promises.specs.Came.{answer, store, Came, quiet, stored, crowded, against}
-use Rattle.promises.proofs.Came.{objection-other, comes-to}
+use Rattle.promises.proofs.Came.{comes-to}
 use Rattle.promises.proofs.Runs.{always-sound}
 
 not-acknowledged : (n : ℕ) → isAck (replyOf n) ≡ false → replyOf n ≡ Byte ack → n ≡ 4
@@ -33,7 +34,7 @@ came-acknowledged s i k (quiet x) c e =
     clash cc
 came-acknowledged s i k (stored t m room x) c e = x .number
 came-acknowledged s i k (crowded t m room x) c e = not-acknowledged (answered (answer s i k)) (ap (λ (n : ℕ). isAck (replyOf n)) (x .number) ∙ crowded-nak) e
-came-acknowledged s i k (against t m x) c e = not-acknowledged (answered (answer s i k)) (objection-other (answered (answer s i k)) (x .number) .no-ack) e
+came-acknowledged s i k (against t m x) c e = not-acknowledged (answered (answer s i k)) (ap isAck (objection-plain (answered (answer s i k)) (x .number) .refused)) e
 
 -- and only 4 changes the store
 came-kept : (s : State) (i : ℕ) (k : Kind) → Came s i k → answered (answer s i k) ≢ 4 → store s i k ≡ storeOf s

@@ -4,26 +4,24 @@ use mathlib.Core.Path.{_≡_, refl, sym, ap, subst, _∙_}
 use mathlib.Core.Bool.{Bool, true, false, cond, not, _||_}
 use mathlib.Core.List.{List, []}
 use Prim.Native.Nat.{ℕ, _<_}
-use borrow.Author.Tests.{eqb-true}
 use lib.Dec.{eqb}
 use lib.ListN.{length}
 use Rattle.memory.specs.Sizes.{lines}
 use Rattle.memory.proofs.Tests.{clash}
-use Rattle.kinds.specs.Delimiters.{standard}
 use Rattle.faults.specs.Faults.{isMessage}
 use Rattle.faults.proofs.Messages.{message-some, message-short}
 use Rattle.room.specs.Room.{todaysShares}
 use Rattle.journal_laws.specs.Runs.{State as Store}
 use Rattle.journal.specs.declared.Verdict.the-variants.{Fits, NoRoom as Full}
 use Rattle.journal_laws.proofs.Cases.{held-judged}
-use Rattle.line.specs.Paper.{numberOf, replyOf}
+use Rattle.line.specs.Paper.{numberOf, isObjection}
 use Rattle.line.specs.declared.Line.{Line}
 use Rattle.line.specs.declared.Answer.{Answer}
-use Rattle.line.specs.declared.Answer.the-variants.{NoMessage, NoRoom}
+use Rattle.line.specs.declared.Answer.the-variants.{NoRoom}
 use Rattle.line.proofs.Paper.{every-answer}
 use Rattle.looking.specs.Views.{joinedText}
 use Rattle.looking.specs.Looks.{lookOf}
-use Rattle.receiving.specs.Verdicts.{roomVerdict, decisionOf, decided, ownWork}
+use Rattle.receiving.specs.Verdicts.{objectionTo, roomVerdict, decisionOf, decided, ownWork}
 use Rattle.looking.specs.Answers.{answerOf}
 use Rattle.looking.specs.declared.Kind.{Kind}
 use Rattle.looking.specs.declared.Look.{Look}
@@ -34,9 +32,11 @@ use Rattle.looking.proofs.Views.{own-parts}
 use Rattle.looking.proofs.Cases.{Cases, every-look}
 use Rattle.looking.proofs.Fits.{LookFits, look-fits}
 use Rattle.receiving.proofs.Fits.{quiet-keeps}
+use Rattle.receiving.proofs.Decisions.{objection-number}
 use Rattle.gateway_laws.specs.Classes.{classOf}
+use Rattle.gateway_laws.proofs.Proper.{objection-against}
 use Rattle.promises.specs.Machine.{State, Told, told, step, isDecision, decides, Parts, partsOf, storeOf, left, Sound, came}
-use Rattle.promises.specs.Runs.{answered, isAck, isFault, isObjection, offeredBy, hasSpace}
+use Rattle.promises.specs.Runs.{answered, isFault, offeredBy, hasSpace}
 use Rattle.promises.specs.Came.{Passes, Settles, Came, quiet, stored, crowded, against}
 use Rattle.promises.proofs.Sound.{work, ready, event-answer, event-journal}
 
@@ -128,29 +128,29 @@ module _ (s : State) (w : Sound s) (i : ℕ) (k : Kind) (line : i < lines) where
       left = store-is v of;
     }
 
-    no-message : isMessage standard text ≡ false → work s w i k line ≡ Against NoMessage n
+    no-message : isMessage text ≡ false → work s w i k line ≡ Against (objectionTo text) n
     unfolding decisionOf
     no-message m = work-is (Decides n) is ∙ rw m
 
-    module _ (m : isMessage standard text ≡ true) where
+    module _ (m : isMessage text ≡ true) where
       judged : (room : Bool) → hasSpace s i (length text) ≡ room → work s w i k line ≡ roomVerdict (cond room Fits Full) n
       unfolding decisionOf
       judged room has =
           let d = s .gateway .ledger in
           work-is (Decides n) is
-          ∙ rw (m, ← (held-judged todaysShares d i text (s .memory .journal) (w .entries) (w .held) line (message-some standard text m) (message-short standard text m) room has))
+          ∙ rw (m, ← (held-judged todaysShares d i text (s .memory .journal) (w .entries) (w .held) line (message-some _ text m) (message-short _ text m) room has))
 
       by-space : (room : Bool) → hasSpace s i (length text) ≡ room → Came s i k
       by-space true has = stored text m has (settles (Stores n) (judged true has) refl (λ c. c ≡ 4) refl)
       by-space false has = crowded text m has (settles (Against NoRoom n) (judged false has) refl (λ c. c ≡ 31) refl)
 
-    by-message : (b : Bool) → isMessage standard text ≡ b → Came s i k
+    by-message : (b : Bool) → isMessage text ≡ b → Came s i k
     by-message true m = by-space m (hasSpace s i (length text)) refl
-    by-message false m = against text m (settles (Against NoMessage n) (no-message m) refl (λ c. isObjection c ≡ true) refl)
+    by-message false m = against text m (settles (Against (objectionTo text) n) (no-message m) (ap isDecision (objection-against text)) (λ c. isObjection c ≡ true) (objection-number text))
 
   by-look : (x : Look) → look ≡ x → LookFits x (own .line) → Harmless x → Came s i k
   by-look (Done v) is fits plain = quiet (passes v is fits plain)
-  by-look (Decides n) is fits plain = by-message n is (isMessage standard (text n is)) refl
+  by-look (Decides n) is fits plain = by-message n is (isMessage (text n is)) refl
 
   pub comes-to : Came s i k
   comes-to =
@@ -171,14 +171,3 @@ neither true x y e q = clash cc
 
 pub undecided-other : (t : Told) → decides t ≡ false → (eqb (answered t) 4 ≡ false) × (eqb (answered t) 31 ≡ false)
 undecided-other t e = neither (decides t) (eqb (answered t) 4) (eqb (answered t) 31) (decisions-decide (t .answer)) e
-
--- an objection is neither 4 nor 31, tells of no fault and is not acknowledged
-pub record Other (n : ℕ) : Type 0 where
-  pub not-4 : eqb n 4 ≡ false
-  pub not-31 : eqb n 31 ≡ false
-  pub no-fault : isFault n ≡ false
-  pub no-ack : isAck (replyOf n) ≡ false
-
-pub objection-other : (n : ℕ) → isObjection n ≡ true → Other n
-unfolding replyOf
-objection-other n e = subst Other (sym (eqb-true n 30 e)) (record { not-4 = refl; not-31 = refl; no-fault = refl; no-ack = refl })

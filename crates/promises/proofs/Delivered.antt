@@ -20,7 +20,6 @@ use Rattle.frame.specs.Shape.{aroundText}
 use Rattle.frame.specs.Writing.{frameOf}
 use Rattle.frame.specs.declared.End.{End}
 use Rattle.frame.proofs.ReadBack.{early, long}
-use Rattle.kinds.specs.Delimiters.{standard}
 use Rattle.faults.specs.Faults.{isMessage}
 use Rattle.faults.proofs.Messages.{message-short, message-allowed}
 use Rattle.line.specs.Line.{acceptedLine}
@@ -67,7 +66,7 @@ accepted-open l number kind next low = record {
 
 -- x of a message has been joined on the line, y is to come, and this number is next
 pub record Going (x y : List ℕ) (number : ℕ) (l : Line) (texts frames : List ℕ) : Type 0 where
-  pub message : isMessage standard (x ++ y) ≡ true
+  pub message : isMessage (x ++ y) ≡ true
   pub refusing : l .refusing ≡ false
   pub new : isLast (l .last) number ≡ false
   pub next : number ≡ l .next
@@ -82,12 +81,12 @@ module _ (limit : ℕ) (usable : Usable limit) (i : ℕ) (j : Store) (x t y : Li
     (room : length t + aroundText ≤ limit) where
   pub clean : all allowed t ≡ true
   clean =
-      let whole = message-allowed standard (x ++ (t ++ y)) (g .message) in
+      let whole = message-allowed _ (x ++ (t ++ y)) (g .message) in
       and-left (all allowed t) (all allowed y)
       (sym (all-append allowed t y) ∙ and-right (all allowed x) (all allowed (t ++ y)) (sym (all-append allowed x (t ++ y)) ∙ whole))
 
   most : length x + length t ≤ messageLimit
-  most = omega (arith, message-short standard (x ++ (t ++ y)) (g .message), length-append x (t ++ y), length-append t y)
+  most = omega (arith, message-short _ (x ++ (t ++ y)) (g .message), length-append x (t ++ y), length-append t y)
 
   most-joined : l .joined + length t ≤ messageLimit
   most-joined = rw (g .joined) most

@@ -11,7 +11,6 @@ use Rattle.memory.specs.Sizes.{frameLimit, journalSize, unfinishedSize, framesS
 use Rattle.digits.specs.Check.{checkOf, hexDigit, digitsOf, total}
 use Rattle.digits.specs.Number.{nextNumber}
 use Rattle.frame.specs.Writing.{bodyOf, tailOf, collectedOf, frameOf}
-use Rattle.kinds.specs.Delimiters.{standard}
 use Rattle.faults.specs.Faults.{isMessage}
 use Rattle.cutting.specs.Frames.{cutOf}
 use Rattle.cutting.specs.Pieces.{piecesOf}
@@ -46,8 +45,8 @@ holds-true : (b : Bool) → holds b ≡ 1 ∷ [] → b ≡ true
 holds-true true e = refl
 holds-true false e = absurd (omega (arith, ap (λ (xs : List ℕ). getD xs 0 0) e))
 
-is-message : isMessage standard both ≡ true
-is-message = holds-true (isMessage standard both) (ap (λ (xs : List (List ℕ)). getD xs 6 []) shown)
+is-message : isMessage both ≡ true
+is-message = holds-true (isMessage both) (ap (λ (xs : List (List ℕ)). getD xs 6 []) shown)
 
 room : HasRoom (fresh memory) 0 (both ∷ [])
 unfolding claims headSize

@@ -7,7 +7,7 @@ use Prim.Native.Nat.{ℕ}
 use Rattle.memory.specs.Tests.{all}
 use Rattle.memory.proofs.Tests.{and-left, and-right}
 use Rattle.characters.specs.Control.{cr}
-use Rattle.faults.specs.Faults.{isMessage}
+use Rattle.faults.specs.Faults.{isMessageBy}
 use Rattle.records.specs.Records.{records, joined, none, isNotCr, endsWithCr, endsWithL}
 use Rattle.kinds.specs.declared.Delimiters.{Delimiters}
 use Rattle.records.proofs.Joined.{every, no-cr, records-first, joined-records}
@@ -33,7 +33,7 @@ ending r (s ∷ rs) =
     let e = ending s rs in
     record { front = r ∷ e .front; last = e .last; whole = ap (λ (l : List (List ℕ)). r ∷ l) (e .whole) }
 
-module _ (d : Delimiters) (x y : List ℕ) (h : isMessage d (x ++ y) ≡ true) (e : endsWithCr x ≡ true) where
+module _ (d : Delimiters) (x y : List ℕ) (h : isMessageBy d (x ++ y) ≡ true) (e : endsWithCr x ≡ true) where
   apart : records (x ++ y) ≡ records x ++ records y
   apart = ap (λ (t : List ℕ). records (t ++ y)) (sym (joined-records x e)) ∙ records-front (records x) y (no-cr x)
 

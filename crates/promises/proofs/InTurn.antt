@@ -9,7 +9,6 @@ use borrow.Author.Tests.{eq-eqb}
 use lib.ListN.{length, getD}
 use Rattle.memory.specs.Sizes.{lines, frameLimit}
 use Rattle.memory.specs.Parts.{splice}
-use Rattle.kinds.specs.Delimiters.{standard}
 use Rattle.faults.specs.Faults.{isMessage}
 use Rattle.header.specs.Entry.{Entry}
 use Rattle.journal.specs.Entries.{from}
@@ -89,7 +88,7 @@ in-turn s w i h ds fs x held own es may as-many b room =
     given (final step s es) i h x (q .es′) held-then b room (waiting i fs ++ stored) (sym first) (from i (q .es′)) refl
 
 -- so a message that we cut and sent is given back, byte for byte
-pub given-back : (i : ℕ) → i < lines → (s : State) (w : Intact s) → lineAt (s .gateway) i ≡ freshLine → (m : List ℕ) → isMessage standard m ≡ true → HasRoom s i (m ∷ [])
+pub given-back : (i : ℕ) → i < lines → (s : State) (w : Intact s) → lineAt (s .gateway) i ≡ freshLine → (m : List ℕ) → isMessage m ≡ true → HasRoom s i (m ∷ [])
     → (es : List GatewayItem) → Every May es → length (allTaken i (final step s (bytesOn i (sending frameLimit m))) es) ≡ length (waiting i (w .entries)) → (b : List ℕ) → length m ≤ length b
     → GivesBack (final step (final step s (bytesOn i (sending frameLimit m))) es) i b (getD (s .gateway .ledger .serials) i 0) m
 given-back i h s w fresh m message room es may as-many b long =

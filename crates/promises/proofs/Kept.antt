@@ -10,7 +10,6 @@ use native.Mathlib.Omega.{arith}
 use lib.ListN.{length-set, length-replicate, getD-replicate}
 use lib.Seq.{getD-set-other, getD-set-same}
 use Rattle.memory.specs.Sizes.{lines}
-use Rattle.kinds.specs.Delimiters.{standard}
 use Rattle.faults.proofs.Messages.{message-some, message-short}
 use Rattle.header.specs.Entry.{Entry}
 use Rattle.room.specs.Room.{todaysShares}
@@ -50,7 +49,7 @@ came-holds s w i k h c = by-case c
     by-case : Came s i k → Holds (store s i k)
     by-case (quiet x) = subst Holds (sym (x .kept)) same
     by-case (stored t m room x) =
-        let one = store-held todaysShares (s .gateway .ledger) i t (s .memory .journal) (w .entries) (w .held) h (message-some standard t m) (message-short standard t m) room in
+        let one = store-held todaysShares (s .gateway .ledger) i t (s .memory .journal) (w .entries) (w .held) h (message-some _ t m) (message-short _ t m) room in
         subst Holds (sym (x .left)) (record { entries = _; held = one })
     by-case (crowded t m room x) = subst Holds (sym (x .left)) same
     by-case (against t m x) = subst Holds (sym (x .left)) same

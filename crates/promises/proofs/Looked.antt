@@ -10,7 +10,6 @@ use lib.Seq.{getD-append-add}
 use Rattle.memory.specs.Tests.{is}
 use Rattle.characters.specs.Control.{cr}
 use Rattle.frame.specs.declared.End.the-variants.{Etb, Etx}
-use Rattle.kinds.specs.Delimiters.{standard}
 use Rattle.faults.specs.Faults.{isMessage}
 use Rattle.records.specs.Records.{records, none, onto, endsWithCr}
 use Rattle.faults.proofs.Messages.{message-ends, message-decided}
@@ -40,7 +39,7 @@ some-records b y = by-test (is cr b) (records y)
 
 module _ (x t : List ℕ) (some : 0 < length t) where
   -- more of the message follows
-  pub look-on : (b : ℕ) (y : List ℕ) → isMessage standard ((x ++ t) ++ b ∷ y) ≡ true
+  pub look-on : (b : ℕ) (y : List ℕ) → isMessage ((x ++ t) ++ b ∷ y) ≡ true
       → endLook (endAfter (getD t (length t - 1) 0)) (length t) (x ++ t) ≡ Done (Accepts (length t))
   look-on b y h = by-end (is cr (getD t (length t - 1) 0)) refl
     where
@@ -48,11 +47,11 @@ module _ (x t : List ℕ) (some : 0 < length t) where
       by-end false e = refl
       by-end true e =
           let ends : endsWithCr (x ++ t) ≡ true = ap (is cr) (last-byte x t some) ∙ e in
-          rw (ends, front-decided standard (x ++ t) (b ∷ y) h ends ∙ some-records b y)
+          rw (ends, front-decided _ (x ++ t) (b ∷ y) h ends ∙ some-records b y)
 
   -- nothing follows
-  pub look-last : isMessage standard (x ++ t) ≡ true → endLook (endAfter (getD t (length t - 1) 0)) (length t) (x ++ t) ≡ Decides (length t)
+  pub look-last : isMessage (x ++ t) ≡ true → endLook (endAfter (getD t (length t - 1) 0)) (length t) (x ++ t) ≡ Decides (length t)
   look-last h =
-      let ends = message-ends standard (x ++ t) h in
+      let ends = message-ends _ (x ++ t) h in
       let cr-last : is cr (getD t (length t - 1) 0) ≡ true = ap (is cr) (sym (last-byte x t some)) ∙ ends in
-      rw (cr-last, ends, message-decided standard (x ++ t) h)
+      rw (cr-last, ends, message-decided _ (x ++ t) h)

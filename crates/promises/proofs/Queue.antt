@@ -9,7 +9,6 @@ use native.Mathlib.Omega.{arith}
 use lib.Dec.{eqb}
 use lib.ListN.{length}
 use Rattle.memory.specs.Sizes.{lines}
-use Rattle.kinds.specs.Delimiters.{standard}
 use Rattle.faults.specs.Faults.{isMessage}
 use Rattle.faults.proofs.Messages.{message-some, message-short}
 use Rattle.journal.specs.Answers.{isFits}
@@ -23,6 +22,7 @@ use Rattle.journal.specs.declared.Took.the-variants.{Taken, NothingWaiting, Buf
 use Rattle.journal.specs.declared.Verdict.the-variants.{Fits}
 use Rattle.journal_laws.proofs.Cases.{store-fits}
 use Rattle.journal_laws.proofs.Queue.{fresh-runs}
+use Rattle.line.proofs.Paper.{objection-plain}
 use Rattle.receiving.specs.Steps.{Memory}
 use Rattle.gateway.specs.Events.{tookAnswer, takeOf}
 use Rattle.looking.specs.declared.Kind.{Kind}
@@ -31,7 +31,7 @@ use Rattle.promises.specs.Machine.{State, told, GatewayItem, came, step,
 use Rattle.promises.specs.Runs.{RightSizes, fresh, answered, hasSpace}
 use Rattle.promises.specs.Came.{storedIn, answer, store, Settles, Came, quiet, stored, crowded, against}
 use Rattle.promises.specs.Queue.{completedIn, completed, gave, storedOn, takenOn, allStored, allTaken, NothingLost}
-use Rattle.promises.proofs.Came.{undecided-other, objection-other, comes-to}
+use Rattle.promises.proofs.Came.{undecided-other, comes-to}
 use Rattle.promises.proofs.Kept.{keeps, fresh-sound}
 
 -- an operation of the journal, or none
@@ -85,9 +85,9 @@ module _ (s : State) (w : Sound s) (i : ℕ) (k : Kind) (h : i < lines) where
   no-operation other kept = record { operation = none; store = kept; entering = λ l. rw other (not-stored (eqb i l) (completed s i k)); leaving = λ l. refl }
 
   -- a message with room for it is stored there: the journal's answer is 4 too
-  module _ (t : List ℕ) (m : isMessage standard t ≡ true) (room : hasSpace s i (length t) ≡ true) (x : Settles s i k t (λ n. n ≡ 4) (storedIn i t (storeOf s))) where
+  module _ (t : List ℕ) (m : isMessage t ≡ true) (room : hasSpace s i (length t) ≡ true) (x : Settles s i k t (λ n. n ≡ 4) (storedIn i t (storeOf s))) where
     in-journal : storeEntry (s .gateway .ledger) todaysShares i t (s .memory .journal) ≡ afterStoring (grown (s .gateway .ledger) i (length t)) Fits (appended (s .gateway .ledger) i t (s .memory .journal))
-    in-journal = store-fits todaysShares (s .gateway .ledger) i t (s .memory .journal) (w .entries) (w .held) h (message-some standard t m) (message-short standard t m) room .is
+    in-journal = store-fits todaysShares (s .gateway .ledger) i t (s .memory .journal) (w .entries) (w .held) h (message-some _ t m) (message-short _ t m) room .is
 
     stores : Does s (came i k)
     stores = record {
@@ -103,7 +103,7 @@ module _ (s : State) (w : Sound s) (i : ℕ) (k : Kind) (h : i < lines) where
   event-does (quiet x) = no-operation (undecided-other (answer s i k) (x .undecided) .0) (x .kept)
   event-does (stored t m room x) = stores t m room x
   event-does (crowded t m room x) = no-operation (ap (λ (n : ℕ). eqb n 4) (x .number)) (x .left)
-  event-does (against t m x) = no-operation (objection-other (answered (answer s i k)) (x .number) .not-4) (x .left)
+  event-does (against t m x) = no-operation (objection-plain (answered (answer s i k)) (x .number) .not-4) (x .left)
 
 pub does : (s : State) (e : GatewayItem) → Sound s → May e → Does s e
 does s (event i k) w m = event-does s w i k m (comes-to s w i k m)

@@ -10,7 +10,6 @@ use native.Mathlib.Omega.{arith}
 use borrow.Author.Tests.{le-leb, leb-true}
 use lib.ListN.{length, getD, length-set}
 use Rattle.memory.specs.Sizes.{lines, journalSize}
-use Rattle.kinds.specs.Delimiters.{standard}
 use Rattle.faults.proofs.Messages.{message-some, message-short}
 use Rattle.header.specs.Header.{entrySize}
 use Rattle.header.specs.Entry.{Entry}
@@ -92,7 +91,7 @@ pub held-all : (i : ℕ) → i < lines → (ms : List (List ℕ)) (j : Store) (e
 held-all i line [] j es h are room = subst (Held todaysShares (j .ledger) (j .journal)) (sym (append-nil es)) h
 held-all i line (m ∷ ms) j es h are room =
     let first = room-first todaysShares (j .ledger .used) i (entrySize (length m)) (sizesOf ms) (h .lines-used) line room in
-    let one = store-held todaysShares (j .ledger) i m (j .journal) es h line (message-some standard m (are .0)) (message-short standard m (are .0)) first in
+    let one = store-held todaysShares (j .ledger) i m (j .journal) es h line (message-some _ m (are .0)) (message-short _ m (are .0)) first in
     let rest = held-all i line ms (storedIn i m j) (es ++ newEntry (j .ledger) i m ∷ []) one (are .1) (room-then i m ms j (h .lines-used) line room) in
     subst (Held todaysShares (storedAll i ms (storedIn i m j) .ledger) (storedAll i ms (storedIn i m j) .journal))
     (append-assoc es (newEntry (j .ledger) i m ∷ []) (newEntries (grown (j .ledger) i (length m)) i ms)) rest

@@ -11,7 +11,6 @@ use Rattle.memory.specs.Sizes.{lines, frameLimit}
 use Rattle.memory.proofs.Parts.{part-start}
 use Rattle.digits.specs.Number.{nextNumber}
 use Rattle.frame.specs.Writing.{frameOf}
-use Rattle.kinds.specs.Delimiters.{standard}
 use Rattle.faults.specs.Faults.{isMessage}
 use Rattle.faults.proofs.Messages.{message-some, message-short}
 use Rattle.cutting.specs.Pieces.{Piece, piecesOf}
@@ -151,7 +150,7 @@ module _ (limit : ℕ) (usable : Usable limit) (i : ℕ) (h : i < lines) where
       let old = ready i (storeOf s) (lineAt (s .gateway) i) texts frames .line in
       one-byte s eot (told Ended []) (record { line = closedLine old; texts = texts; frames = frames }) (λ (l : Line). l ≡ freshLine) w is (closed-fresh old)
 
-  module _ (s : State) (w : Sound s) (number : ℕ) (o : Open number (lineAt (s .gateway) i)) (m : List ℕ) (message : isMessage standard m ≡ true)
+  module _ (s : State) (w : Sound s) (number : ℕ) (o : Open number (lineAt (s .gateway) i)) (m : List ℕ) (message : isMessage m ≡ true)
       (room : fits todaysShares (raised (s .gateway .ledger .used) i (entrySize (length m))) ≡ true) where
     abbrev own : Line
     own = lineAt (s .gateway) i
@@ -181,8 +180,8 @@ module _ (limit : ℕ) (usable : Usable limit) (i : ℕ) (h : i < lines) where
     walked : Delivered i (storeOf s) m (piecesOf limit m) (numberAfter number (piecesOf limit m))
         (feed i (partsOf s i) (storeOf s) (framesFrom number (piecesOf limit m)))
     walked =
-        let some = message-some standard m message in
-        let most = message-short standard m message in
+        let some = message-some _ m message in
+        let most = message-short _ m message in
         let judged = sym (held-judged todaysShares (s .gateway .ledger) i m (s .memory .journal) (w .entries) (w .held) h some most true room) in
         subst
         (λ (l : Line). Delivered i (storeOf s) m (piecesOf limit m) (numberAfter number (piecesOf limit m))
@@ -255,7 +254,7 @@ module _ (limit : ℕ) (usable : Usable limit) (i : ℕ) (h : i < lines) where
 
   module _ (s : State) (a : Intact s) (fresh : lineAt (s .gateway) i ≡ freshLine) where
     -- the promises below, of every limit that is usable
-    pub sent-within : (m : List ℕ) → isMessage standard m ≡ true → HasRoom s i (m ∷ []) → Delivers s i (sending limit m) (sendingReplies limit m) (m ∷ []) (a .entries)
+    pub sent-within : (m : List ℕ) → isMessage m ≡ true → HasRoom s i (m ∷ []) → Delivers s i (sending limit m) (sendingReplies limit m) (m ∷ []) (a .entries)
     unfolding cutOf
     sent-within m message room =
         let w = room-sound s a i h (m ∷ []) room in
@@ -304,7 +303,7 @@ module _ (i : ℕ) (h : i < lines) (s : State) (a : Intact s) (fresh : lineAt (s
   transferred-twice = twice-within frameLimit own-limit i h s a fresh
 
   -- two messages, one after the other, in one transfer and in two: stored in order, once each
-  module _ (m n : List ℕ) (m-is : isMessage standard m ≡ true) (n-is : isMessage standard n ≡ true) (room : HasRoom s i (m ∷ n ∷ [])) where
+  module _ (m n : List ℕ) (m-is : isMessage m ≡ true) (n-is : isMessage n ≡ true) (room : HasRoom s i (m ∷ n ∷ [])) where
     pub in-one-transfer : Delivers s i (transfer frameLimit (m ∷ n ∷ [])) (transferReplies frameLimit (m ∷ n ∷ [])) (m ∷ n ∷ []) (a .entries)
     in-one-transfer = transferred (m ∷ n ∷ []) (m-is, (n-is, tt)) room
 

@@ -14,7 +14,6 @@ use Rattle.frame.specs.Shape.{aroundText}
 use Rattle.frame.specs.Writing.{frameOf}
 use Rattle.frame.specs.declared.End.{End}
 use Rattle.frame.proofs.ReadBack.{early, long}
-use Rattle.kinds.specs.Delimiters.{standard}
 use Rattle.faults.specs.Faults.{isMessage}
 use Rattle.cutting.specs.Pieces.{Piece, piece, pieceSize, piecesOf, endAfter, throughCr}
 use Rattle.cutting.specs.Frames.{framesFrom}
@@ -79,8 +78,8 @@ module _ (limit : ℕ) (usable : Usable limit) (i : ℕ) (j : Store) where
           ap₂ _++_ (ap (part texts 0) (g .joined) ∙ g .held)
           (own-text i j l texts limit usable number end t frames room (g .low) (clean limit usable i j x t [] number end l texts frames g room) (g .frames-long))
 
-      message : isMessage standard (x ++ t) ≡ true
-      message = ap (λ (u : List ℕ). isMessage standard (x ++ u)) (sym (append-nil t)) ∙ g .message
+      message : isMessage (x ++ t) ≡ true
+      message = ap (λ (u : List ℕ). isMessage (x ++ u)) (sym (append-nil t)) ∙ g .message
 
       decided-is : decisionOf todaysShares (j .ledger) i (length t) (x ++ t) (j .journal) ≡ Stores (length t)
       unfolding decisionOf

@@ -6,13 +6,13 @@ use mathlib.Core.Bool.{true, false}
 use mathlib.Core.List.{List}
 use mathlib.Core.Option.{none, some}
 use lib.ListN.{length}
-use Rattle.kinds.specs.Delimiters.{standard}
 use Rattle.faults.specs.Faults.{isMessage}
 use Rattle.journal.specs.Storage.{grown, appended}
 use Rattle.journal_laws.specs.Runs.{State as Store}
+use Rattle.line.specs.Paper.{isObjection}
 use Rattle.looking.specs.declared.Kind.{Kind}
 use Rattle.promises.specs.Machine.{State, Told, step, decides, partsOf, storeOf, onEvent, came}
-use Rattle.promises.specs.Runs.{answered, isFault, isObjection, offered, hasSpace}
+use Rattle.promises.specs.Runs.{answered, isFault, offered, hasSpace}
 
 -- a text stored on line i, behind what the journal holds
 abbrev pub storedIn : ℕ → List ℕ → Store → Store
@@ -43,6 +43,6 @@ module _ (s : State) (i : ℕ) (k : Kind) where
   -- nothing is decided; or a text is complete and is stored (4), is crowded out (31), or is no message (30)
   pub data Came : Type 0 where
     quiet : Passes → Came
-    stored : (t : List ℕ) → isMessage standard t ≡ true → hasSpace s i (length t) ≡ true → Settles t (λ n. n ≡ 4) (storedIn i t (storeOf s)) → Came
-    crowded : (t : List ℕ) → isMessage standard t ≡ true → hasSpace s i (length t) ≡ false → Settles t (λ n. n ≡ 31) (storeOf s) → Came
-    against : (t : List ℕ) → isMessage standard t ≡ false → Settles t (λ n. isObjection n ≡ true) (storeOf s) → Came
+    stored : (t : List ℕ) → isMessage t ≡ true → hasSpace s i (length t) ≡ true → Settles t (λ n. n ≡ 4) (storedIn i t (storeOf s)) → Came
+    crowded : (t : List ℕ) → isMessage t ≡ true → hasSpace s i (length t) ≡ false → Settles t (λ n. n ≡ 31) (storeOf s) → Came
+    against : (t : List ℕ) → isMessage t ≡ false → Settles t (λ n. isObjection n ≡ true) (storeOf s) → Came

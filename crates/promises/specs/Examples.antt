@@ -7,7 +7,6 @@ use lib.ListN.{length, getD, replicate, set}
 use Rattle.memory.specs.Sizes.{lines, frameLimit}
 use Rattle.characters.specs.Control.{etb, etx}
 use Rattle.digits.specs.Check.{checkOf, digitsOf}
-use Rattle.kinds.specs.Delimiters.{standard}
 use Rattle.faults.specs.Faults.{isMessage}
 use Rattle.cutting.specs.Frames.{cutOf}
 use Rattle.header.specs.Header.{entrySize}
@@ -56,10 +55,10 @@ examples =
     ∷ example (checkDigits 0x31 [] etx) (0x33 ∷ 0x34 ∷ [])
     ∷ example (checkDigits 0x31 header etx) (0x45 ∷ 0x35 ∷ [])
     ∷ example (checkDigits 0x31 both etx) (0x42 ∷ 0x35 ∷ [])
-    ∷ example (holds (isMessage standard both)) (1 ∷ [])
+    ∷ example (holds (isMessage both)) (1 ∷ [])
     ∷ example (length (cutOf frameLimit both) ∷ []) (26 ∷ [])
     ∷ example (entrySize (length both) ∷ []) (16 ∷ [])
-    ∷ example (holds (isMessage standard terminator)) (0 ∷ [])
+    ∷ example (holds (isMessage terminator)) (0 ∷ [])
     ∷ example (holds (fits todaysShares (alone 18432))) (1 ∷ [])
     ∷ example (holds (fits todaysShares (alone 18433))) (0 ∷ [])
     ∷ example (getD (grown (atSerial 65535) 0 1 .serials) 0 0 ∷ []) (0 ∷ [])

@@ -47,10 +47,6 @@ isAck (Byte b) = eqb b ack
 abbrev pub isFault : ℕ → Bool
 isFault n = between 41 43 n
 
--- the numbers that a complete text which is no message is decided against with: 30
-abbrev pub isObjection : ℕ → Bool
-isObjection n = eqb n 30
-
 -- the text that an event completes on its line, n bytes of its frame behind the line's text; none where it completes none
 abbrev pub offeredBy : State → ℕ → Look → Option (List ℕ)
 offeredBy s i (Done v) = none

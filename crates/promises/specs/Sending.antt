@@ -10,7 +10,6 @@ use lib.ListN.{length, getD, replicate}
 use Rattle.memory.specs.Sizes.{lines, frameLimit, journalSize, unfinishedSize, framesSize}
 use Rattle.memory.specs.Parts.{splice}
 use Rattle.frame.specs.Shape.{aroundText}
-use Rattle.kinds.specs.Delimiters.{standard}
 use Rattle.faults.specs.Faults.{isMessage}
 use Rattle.cutting.specs.Pieces.{Piece, piecesOf}
 use Rattle.cutting.specs.Frames.{firstNumber, framesFrom, cutOf}
@@ -88,7 +87,7 @@ newEntries d i (m ∷ ms) = newEntry d i m ∷ newEntries (grown d i (length m))
 
 -- messages, and room for them all on line i, headers counted
 abbrev pub Messages : List (List ℕ) → Type 0
-Messages ms = Every (λ (m : List ℕ). isMessage standard m ≡ true) ms
+Messages ms = Every (λ (m : List ℕ). isMessage m ≡ true) ms
 
 abbrev pub sizesOf : List (List ℕ) → ℕ
 sizesOf [] = 0
@@ -123,7 +122,7 @@ Delivers s i bs answers ms es = DeliversBy step s i bs answers ms es
 -- Demand 2, of any runner: a message that is cut and sent to a fresh line, whatever the other lines are at, with room for it
 abbrev pub Demand2 : Runner → Type 0
 Demand2 f =
-    (i : ℕ) → i < lines → (s : State) (w : Intact s) → lineAt (s .gateway) i ≡ freshLine → (m : List ℕ) → isMessage standard m ≡ true → HasRoom s i (m ∷ [])
+    (i : ℕ) → i < lines → (s : State) (w : Intact s) → lineAt (s .gateway) i ≡ freshLine → (m : List ℕ) → isMessage m ≡ true → HasRoom s i (m ∷ [])
     → DeliversBy f s i (sending frameLimit m) (sendingReplies frameLimit m) (m ∷ []) (w .entries)
 
 -- a taking from line i into the buffer b gives the text m with this serial: both its length and the serial are answered, it stands at the start of the buffer,

@@ -5,7 +5,6 @@ use mathlib.Core.Bool.{true, false}
 use mathlib.Core.List.{List}
 use Prim.Native.Nat.{ℕ}
 use lib.ListN.{length}
-use Rattle.kinds.specs.Delimiters.{standard}
 use Rattle.faults.specs.Faults.{isMessage}
 use Rattle.room.specs.Room.{todaysShares}
 use Rattle.journal.specs.Verdicts.{judgeOf}
@@ -14,12 +13,18 @@ use Rattle.journal.specs.declared.Ledger.{Ledger}
 use Rattle.journal.specs.declared.Storing.{Storing}
 use Rattle.journal.specs.declared.Verdict.{Verdict as Judgement}
 use Rattle.journal.specs.declared.Verdict.the-variants.{Fits, NoRoom as Full, Broken as Damaged, NoLine as Nowhere, OtherSize, NoText}
-use Rattle.line.specs.declared.Answer.the-variants.{NoMessage}
-use Rattle.receiving.specs.Verdicts.{roomVerdict, decisionOf}
+use Rattle.line.specs.Paper.{numberOf, isObjection}
+use Rattle.line.specs.declared.Answer.{Answer}
+use Rattle.receiving.specs.Verdicts.{objectionTo, roomVerdict, decisionOf}
 use Rattle.receiving.specs.Settled.{ledgerAfter, journalAfter}
 use Rattle.receiving.specs.Decided.{Decision}
 use Rattle.looking.specs.declared.Verdict.{Verdict}
 use Rattle.looking.specs.declared.Verdict.the-variants.{Against}
+
+-- the answer to a text that is no message has the number of an objection
+pub objection-number : (text : List ℕ) → isObjection (numberOf (objectionTo text)) ≡ true
+unfolding objectionTo
+objection-number text = refl
 
 -- what the journal's storing leaves is the row of the verdict that its answer comes to
 pub room-row : (q : Judgement) (d : Ledger) (i n : ℕ) (text j : List ℕ)
@@ -34,15 +39,18 @@ room-row OtherSize d i n text j = (refl, refl, refl)
 room-row NoText d i n text j = (refl, refl, refl)
 
 module _ (d : Ledger) (i n : ℕ) (text j : List ℕ) where
-  pub no-message : isMessage standard text ≡ false → Decision d i n text j (record { verdict = Against NoMessage n; ledger = d }) j
+  is-objection : isMessage text ≡ false → decisionOf todaysShares d i n text j ≡ Against (objectionTo text) n
   unfolding decisionOf
-  no-message e = record { verdict = rw e; ledger = rw e; journal = rw e }
+  is-objection e = rw e
 
-  is-room : isMessage standard text ≡ true → decisionOf todaysShares d i n text j ≡ roomVerdict (judgeOf d todaysShares i (length text) j) n
+  pub no-message : (a : Answer) → a ≡ objectionTo text → isMessage text ≡ false → Decision d i n text j (record { verdict = Against a n; ledger = d }) j
+  no-message a of e = record { verdict = rw (of, is-objection e); ledger = rw (is-objection e); journal = rw (is-objection e) }
+
+  is-room : isMessage text ≡ true → decisionOf todaysShares d i n text j ≡ roomVerdict (judgeOf d todaysShares i (length text) j) n
   unfolding decisionOf
   is-room e = rw e
 
-  pub by-store : (s : Storing) (v : Verdict) (j′ : List ℕ) → isMessage standard text ≡ true → Stored d todaysShares i text j s j′ → v ≡ roomVerdict (s .answer) n
+  pub by-store : (s : Storing) (v : Verdict) (j′ : List ℕ) → isMessage text ≡ true → Stored d todaysShares i text j s j′ → v ≡ roomVerdict (s .answer) n
       → Decision d i n text j (record { verdict = v; ledger = s .ledger }) j′
   unfolding storeOf
   by-store s v j′ e st w =

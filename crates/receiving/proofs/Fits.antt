@@ -5,19 +5,17 @@ use mathlib.Core.Bool.{Bool, true, false, cond}
 use mathlib.Core.List.{List}
 use Prim.Native.Nat.{ℕ}
 use lib.ListN.{length}
-use Rattle.kinds.specs.Delimiters.{standard}
 use Rattle.faults.specs.Faults.{isMessage}
 use Rattle.journal.specs.Verdicts.{judgeOf}
 use Rattle.journal.specs.declared.Ledger.{Ledger}
 use Rattle.journal.specs.declared.Verdict.{Verdict as Judgement}
 use Rattle.journal.specs.declared.Verdict.the-variants.{Fits, NoRoom as Full, Broken as Damaged, NoLine as Nowhere, OtherSize, NoText}
 use Rattle.line.specs.declared.Line.{Line}
-use Rattle.line.specs.declared.Answer.the-variants.{NoMessage}
 use Rattle.looking.specs.Fitting.{TextFits, Fitting}
 use Rattle.looking.specs.declared.Verdict.{Verdict}
 use Rattle.looking.specs.declared.Verdict.the-variants.{Left, Opens, Closes, Begins, Counts, Collects, Refuses, Accepts, Stores, Against}
 use Rattle.looking.proofs.Fits.{Quiet}
-use Rattle.receiving.specs.Verdicts.{roomVerdict, decisionOf}
+use Rattle.receiving.specs.Verdicts.{objectionTo, roomVerdict, decisionOf}
 use Rattle.receiving.specs.Settled.{ledgerAfter, journalAfter}
 
 pub quiet-keeps : (v : Verdict) (d : Ledger) (i : ℕ) (text : ℕ → List ℕ) (j : List ℕ) → Quiet v → (ledgerAfter v d i text ≡ d) × (journalAfter v d i text j ≡ j)
@@ -43,8 +41,8 @@ room-fits l NoText n t = t
 
 pub decision-fits : (l : Line) (shares : List ℕ) (d : Ledger) (i n : ℕ) (text j : List ℕ) → TextFits l n → Fitting (decisionOf shares d i n text j) l
 unfolding decisionOf
-decision-fits l shares d i n text j t = by-message (isMessage standard text)
+decision-fits l shares d i n text j t = by-message (isMessage text)
   where
-    by-message : (b : Bool) → Fitting (cond b (roomVerdict (judgeOf d shares i (length text) j) n) (Against NoMessage n)) l
+    by-message : (b : Bool) → Fitting (cond b (roomVerdict (judgeOf d shares i (length text) j) n) (Against (objectionTo text) n)) l
     by-message true = room-fits l (judgeOf d shares i (length text) j) n t
     by-message false = t

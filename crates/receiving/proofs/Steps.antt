@@ -11,7 +11,6 @@ use lib.Dec.{ltb, leb}
 use Rattle.memory.specs.Sizes.{lines, messageLimit}
 use Rattle.memory.specs.Tests.{unless}
 use Rattle.memory.proofs.Tests.{and-left, and-right}
-use Rattle.kinds.specs.Delimiters.{standard}
 use Rattle.faults.specs.Faults.{isMessage}
 use Rattle.room.specs.Room.{todaysShares}
 use Rattle.journal.specs.Verdicts.{judgeOf}
@@ -21,13 +20,13 @@ use Rattle.journal.specs.declared.Verdict.the-variants.{Fits, NoRoom as Full, B
 use Rattle.line.specs.Line.{withinLimits}
 use Rattle.line.specs.declared.Line.{Line}
 use Rattle.line.specs.declared.Answer.{Answer}
-use Rattle.line.specs.declared.Answer.the-variants.{NoMessage, NoLine, WrongSize, BeyondLimits}
+use Rattle.line.specs.declared.Answer.the-variants.{NoLine, WrongSize, BeyondLimits}
 use Rattle.looking.specs.Views.{framesOf, textsOf, joinedText}
 use Rattle.looking.specs.Lent.{rightLengths, rightSizes}
 use Rattle.looking.specs.Looks.{lookOf, lookAlone}
 use Rattle.looking.specs.Answers.{answerOf}
 use Rattle.looking.specs.Fitting.{TextFits}
-use Rattle.receiving.specs.Verdicts.{roomVerdict, decisionOf, decided, ownWork, verdictOf}
+use Rattle.receiving.specs.Verdicts.{objectionTo, roomVerdict, decisionOf, decided, ownWork, verdictOf}
 use Rattle.receiving.specs.Settled.{lineAfter, textsAfter, framesAfter, ledgerAfter, journalAfter, Settled}
 use Rattle.receiving.specs.Decided.{Decision}
 use Rattle.receiving.specs.Steps.{AfterStep, settle, stepOf, Leaves, memoryOf, Stepping}
@@ -59,11 +58,11 @@ decision-text : (shares : List ℕ) (d : Ledger) (i n : ℕ) (text : ℕ → Lis
     → (ledgerAfter (decisionOf shares d i n (text n) j) d i (λ m. text n) ≡ ledgerAfter (decisionOf shares d i n (text n) j) d i text)
     × (journalAfter (decisionOf shares d i n (text n) j) d i (λ m. text n) j ≡ journalAfter (decisionOf shares d i n (text n) j) d i text j)
 unfolding decisionOf
-decision-text shares d i n text j = by-message (isMessage standard (text n)) (judgeOf d shares i (length (text n)) j)
+decision-text shares d i n text j = by-message (isMessage (text n)) (judgeOf d shares i (length (text n)) j)
   where
     by-message : (b : Bool) (q : Judgement)
-        → (ledgerAfter (cond b (roomVerdict q n) (Against NoMessage n)) d i (λ m. text n) ≡ ledgerAfter (cond b (roomVerdict q n) (Against NoMessage n)) d i text)
-        × (journalAfter (cond b (roomVerdict q n) (Against NoMessage n)) d i (λ m. text n) j ≡ journalAfter (cond b (roomVerdict q n) (Against NoMessage n)) d i text j)
+        → (ledgerAfter (cond b (roomVerdict q n) (Against (objectionTo (text n)) n)) d i (λ m. text n) ≡ ledgerAfter (cond b (roomVerdict q n) (Against (objectionTo (text n)) n)) d i text)
+        × (journalAfter (cond b (roomVerdict q n) (Against (objectionTo (text n)) n)) d i (λ m. text n) j ≡ journalAfter (cond b (roomVerdict q n) (Against (objectionTo (text n)) n)) d i text j)
     by-message true q = room-text q d i n text j
     by-message false q = (refl, refl)
 

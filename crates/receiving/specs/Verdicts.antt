@@ -6,7 +6,6 @@ use lib.ListN.{length}
 use lib.Dec.{ltb}
 use Rattle.memory.specs.Sizes.{lines}
 use Rattle.memory.specs.Tests.{unless}
-use Rattle.kinds.specs.Delimiters.{standard}
 use Rattle.faults.specs.Faults.{isMessage}
 use Rattle.journal.specs.Verdicts.{judgeOf}
 use Rattle.journal.specs.declared.Ledger.{Ledger}
@@ -14,6 +13,7 @@ use Rattle.journal.specs.declared.Verdict.{Verdict as Judgement}
 use Rattle.journal.specs.declared.Verdict.the-variants.{Fits, NoRoom as Full, Broken as Damaged, NoLine as Nowhere, OtherSize, NoText}
 use Rattle.line.specs.Line.{withinLimits}
 use Rattle.line.specs.declared.Line.{Line}
+use Rattle.line.specs.declared.Answer.{Answer}
 use Rattle.line.specs.declared.Answer.the-variants.{NoMessage, NoRoom, NoLine, WrongSize, BeyondLimits, Broken}
 use Rattle.looking.specs.Views.{framesOf, textsOf, joinedText}
 use Rattle.looking.specs.Looks.{lookOf}
@@ -34,10 +34,14 @@ roomVerdict Nowhere n = Left NoLine
 roomVerdict OtherSize n = Left WrongSize
 roomVerdict NoText n = Against NoMessage n
 
--- a complete text: 30, then the journal
+-- why a complete text is no message, as the line is answered: 30, whatever is wrong with it
+unfoldable pub objectionTo : List ℕ → Answer
+objectionTo text = NoMessage
+
+-- a complete text: the records, then the journal
 unfoldable pub decisionOf : List ℕ → Ledger → ℕ → ℕ → List ℕ → List ℕ → Verdict
 decisionOf shares d i n text journal =
-    unless (isMessage standard text) (Against NoMessage n) (roomVerdict (judgeOf d shares i (length text) journal) n)
+    unless (isMessage text) (Against (objectionTo text) n) (roomVerdict (judgeOf d shares i (length text) journal) n)
 
 abbrev pub decided : Look → List ℕ → Line → Ledger → ℕ → List ℕ → List ℕ → List ℕ → Verdict
 decided (Done v) shares l d i journal texts frames = v

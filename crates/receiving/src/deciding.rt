@@ -4,7 +4,7 @@ ghost use mathlib.Core.Path.{_≡_};
 ghost use Rattle.memory.specs.Sizes.{lines};
 ghost use Rattle.looking.specs.Views.{Ready, framesOf, textsOf, joinedText};
 ghost use Rattle.looking.specs.Fitting.{TextFits};
-ghost use Rattle.receiving.specs.Verdicts.{roomVerdict};
+ghost use Rattle.receiving.specs.Verdicts.{objectionTo, roomVerdict};
 ghost use Rattle.receiving.specs.Decided.{Decision};
 use journal::Ledger;
 use line::Answer;
@@ -48,7 +48,7 @@ fn decide(ledger: Ledger, i: usize, n: usize, text: &[u8], journal: &mut [u8]) -
 {
     if !message::is_message(text) {
         return Decided {
-            verdict: Verdict::Against(Answer::NoMessage, n),
+            verdict: Verdict::Against(objection(text), n),
             ledger,
         };
     }
@@ -59,6 +59,13 @@ fn decide(ledger: Ledger, i: usize, n: usize, text: &[u8], journal: &mut [u8]) -
         verdict: by_room(answer, n),
         ledger: after,
     }
+}
+
+// Why a text is no message, asked only of one that is none: today the line is told no more than that.
+fn objection(text: &[u8]) -> Answer
+    ensures { λ r. ⌜ r ≡ objectionTo (now (text .entry)) ⌝ }
+{
+    Answer::NoMessage
 }
 
 // What the journal's answer comes to.

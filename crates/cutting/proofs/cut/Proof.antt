@@ -7,7 +7,6 @@ use borrow.Author.Needs.{needs}
 use borrow.Author.Tests.{not-true, not-false}
 use denote.Ref.{now}
 use lib.ListN.{length}
-use Rattle.kinds.specs.Delimiters.{standard}
 use Rattle.faults.specs.Faults.{isMessage}
 use Rattle.faults.proofs.Messages.{message-short, message-ends}
 use Rattle.cutting.specs.Frames.{isCuttable, cutOf}
@@ -38,7 +37,7 @@ returns-2 c =
     no-message (a .limit) (now (a .text)) (now (a .out)) (by-message (a .limit) (now (a .text)) (omega arith) no)
 
 -- past the two tests the text is a message
-a-message : (c : tie.Else2) → isMessage standard (now (start (c .before) .args .text)) ≡ true
+a-message : (c : tie.Else2) → isMessage (now (start (c .before) .args .text)) ≡ true
 a-message c = sym (c .before .is-message .ensures) ∙ not-false _ (c .if2 .left)
 
 -- and can be cut
@@ -48,7 +47,7 @@ cuttable c = let a = start (c .before) .args in by-message (a .limit) (now (a .t
 measure-requires : tie.Need-measure-requires
 measure-requires c κs =
     let text = now (start (c .before) .args .text) in
-    (omega arith, message-short standard text (a-message c), message-ends standard text (a-message c))
+    (omega arith, message-short _ text (a-message c), message-ends _ text (a-message c))
 
 -- what was measured is the length of the frames
 measured : (c : tie.After-measure) → c .measure .result ≡ length (cutOf (entry c .args .limit) (now (entry c .args .text)))
@@ -65,7 +64,7 @@ write-all-requires : tie.Need-write-all-requires
 write-all-requires c κs =
     let m = c .before .before in
     let long = measured m in
-    (omega arith, omega arith, message-ends standard (now (entry m .args .text)) (a-message (passed m)))
+    (omega arith, omega arith, message-ends _ (now (entry m .args .text)) (a-message (passed m)))
 
 returns-4 : tie.Need-returns-4
 returns-4 c =

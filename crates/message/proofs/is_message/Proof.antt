@@ -2,7 +2,7 @@
 -- Assumes nothing.
 use mathlib.Core.Path.{_∙_, ap}
 use borrow.Author.Needs.{needs}
-use Rattle.faults.specs.Faults.{isMessage}
+use Rattle.faults.specs.Faults.{isMessageBy}
 use Rattle.kinds.specs.declared.Delimiters.{Delimiters}
 use Rattle.message.proofs.is_message.Statement.{statement}
 use Rattle.message.proofs.is_message.Tie as tie
@@ -16,7 +16,7 @@ is-message-by-requires c κs = search needs
 returns : tie.Need-returns
 returns c =
     let text = c .before .before .before .args .text .now in
-    c .is-message-by .ensures ∙ ap (λ (d : Delimiters). isMessage d text) (c .before .standard .ensures)
+    c .is-message-by .ensures ∙ ap (λ (d : Delimiters). isMessageBy d text) (c .before .standard .ensures)
 
 pub is-message-spec : {M : Type 1} → statement M
 is-message-spec = tie.close (tie.spec standard-requires is-message-by-requires returns)

@@ -16,7 +16,7 @@ use Rattle.records.specs.Fields.{before}
 use Rattle.records.specs.Records.{endsWithCr}
 use Rattle.sequence.specs.Numbers.{started}
 use Rattle.kinds.specs.Header.{isHeader}
-use Rattle.faults.specs.Faults.{isMessage}
+use Rattle.faults.specs.Faults.{isMessageBy}
 use Rattle.message.specs.Rest.{breaks, rightRest}
 use Rattle.records.proofs.Scans.{rest-part}
 use Rattle.faults.proofs.Messages.{sound}
@@ -50,12 +50,12 @@ first c =
 returns : tie.Need-returns
 returns c =
     let a = c .before .before .args in
-    sym (is-false (isMessage (a .d) (a .text .now)) (λ t. omega (arith, sound (a .d) (a .text .now) t .some, c .if1 .taken)))
+    sym (is-false (isMessageBy (a .d) (a .text .now)) (λ t. omega (arith, sound (a .d) (a .text .now) t .some, c .if1 .taken)))
 
 returns-2 : tie.Need-returns-2
 returns-2 c =
     let a = c .before .before .before .args in
-    sym (is-false (isMessage (a .d) (a .text .now)) (λ t. omega (arith, sound (a .d) (a .text .now) t .short, c .if2 .taken)))
+    sym (is-false (isMessageBy (a .d) (a .text .now)) (λ t. omega (arith, sound (a .d) (a .text .now) t .short, c .if2 .taken)))
 
 sub-if3 : tie.Need-sub-if3
 sub-if3 c = search needs
@@ -66,7 +66,7 @@ shared-slice-read-if3 c = search needs
 returns-3 : tie.Need-returns-3
 returns-3 c =
     let a = c .before .before .before .before .before .args in
-    sym (is-false (isMessage (a .d) (a .text .now)) (λ t. never-both (endsWithCr (a .text .now)) (sound (a .d) (a .text .now) t .ended) (ne-eqb _ _ (c .if3 .taken))))
+    sym (is-false (isMessageBy (a .d) (a .text .now)) (λ t. never-both (endsWithCr (a .text .now)) (sound (a .d) (a .text .now) t .ended) (ne-eqb _ _ (c .if3 .taken))))
 
 classes-requires : tie.Need-classes-requires
 classes-requires c κs = search needs
@@ -84,7 +84,7 @@ returns-4 c =
     let a = o .before .before .before .before .before .args in
     let text = a .text .now in
     let other : is cr (getD text (find breaks text) 0) ≡ false = rw (← e .end-of .ensures) (ne-eqb _ _ (c .if4 .taken)) in
-    sym (is-false (isMessage (a .d) text) (λ t. never-both (all allowed text) (sound (a .d) text t .clean) (broken-by-other text (break-within text (ended o)) other)))
+    sym (is-false (isMessageBy (a .d) text) (λ t. never-both (all allowed text) (sound (a .d) text t .clean) (broken-by-other text (break-within text (ended o)) other)))
 
 slice-aggregate-is-header : tie.Need-slice-aggregate-is-header
 slice-aggregate-is-header c =

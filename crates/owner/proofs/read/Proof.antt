@@ -9,7 +9,7 @@ use lib.Seq.{length-take-le}
 use borrow.Author.Tests.{not-true, not-false}
 use Rattle.memory.specs.Sizes.{messageLimit}
 use Rattle.records.specs.Records.{records}
-use Rattle.faults.specs.Faults.{isMessage}
+use Rattle.faults.specs.Faults.{isMessageBy}
 use Rattle.faults.proofs.Messages.{message-short}
 use Rattle.owner.specs.Reading.{roomFor}
 use Rattle.owner.proofs.Answers.{records-few, room-all, read-none, read-short, read-done}
@@ -34,7 +34,7 @@ abbrev filled : tie.After-slice-known7 → tie.After-fill-rows
 filled c = c .before .before .before .before .before .before
 
 -- past the first test the text is a message
-is-message : (c : tie.Else1) → let a = start (c .before) .args in isMessage (a .d) (a .text .now) ≡ true
+is-message : (c : tie.Else1) → let a = start (c .before) .args in isMessageBy (a .d) (a .text .now) ≡ true
 is-message c = sym (c .before .is-message-by .ensures) ∙ not-false _ (c .if1 .left)
 
 -- and short
