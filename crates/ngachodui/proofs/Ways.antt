@@ -1,7 +1,7 @@
 -- Each way out of a call.
 -- Assumes nothing.
 use mathlib.Core.Path.{_≡_, refl, sym, ap, subst, _∙_}
-use mathlib.Core.Bool.{true, false, not, _&&_}
+use mathlib.Core.Bool.{Bool, true, false, not, _&&_}
 use mathlib.Core.List.{List}
 use Prim.Native.Nat.{ℕ, _+_, _≤_, _<_}
 use borrow.Author.Tests.{lt-ltb, le-ltb, eqb-true, not-true}
@@ -10,14 +10,14 @@ use lib.ListN.{length, set}
 use Rattle.memory.specs.Sizes.{lines}
 use Rattle.memory.specs.Tests.{is}
 use Rattle.memory.proofs.Tests.{and-left, and-right}
-use Rattle.characters.specs.Control.{lf}
+use Rattle.characters.specs.Control.{lf, stx}
 use Rattle.room.specs.Room.{todaysShares}
 use Rattle.line.specs.Line.{mostCollected}
 use Rattle.line.specs.declared.Answer.{Answer}
 use Rattle.line.specs.declared.Answer.the-variants.{Nothing, NoLine, WrongSize, BeyondLimits}
 use Rattle.line.specs.declared.Line.{Line}
 use Rattle.looking.specs.Views.{frameStart}
-use Rattle.looking.specs.Looks.{byteLook, insideLook}
+use Rattle.looking.specs.Looks.{byteLook, insideLook, waitingLook}
 use Rattle.receiving.specs.Verdicts.{ownWork, verdictOf}
 use Rattle.looking.specs.Lent.{rightLengths}
 use Rattle.receiving.specs.Steps.{Memory, AfterStep, Leaves, memoryOf, settle, stepOf}
@@ -29,15 +29,17 @@ use Rattle.receiving.specs.declared.Stepped.{Stepped}
 use Rattle.journal.specs.declared.Ledger.{Ledger}
 use Rattle.journal.specs.declared.Taking.{Taking}
 use Rattle.journal.specs.Removal.{takeOf, TakenFrom}
-use Rattle.line.specs.declared.State.the-variants.{Inside}
+use Rattle.line.specs.declared.State.the-variants.{Waiting, Inside}
 use Rattle.looking.specs.declared.Event.{Event}
 use Rattle.looking.specs.declared.Kind.the-variants.{Byte}
 use Rattle.looking.specs.declared.Verdict.{Verdict}
-use Rattle.looking.specs.declared.Verdict.the-variants.{Collects}
-use Rattle.ngachodui.specs.Plain.{inside, firstAt, numberAt, stateOf, withLine, withSerial, withUsed, withinNumbers, onlyCollects, oneMore, quick, lineOf, ledgerOf, told, toldTaking}
+use Rattle.looking.specs.declared.Verdict.the-variants.{Collects, Begins}
+use Rattle.ngachodui.specs.Plain.{waiting, inside, begins, insideAt, firstAt, numberAt, stateOf, withLine, withSerial, withUsed, withinNumbers, onlyCollects, oneMore, quick, lineOf, ledgerOf, told, toldTaking}
 use Rattle.ngachodui.specs.Calls.{AfterCall, refused, putBack, callOf, Called, Calling, Stepping, Deciding, Taken}
 use Rattle.ngachodui.specs.declared.Answered.{Answered}
-use Rattle.ngachodui.proofs.Numbers.{told-within, used-back, serial-back, count-back}
+use Rattle.ngachodui.proofs.Numbers.{told-within, used-back, serial-back, count-back, begun-back, numbers-back}
+use Rattle.gateway.specs.Events.{tookAnswer}
+use Rattle.journal.proofs.Takings.{taken-line}
 use Rattle.receiving.proofs.Steps.{step-after, alone-asks, step-decides}
 use Rattle.ngachodui.proofs.Narrow.{Narrow, decide-narrow, taking-narrow}
 
@@ -61,12 +63,6 @@ module _ (ns us : List ℕ) (e : Event) (j u f : List ℕ) where
   unfolding callOf
   beyond r h s w q = as-called (rw (lt-ltb (e .line) lines h, s, w)) (same BeyondLimits r q)
 
-  -- and past them
-  pub by-step : {r : Answered} {ns′ us′ j′ u′ f′ : List ℕ} → e .line < lines → rightLengths (length j) (length u) (length f) ≡ true → withinNumbers ns (e .line) ≡ true
-      → Stepping ns us e j u f r ns′ us′ j′ u′ f′ → Calling ns us e j u f r ns′ us′ j′ u′ f′
-  unfolding callOf
-  by-step h s w c = as-called (rw (lt-ltb (e .line) lines h, s, w)) c
-
   -- an outcome of the gateway, put back
   put-back : {x : AfterStep} {s : Stepped} {ns₁ ns₂ us′ j′ u′ f′ : List ℕ} {r : Answered} → Leaves x s j′ u′ f′ → ns₁ ≡ withLine ns (e .line) (s .line) → ns₂ ≡ withSerial ns₁ (e .line) (s .ledger)
       → us′ ≡ withUsed us (e .line) (s .ledger) → r ≡ told (s .answer) → Called (putBack ns us (e .line) x) r ns₂ us′ j′ u′ f′
@@ -78,6 +74,21 @@ module _ (ns us : List ℕ) (e : Event) (j u f : List ℕ) where
     unfinished = y .unfinished;
     frames = y .frames;
   }
+
+  -- memory of another size: the step tells it too, and puts back what was there
+  size-step : e .line < lines → rightLengths (length j) (length u) (length f) ≡ false → withinNumbers ns (e .line) ≡ true
+      → refused WrongSize ns us (memoryOf j u f) ≡ putBack ns us (e .line) (stepOf todaysShares (lineOf ns (e .line)) (ledgerOf ns us) e (memoryOf j u f))
+  unfolding stepOf verdictOf
+  size-step h s w = rw (lt-ltb (e .line) lines h, s, numbers-back ns us (e .line) h w, used-back ns us (e .line) h)
+
+  -- past 40, numbers within their limits: the step
+  pub by-step : {r : Answered} {ns′ us′ j′ u′ f′ : List ℕ} → e .line < lines → withinNumbers ns (e .line) ≡ true → Stepping ns us e j u f r ns′ us′ j′ u′ f′ → Calling ns us e j u f r ns′ us′ j′ u′ f′
+  unfolding callOf
+  by-step {r} {ns′} {us′} {j′} {u′} {f′} h w c = by-size (rightLengths (length j) (length u) (length f)) refl
+    where
+      by-size : (b : Bool) → rightLengths (length j) (length u) (length f) ≡ b → Calling ns us e j u f r ns′ us′ j′ u′ f′
+      by-size true s = as-called (rw (lt-ltb (e .line) lines h, s, w)) c
+      by-size false s = as-called (rw (lt-ltb (e .line) lines h, s) (size-step h s w)) c
 
   -- a step that is done on the line alone: the ledger stays
   pub put-after : {l : Line} {t : Alone} {v : Verdict} {a : Answer} {ns′ u′ f′ : List ℕ} {r : Answered} → e .line < lines → l ≡ lineOf ns (e .line) → SteppingAlone l e (length j) u f t u′ f′
@@ -122,29 +133,53 @@ module _ (ns : List ℕ) (i b : ℕ) (q : quick ns i b ≡ true) where
       let rest = and-right (eqb (firstAt ns i) inside) (not (is lf b) && not (eqb (numberAt ns i 1) mostCollected)) only in
       (not-true _ (and-left (not (is lf b)) (not (eqb (numberAt ns i 1) mostCollected)) rest), not-true _ (and-right (not (is lf b)) (not (eqb (numberAt ns i 1) mostCollected)) rest))
 
-module _ (ns us : List ℕ) (i b : ℕ) (j u f : List ℕ) (h : i < lines) (s : rightLengths (length j) (length u) (length f) ≡ true) (q : quick ns i b ≡ true) where
+-- STX between frames
+module _ (ns : List ℕ) (i b : ℕ) (q : begins ns i b ≡ true) where
+  is-between : stateOf (firstAt ns i) ≡ Waiting
+  is-between = rw (eqb-true (firstAt ns i) waiting (and-left (eqb (firstAt ns i) waiting) (is stx b && withinNumbers ns i) q))
+
+  is-begin : is stx b ≡ true
+  is-begin = and-left (is stx b) (withinNumbers ns i) (and-right (eqb (firstAt ns i) waiting) (is stx b && withinNumbers ns i) q)
+
+  begin-within : withinNumbers ns i ≡ true
+  begin-within = and-right (is stx b) (withinNumbers ns i) (and-right (eqb (firstAt ns i) waiting) (is stx b && withinNumbers ns i) q)
+
+module _ (ns us : List ℕ) (i b : ℕ) (j u f : List ℕ) (h : i < lines) (s : rightLengths (length j) (length u) (length f) ≡ true) where
   abbrev here : Event
   here = record { line = i; kind = Byte b }
 
-  within : withinNumbers ns i ≡ true
-  within = quick-within ns i b q
-
-  verdict : verdictOf todaysShares (lineOf ns i) (ledgerOf ns us) here j u f ≡ Collects
-  unfolding verdictOf ownWork byteLook insideLook
-  verdict = rw (lt-ltb i lines h, s, told-within ns i within, is-inside ns i b q, no-end ns i b q .0, no-end ns i b q .1)
-
-  collects : stepOf todaysShares (lineOf ns i) (ledgerOf ns us) here (memoryOf j u f) ≡ settle Collects (lineOf ns i) (ledgerOf ns us) here (memoryOf j u f)
+  -- what the verdict is known to be, the step leaves
+  stepped : (v : Verdict) → verdictOf todaysShares (lineOf ns i) (ledgerOf ns us) here j u f ≡ v
+      → putBack ns us i (stepOf todaysShares (lineOf ns i) (ledgerOf ns us) here (memoryOf j u f)) ≡ putBack ns us i (settle v (lineOf ns i) (ledgerOf ns us) here (memoryOf j u f))
   unfolding stepOf
-  collects = ap (λ (v : Verdict). settle v (lineOf ns i) (ledgerOf ns us) here (memoryOf j u f)) verdict
+  stepped v e = ap (λ (x : Verdict). putBack ns us i (settle x (lineOf ns i) (ledgerOf ns us) here (memoryOf j u f))) e
 
-  pub by-quick : {r : Answered} {ns′ f′ : List ℕ} → r ≡ told Nothing → ns′ ≡ oneMore ns i → f′ ≡ set f (frameStart i + numberAt ns i 1) b → Calling ns us here j u f r ns′ us j u f′
-  by-quick {r} {ns′} {f′} p n g = by-step ns us here j u f h s within (as-called (ap (λ (x : AfterStep). putBack ns us i x) collects) (record {
+  collects : quick ns i b ≡ true → verdictOf todaysShares (lineOf ns i) (ledgerOf ns us) here j u f ≡ Collects
+  unfolding verdictOf ownWork byteLook insideLook
+  collects q = rw (lt-ltb i lines h, s, told-within ns i (quick-within ns i b q), is-inside ns i b q, no-end ns i b q .0, no-end ns i b q .1)
+
+  pub by-quick : {r : Answered} {ns′ f′ : List ℕ} → quick ns i b ≡ true → r ≡ told Nothing → ns′ ≡ oneMore ns i → f′ ≡ set f (frameStart i + numberAt ns i 1) b → Calling ns us here j u f r ns′ us j u f′
+  by-quick q p n g = by-step ns us here j u f h (quick-within ns i b q) (as-called (stepped Collects (collects q)) (record {
     result = p;
-    numbers = n ∙ sym (count-back ns us i h within (numberAt ns i 1 + 1));
+    numbers = n ∙ sym (count-back ns us i h (quick-within ns i b q) (numberAt ns i 1 + 1));
     used = sym (used-back ns us i h);
     journal = refl;
     unfinished = refl;
     frames = g;
+  }))
+
+  begin : begins ns i b ≡ true → verdictOf todaysShares (lineOf ns i) (ledgerOf ns us) here j u f ≡ Begins
+  unfolding verdictOf ownWork byteLook waitingLook
+  begin q = rw (lt-ltb i lines h, s, told-within ns i (begin-within ns i b q), is-between ns i b q, is-begin ns i b q)
+
+  pub by-begin : {r : Answered} {ns′ : List ℕ} → begins ns i b ≡ true → r ≡ told Nothing → ns′ ≡ insideAt ns i → Calling ns us here j u f r ns′ us j u f
+  by-begin q p n = by-step ns us here j u f h (begin-within ns i b q) (as-called (stepped Begins (begin q)) (record {
+    result = p;
+    numbers = n ∙ sym (begun-back ns us i h (begin-within ns i b q));
+    used = sym (used-back ns us i h);
+    journal = refl;
+    unfinished = refl;
+    frames = refl;
   }))
 
 -- a taking
@@ -152,22 +187,24 @@ module _ (ns us : List ℕ) (i : ℕ) (j b : List ℕ) where
   pub narrow-taken : (d : Ledger) {t : Taking} → t ≡ takeOf d i j b .taking → Narrow d → Narrow (t .ledger)
   narrow-taken d q w = subst (λ (x : Taking). Narrow (x .ledger)) (sym q) (taking-narrow d i j b w)
 
-  module _ {d : Ledger} {t : Taking} {j′ b′ : List ℕ} {r : Answered} (p : d ≡ ledgerOf ns us) (x : TakenFrom d i j b t j′ b′) (a : r ≡ toldTaking (t .answer)) where
-    told-by : TakenFrom (ledgerOf ns us) i j b t j′ b′
-    told-by = rw (← p) x
+  -- 40, before the ledger is read
+  pub taken-nowhere : {r : Answered} → lines ≤ i → r ≡ told NoLine → Taken ns us i j b r us j b
+  taken-nowhere h a =
+      let n = taken-line (ledgerOf ns us) i j b h in
+      record {
+        result = a ∙ ap (λ (z : Taking). toldTaking (z .answer)) (n .result);
+        used = rw (le-ltb i lines h);
+        journal = n .after;
+        buffer = n .lent;
+      }
 
-    pub taken-nowhere : lines ≤ i → Taken ns us i j b r us j′ b′
-    taken-nowhere h = record {
-      result = a ∙ ap (λ (z : Taking). toldTaking (z .answer)) (told-by .result);
-      used = rw (le-ltb i lines h);
-      journal = told-by .after;
-      buffer = told-by .lent;
-    }
-
-    pub taken-there : {us′ : List ℕ} → i < lines → us′ ≡ withUsed us i (t .ledger) → Taken ns us i j b r us′ j′ b′
-    taken-there h o = record {
-      result = a ∙ ap (λ (z : Taking). toldTaking (z .answer)) (told-by .result);
-      used = rw (lt-ltb i lines h) (o ∙ ap (λ (z : Taking). withUsed us i (z .ledger)) (told-by .result));
-      journal = told-by .after;
-      buffer = told-by .lent;
-    }
+  pub taken-there : {d : Ledger} {t : Taking} {a : Answer} {us′ j′ b′ : List ℕ} {r : Answered} → i < lines → d ≡ ledgerOf ns us → TakenFrom d i j b t j′ b′ → a ≡ tookAnswer (t .answer) → r ≡ told a
+      → us′ ≡ withUsed us i (t .ledger) → Taken ns us i j b r us′ j′ b′
+  taken-there {d} {t} {a} {us′} {j′} {b′} {r} h p x c q o =
+      let y : TakenFrom (ledgerOf ns us) i j b t j′ b′ = rw (← p) x in
+      record {
+        result = q ∙ ap told c ∙ ap (λ (z : Taking). toldTaking (z .answer)) (y .result);
+        used = rw (lt-ltb i lines h) (o ∙ ap (λ (z : Taking). withUsed us i (z .ledger)) (y .result));
+        journal = y .after;
+        buffer = y .lent;
+      }

@@ -6,8 +6,6 @@
 ghost use Prim.Native.Nat.{_<_};
 ghost use mathlib.Core.Path.{_≡_};
 ghost use mathlib.Core.Bool.{true};
-ghost use lib.ListN.{length};
-ghost use Rattle.looking.specs.Lent.{rightLengths};
 ghost use Rattle.looking.specs.declared.Kind.the-variants.{Byte, Seconds};
 ghost use Rattle.memory.specs.Sizes.{lines};
 ghost use Rattle.ngachodui.specs.Plain.{withinNumbers};
@@ -53,7 +51,7 @@ pub struct Answered {
     pub length: usize,
 }
 
-// A byte has come on a line. Most bytes are only collected: that changes one number and one byte, and copies nothing.
+// A byte has come on a line. Most bytes are only collected, or begin a frame: that changes one number and at most one byte, and needs no record.
 #[no_mangle]
 pub extern "C" fn ngachodui_byte(
     line: u8,
@@ -71,11 +69,18 @@ pub extern "C" fn ngachodui_byte(
     if memory::LINES <= i {
         return plain::told(Answer::NoLine);
     }
-    if !plain::is_right(journal.len(), unfinished.len(), frames.len()) {
-        return plain::told(Answer::WrongSize);
-    }
     if plain::is_quick(numbers, i, byte) {
+        if !looking::are_right(journal.len(), unfinished.len(), frames.len()) {
+            return plain::told(Answer::WrongSize);
+        }
         plain::collect(i, byte, numbers, frames);
+        return plain::told(Answer::Nothing);
+    }
+    if plain::is_begin(numbers, i, byte) {
+        if !looking::are_right(journal.len(), unfinished.len(), frames.len()) {
+            return plain::told(Answer::WrongSize);
+        }
+        plain::begin(i, numbers);
         return plain::told(Answer::Nothing);
     }
     let e = Event {
@@ -103,9 +108,6 @@ pub extern "C" fn ngachodui_seconds(
     if memory::LINES <= i {
         return plain::told(Answer::NoLine);
     }
-    if !plain::is_right(journal.len(), unfinished.len(), frames.len()) {
-        return plain::told(Answer::WrongSize);
-    }
     let e = Event {
         line,
         kind: Kind::Seconds(seconds),
@@ -113,7 +115,7 @@ pub extern "C" fn ngachodui_seconds(
     event(e, numbers, used, journal, unfinished, frames)
 }
 
-// An event past 40 and 41: 42, then the gateway's step.
+// An event past 40. Numbers that are no record (42) are told here, behind 41, as no record can hold them; of a record the step tells 41 and 42 itself.
 fn event(
     e: Event,
     numbers: &mut [u16; plain::NUMBERS],
@@ -122,12 +124,15 @@ fn event(
     unfinished: &mut [u8],
     frames: &mut [u8],
 ) -> Answered
-    requires { ⌜ (e .line < lines) × (rightLengths (length (now journal)) (length (now unfinished)) (length (now frames)) ≡ true) ⌝ }
+    requires { ⌜ e .line < lines ⌝ }
     ensures { λ r. ⌜ Calling (now (numbers .entry)) (now (used .entry)) e (now (journal .entry)) (now (unfinished .entry)) (now (frames .entry))
         r (now (numbers .exit)) (now (used .exit)) (now (journal .exit)) (now (unfinished .exit)) (now (frames .exit)) ⌝ }
 {
     let i = e.line as usize;
     if !plain::is_within(numbers, i) {
+        if !looking::are_right(journal.len(), unfinished.len(), frames.len()) {
+            return plain::told(Answer::WrongSize);
+        }
         return plain::told(Answer::BeyondLimits);
     }
     step(e, numbers, used, journal, unfinished, frames)
@@ -198,16 +203,16 @@ pub extern "C" fn ngachodui_take(
 ) -> Answered
     ensures { λ r. ⌜ Taken (now (numbers .entry)) (now (used .entry)) line (now (journal .entry)) (now (buffer .entry)) r (now (used .exit)) (now (journal .exit)) (now (buffer .exit)) ⌝ }
 {
+    let i = line as usize;
+    if memory::LINES <= i {
+        return plain::told(Answer::NoLine);
+    }
     let ledger = plain::ledger_of(numbers, used);
     let taking = journal::take(ledger, line, journal, buffer);
     let booked = taking.ledger;
     let took = taking.answer;
-    let i = line as usize;
-    if memory::LINES <= i {
-        return plain::told_taking(took);
-    }
     plain::put_used(used, i, booked);
-    plain::told_taking(took)
+    plain::told(gateway::answer_to(took))
 }
 
 // Every line fresh, the journal empty: each next number is 1, and all other numbers are 0.
