@@ -1,7 +1,7 @@
 -- Each way out of a call.
 -- Assumes nothing.
 use mathlib.Core.Path.{_≡_, refl, sym, ap, subst, _∙_}
-use mathlib.Core.Bool.{Bool, true, false, not, _&&_}
+use mathlib.Core.Bool.{true, false, not, _&&_}
 use mathlib.Core.List.{List}
 use Prim.Native.Nat.{ℕ, _+_, _≤_, _<_}
 use borrow.Author.Tests.{lt-ltb, le-ltb, eqb-true, not-true}
@@ -37,7 +37,7 @@ use Rattle.looking.specs.declared.Verdict.the-variants.{Collects, Begins}
 use Rattle.ngachodui.specs.Plain.{waiting, inside, begins, insideAt, firstAt, numberAt, stateOf, withLine, withSerial, withUsed, withinNumbers, onlyCollects, oneMore, quick, lineOf, ledgerOf, told, toldTaking}
 use Rattle.ngachodui.specs.Calls.{AfterCall, refused, putBack, callOf, Called, Calling, Stepping, Deciding, Taken}
 use Rattle.ngachodui.specs.declared.Answered.{Answered}
-use Rattle.ngachodui.proofs.Numbers.{told-within, used-back, serial-back, count-back, begun-back, numbers-back}
+use Rattle.ngachodui.proofs.Numbers.{told-within, used-back, serial-back, count-back, begun-back}
 use Rattle.gateway.specs.Events.{tookAnswer}
 use Rattle.journal.proofs.Takings.{taken-line}
 use Rattle.receiving.proofs.Steps.{step-after, alone-asks, step-decides}
@@ -75,20 +75,11 @@ module _ (ns us : List ℕ) (e : Event) (j u f : List ℕ) where
     frames = y .frames;
   }
 
-  -- memory of another size: the step tells it too, and puts back what was there
-  size-step : e .line < lines → rightLengths (length j) (length u) (length f) ≡ false → withinNumbers ns (e .line) ≡ true
-      → refused WrongSize ns us (memoryOf j u f) ≡ putBack ns us (e .line) (stepOf todaysShares (lineOf ns (e .line)) (ledgerOf ns us) e (memoryOf j u f))
-  unfolding stepOf verdictOf
-  size-step h s w = rw (lt-ltb (e .line) lines h, s, numbers-back ns us (e .line) h w, used-back ns us (e .line) h)
-
-  -- past 40, numbers within their limits: the step
-  pub by-step : {r : Answered} {ns′ us′ j′ u′ f′ : List ℕ} → e .line < lines → withinNumbers ns (e .line) ≡ true → Stepping ns us e j u f r ns′ us′ j′ u′ f′ → Calling ns us e j u f r ns′ us′ j′ u′ f′
+  -- past 40 to 42: the step
+  pub by-step : {r : Answered} {ns′ us′ j′ u′ f′ : List ℕ} → e .line < lines → rightLengths (length j) (length u) (length f) ≡ true → withinNumbers ns (e .line) ≡ true
+      → Stepping ns us e j u f r ns′ us′ j′ u′ f′ → Calling ns us e j u f r ns′ us′ j′ u′ f′
   unfolding callOf
-  by-step {r} {ns′} {us′} {j′} {u′} {f′} h w c = by-size (rightLengths (length j) (length u) (length f)) refl
-    where
-      by-size : (b : Bool) → rightLengths (length j) (length u) (length f) ≡ b → Calling ns us e j u f r ns′ us′ j′ u′ f′
-      by-size true s = as-called (rw (lt-ltb (e .line) lines h, s, w)) c
-      by-size false s = as-called (rw (lt-ltb (e .line) lines h, s) (size-step h s w)) c
+  by-step h s w c = as-called (rw (lt-ltb (e .line) lines h, s, w)) c
 
   -- a step that is done on the line alone: the ledger stays
   pub put-after : {l : Line} {t : Alone} {v : Verdict} {a : Answer} {ns′ u′ f′ : List ℕ} {r : Answered} → e .line < lines → l ≡ lineOf ns (e .line) → SteppingAlone l e (length j) u f t u′ f′
@@ -159,7 +150,7 @@ module _ (ns us : List ℕ) (i b : ℕ) (j u f : List ℕ) (h : i < lines) (s : 
   collects q = rw (lt-ltb i lines h, s, told-within ns i (quick-within ns i b q), is-inside ns i b q, no-end ns i b q .0, no-end ns i b q .1)
 
   pub by-quick : {r : Answered} {ns′ f′ : List ℕ} → quick ns i b ≡ true → r ≡ told Nothing → ns′ ≡ oneMore ns i → f′ ≡ set f (frameStart i + numberAt ns i 1) b → Calling ns us here j u f r ns′ us j u f′
-  by-quick q p n g = by-step ns us here j u f h (quick-within ns i b q) (as-called (stepped Collects (collects q)) (record {
+  by-quick q p n g = by-step ns us here j u f h s (quick-within ns i b q) (as-called (stepped Collects (collects q)) (record {
     result = p;
     numbers = n ∙ sym (count-back ns us i h (quick-within ns i b q) (numberAt ns i 1 + 1));
     used = sym (used-back ns us i h);
@@ -173,7 +164,7 @@ module _ (ns us : List ℕ) (i b : ℕ) (j u f : List ℕ) (h : i < lines) (s : 
   begin q = rw (lt-ltb i lines h, s, told-within ns i (begin-within ns i b q), is-between ns i b q, is-begin ns i b q)
 
   pub by-begin : {r : Answered} {ns′ : List ℕ} → begins ns i b ≡ true → r ≡ told Nothing → ns′ ≡ insideAt ns i → Calling ns us here j u f r ns′ us j u f
-  by-begin q p n = by-step ns us here j u f h (begin-within ns i b q) (as-called (stepped Begins (begin q)) (record {
+  by-begin q p n = by-step ns us here j u f h s (begin-within ns i b q) (as-called (stepped Begins (begin q)) (record {
     result = p;
     numbers = n ∙ sym (begun-back ns us i h (begin-within ns i b q));
     used = sym (used-back ns us i h);

@@ -7,6 +7,8 @@ ghost use Prim.Native.Nat.{_<_};
 ghost use mathlib.Core.Path.{_≡_};
 ghost use mathlib.Core.Bool.{true};
 ghost use Rattle.looking.specs.declared.Kind.the-variants.{Byte, Seconds};
+ghost use lib.ListN.{length};
+ghost use Rattle.looking.specs.Lent.{rightLengths};
 ghost use Rattle.memory.specs.Sizes.{lines};
 ghost use Rattle.ngachodui.specs.Plain.{withinNumbers};
 ghost use Rattle.ngachodui.specs.Layout.{layout};
@@ -69,17 +71,14 @@ pub extern "C" fn ngachodui_byte(
     if memory::LINES <= i {
         return plain::told(Answer::NoLine);
     }
+    if !looking::are_right(journal.len(), unfinished.len(), frames.len()) {
+        return plain::told(Answer::WrongSize);
+    }
     if plain::is_quick(numbers, i, byte) {
-        if !looking::are_right(journal.len(), unfinished.len(), frames.len()) {
-            return plain::told(Answer::WrongSize);
-        }
         plain::collect(i, byte, numbers, frames);
         return plain::told(Answer::Nothing);
     }
     if plain::is_begin(numbers, i, byte) {
-        if !looking::are_right(journal.len(), unfinished.len(), frames.len()) {
-            return plain::told(Answer::WrongSize);
-        }
         plain::begin(i, numbers);
         return plain::told(Answer::Nothing);
     }
@@ -108,6 +107,9 @@ pub extern "C" fn ngachodui_seconds(
     if memory::LINES <= i {
         return plain::told(Answer::NoLine);
     }
+    if !looking::are_right(journal.len(), unfinished.len(), frames.len()) {
+        return plain::told(Answer::WrongSize);
+    }
     let e = Event {
         line,
         kind: Kind::Seconds(seconds),
@@ -115,7 +117,7 @@ pub extern "C" fn ngachodui_seconds(
     event(e, numbers, used, journal, unfinished, frames)
 }
 
-// An event past 40. Numbers that are no record (42) are told here, behind 41, as no record can hold them; of a record the step tells 41 and 42 itself.
+// An event past 40 and 41: numbers that are no record are 42, and a record is stepped.
 fn event(
     e: Event,
     numbers: &mut [u16; plain::NUMBERS],
@@ -124,15 +126,12 @@ fn event(
     unfinished: &mut [u8],
     frames: &mut [u8],
 ) -> Answered
-    requires { ⌜ e .line < lines ⌝ }
+    requires { ⌜ (e .line < lines) × (rightLengths (length (now journal)) (length (now unfinished)) (length (now frames)) ≡ true) ⌝ }
     ensures { λ r. ⌜ Calling (now (numbers .entry)) (now (used .entry)) e (now (journal .entry)) (now (unfinished .entry)) (now (frames .entry))
         r (now (numbers .exit)) (now (used .exit)) (now (journal .exit)) (now (unfinished .exit)) (now (frames .exit)) ⌝ }
 {
     let i = e.line as usize;
     if !plain::is_within(numbers, i) {
-        if !looking::are_right(journal.len(), unfinished.len(), frames.len()) {
-            return plain::told(Answer::WrongSize);
-        }
         return plain::told(Answer::BeyondLimits);
     }
     step(e, numbers, used, journal, unfinished, frames)
