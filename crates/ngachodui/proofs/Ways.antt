@@ -9,7 +9,7 @@ use lib.Dec.{eqb}
 use lib.ListN.{length, set}
 use Rattle.memory.specs.Sizes.{lines}
 use Rattle.memory.specs.Tests.{is}
-use Rattle.memory.proofs.Tests.{and-left, and-right}
+use Rattle.memory.proofs.Tests.{and-left, and-right, clash}
 use Rattle.characters.specs.Control.{lf, stx}
 use Rattle.room.specs.Room.{todaysShares}
 use Rattle.line.specs.Line.{mostCollected}
@@ -29,9 +29,10 @@ use Rattle.receiving.specs.declared.Stepped.{Stepped}
 use Rattle.journal.specs.declared.Ledger.{Ledger}
 use Rattle.journal.specs.declared.Taking.{Taking}
 use Rattle.journal.specs.Removal.{takeOf, TakenFrom}
-use Rattle.line.specs.declared.State.the-variants.{Waiting, Inside}
+use Rattle.line.specs.declared.State.the-variants.{Inside}
 use Rattle.looking.specs.declared.Event.{Event}
-use Rattle.looking.specs.declared.Kind.the-variants.{Byte}
+use Rattle.looking.specs.declared.Kind.{Kind}
+use Rattle.looking.specs.declared.Kind.the-variants.{Byte, Seconds}
 use Rattle.looking.specs.declared.Verdict.{Verdict}
 use Rattle.looking.specs.declared.Verdict.the-variants.{Collects, Begins}
 use Rattle.ngachodui.specs.Plain.{waiting, inside, begins, insideAt, firstAt, numberAt, stateOf, withLine, withSerial, withUsed, withinNumbers, onlyCollects, oneMore, quick, lineOf, ledgerOf, told, toldTaking}
@@ -124,17 +125,6 @@ module _ (ns : List ℕ) (i b : ℕ) (q : quick ns i b ≡ true) where
       let rest = and-right (eqb (firstAt ns i) inside) (not (is lf b) && not (eqb (numberAt ns i 1) mostCollected)) only in
       (not-true _ (and-left (not (is lf b)) (not (eqb (numberAt ns i 1) mostCollected)) rest), not-true _ (and-right (not (is lf b)) (not (eqb (numberAt ns i 1) mostCollected)) rest))
 
--- STX between frames
-module _ (ns : List ℕ) (i b : ℕ) (q : begins ns i b ≡ true) where
-  is-between : stateOf (firstAt ns i) ≡ Waiting
-  is-between = rw (eqb-true (firstAt ns i) waiting (and-left (eqb (firstAt ns i) waiting) (is stx b && withinNumbers ns i) q))
-
-  is-begin : is stx b ≡ true
-  is-begin = and-left (is stx b) (withinNumbers ns i) (and-right (eqb (firstAt ns i) waiting) (is stx b && withinNumbers ns i) q)
-
-  begin-within : withinNumbers ns i ≡ true
-  begin-within = and-right (is stx b) (withinNumbers ns i) (and-right (eqb (firstAt ns i) waiting) (is stx b && withinNumbers ns i) q)
-
 module _ (ns us : List ℕ) (i b : ℕ) (j u f : List ℕ) (h : i < lines) (s : rightLengths (length j) (length u) (length f) ≡ true) where
   abbrev here : Event
   here = record { line = i; kind = Byte b }
@@ -159,15 +149,22 @@ module _ (ns us : List ℕ) (i b : ℕ) (j u f : List ℕ) (h : i < lines) (s : 
     frames = g;
   }))
 
-  begin : begins ns i b ≡ true → verdictOf todaysShares (lineOf ns i) (ledgerOf ns us) here j u f ≡ Begins
+-- STX between frames: the line is inside one, and nothing else has changed
+module _ (ns us : List ℕ) (e : Event) (j u f : List ℕ) (h : e .line < lines) (s : rightLengths (length j) (length u) (length f) ≡ true) (w : withinNumbers ns (e .line) ≡ true) where
+  begin-verdict : (k : Kind) → e .kind ≡ k → begins ns (e .line) k ≡ true → verdictOf todaysShares (lineOf ns (e .line)) (ledgerOf ns us) e j u f ≡ Begins
   unfolding verdictOf ownWork byteLook waitingLook
-  begin q = rw (lt-ltb i lines h, s, told-within ns i (begin-within ns i b q), is-between ns i b q, is-begin ns i b q)
+  begin-verdict (Byte b) p q =
+      let stx-is = and-left (is stx b) (eqb (firstAt ns (e .line)) waiting) q in
+      let between = eqb-true (firstAt ns (e .line)) waiting (and-right (is stx b) (eqb (firstAt ns (e .line)) waiting) q) in
+      rw (lt-ltb (e .line) lines h, s, told-within ns (e .line) w, p, between, stx-is)
+  begin-verdict (Seconds n) p q = clash cc
 
-  pub by-begin : {r : Answered} {ns′ : List ℕ} → begins ns i b ≡ true → r ≡ told Nothing → ns′ ≡ insideAt ns i → Calling ns us here j u f r ns′ us j u f
-  by-begin q p n = by-step ns us here j u f h s (begin-within ns i b q) (as-called (stepped Begins (begin q)) (record {
-    result = p;
-    numbers = n ∙ sym (begun-back ns us i h (begin-within ns i b q));
-    used = sym (used-back ns us i h);
+  pub by-begin : {ns′ : List ℕ} → begins ns (e .line) (e .kind) ≡ true → ns′ ≡ insideAt ns (e .line) → Calling ns us e j u f (told Nothing) ns′ us j u f
+  unfolding stepOf
+  by-begin q n = by-step ns us e j u f h s w (as-called (ap (λ (x : Verdict). putBack ns us (e .line) (settle x (lineOf ns (e .line)) (ledgerOf ns us) e (memoryOf j u f))) (begin-verdict (e .kind) refl q)) (record {
+    result = refl;
+    numbers = n ∙ sym (begun-back ns us (e .line) h w);
+    used = sym (used-back ns us (e .line) h);
     journal = refl;
     unfinished = refl;
     frames = refl;

@@ -1,7 +1,7 @@
 -- A line's record, the ledger and an answer in plain numbers, as a host keeps them.
 -- Assumes nothing.
 use Prim.Native.Nat.{ℕ, zero, suc, _+_, _*_}
-use mathlib.Core.Bool.{Bool, cond, not, _&&_}
+use mathlib.Core.Bool.{Bool, false, cond, not, _&&_}
 use mathlib.Core.List.{List, [], _∷_, _++_}
 use lib.ListN.{getD, set}
 use lib.Dec.{leb, eqb}
@@ -18,9 +18,11 @@ use Rattle.line.specs.declared.State.the-variants.{Neutral, Waiting, Inside}
 use Rattle.line.specs.declared.Last.{Last}
 use Rattle.line.specs.declared.Last.the-variants.{NoneYet, Number}
 use Rattle.line.specs.declared.Reply.{Reply}
-use Rattle.line.specs.declared.Reply.the-variants.{Silence, Byte}
+use Rattle.line.specs.declared.Reply.the-variants.{Silence, Byte as Sent}
 use Rattle.line.specs.declared.Answer.{Answer}
 use Rattle.journal.specs.declared.Took.{Took}
+use Rattle.looking.specs.declared.Kind.{Kind}
+use Rattle.looking.specs.declared.Kind.the-variants.{Byte, Seconds}
 use Rattle.gateway.specs.Events.{tookAnswer}
 use Rattle.ngachodui.specs.declared.Answered.{Answered}
 
@@ -105,9 +107,10 @@ quick ns i b = onlyCollects ns i b && withinNumbers ns i
 abbrev pub oneMore : List ℕ → ℕ → List ℕ
 oneMore ns i = set ns (start i + collectedAt) (numberAt ns i collectedAt + 1)
 
--- STX between frames, with nothing against it: it only begins a frame; and the numbers then
-abbrev pub begins : List ℕ → ℕ → ℕ → Bool
-begins ns i b = eqb (firstAt ns i) waiting && (is stx b && withinNumbers ns i)
+-- STX between frames only begins one; and the numbers then
+abbrev pub begins : List ℕ → ℕ → Kind → Bool
+begins ns i (Byte b) = is stx b && eqb (firstAt ns i) waiting
+begins ns i (Seconds s) = false
 
 abbrev pub insideAt : List ℕ → ℕ → List ℕ
 insideAt ns i = set ns (start i) inside
@@ -160,7 +163,7 @@ withUsed us i d = set (set us i (getD (d .used) i 0)) lines (d .in_use)
 -- a reply byte, or 0 for none
 abbrev pub replyByte : Reply → ℕ
 replyByte Silence = 0
-replyByte (Byte b) = b
+replyByte (Sent b) = b
 
 -- an answer: its number, its reply and the values that it carries
 unfoldable pub told : Answer → Answered

@@ -10,7 +10,7 @@ ghost use Rattle.looking.specs.declared.Kind.the-variants.{Byte, Seconds};
 ghost use lib.ListN.{length};
 ghost use Rattle.looking.specs.Lent.{rightLengths};
 ghost use Rattle.memory.specs.Sizes.{lines};
-ghost use Rattle.ngachodui.specs.Plain.{withinNumbers};
+ghost use Rattle.ngachodui.specs.Plain.{withinNumbers, told};
 ghost use Rattle.ngachodui.specs.Layout.{layout};
 ghost use Rattle.ngachodui.specs.Calls.{Calling, Stepping, Deciding, Taken, Fresh};
 use line::Answer;
@@ -53,7 +53,7 @@ pub struct Answered {
     pub length: usize,
 }
 
-// A byte has come on a line. Most bytes are only collected, or begin a frame: that changes one number and at most one byte, and needs no record.
+// A byte has come on a line. Most bytes are only collected: that changes one number and one byte, and copies nothing.
 #[no_mangle]
 pub extern "C" fn ngachodui_byte(
     line: u8,
@@ -78,15 +78,11 @@ pub extern "C" fn ngachodui_byte(
         plain::collect(i, byte, numbers, frames);
         return plain::told(Answer::Nothing);
     }
-    if plain::is_begin(numbers, i, byte) {
-        plain::begin(i, numbers);
-        return plain::told(Answer::Nothing);
-    }
     let e = Event {
         line,
         kind: Kind::Byte(byte),
     };
-    event(e, numbers, used, journal, unfinished, frames)
+    plain::told(event(e, numbers, used, journal, unfinished, frames))
 }
 
 // Seconds have passed on a line.
@@ -114,10 +110,10 @@ pub extern "C" fn ngachodui_seconds(
         line,
         kind: Kind::Seconds(seconds),
     };
-    event(e, numbers, used, journal, unfinished, frames)
+    plain::told(event(e, numbers, used, journal, unfinished, frames))
 }
 
-// An event past 40 and 41: numbers that are no record are 42, and a record is stepped.
+// An event past 40 and 41: numbers that are no record are 42; STX between frames only begins one, and needs no record; any other is stepped.
 fn event(
     e: Event,
     numbers: &mut [u16; plain::NUMBERS],
@@ -125,14 +121,19 @@ fn event(
     journal: &mut [u8],
     unfinished: &mut [u8],
     frames: &mut [u8],
-) -> Answered
+) -> Answer
     requires { ⌜ (e .line < lines) × (rightLengths (length (now journal)) (length (now unfinished)) (length (now frames)) ≡ true) ⌝ }
     ensures { λ r. ⌜ Calling (now (numbers .entry)) (now (used .entry)) e (now (journal .entry)) (now (unfinished .entry)) (now (frames .entry))
-        r (now (numbers .exit)) (now (used .exit)) (now (journal .exit)) (now (unfinished .exit)) (now (frames .exit)) ⌝ }
+        (told r) (now (numbers .exit)) (now (used .exit)) (now (journal .exit)) (now (unfinished .exit)) (now (frames .exit)) ⌝ }
 {
     let i = e.line as usize;
     if !plain::is_within(numbers, i) {
-        return plain::told(Answer::BeyondLimits);
+        return Answer::BeyondLimits;
+    }
+    let kind = e.kind;
+    if plain::is_begin(numbers, i, kind) {
+        plain::begin(i, numbers);
+        return Answer::Nothing;
     }
     step(e, numbers, used, journal, unfinished, frames)
 }
@@ -145,10 +146,10 @@ fn step(
     journal: &mut [u8],
     unfinished: &mut [u8],
     frames: &mut [u8],
-) -> Answered
+) -> Answer
     requires { ⌜ (e .line < lines) × (withinNumbers (now numbers) (e .line) ≡ true) ⌝ }
     ensures { λ r. ⌜ Stepping (now (numbers .entry)) (now (used .entry)) e (now (journal .entry)) (now (unfinished .entry)) (now (frames .entry))
-        r (now (numbers .exit)) (now (used .exit)) (now (journal .exit)) (now (unfinished .exit)) (now (frames .exit)) ⌝ }
+        (told r) (now (numbers .exit)) (now (used .exit)) (now (journal .exit)) (now (unfinished .exit)) (now (frames .exit)) ⌝ }
 {
     let i = e.line as usize;
     let record = plain::record_of(numbers, i);
@@ -158,7 +159,7 @@ fn step(
     match look {
         Look::Done(v) => {
             plain::put_record(numbers, i, after);
-            plain::told(v.answer())
+            v.answer()
         }
         Look::Decides(n) => decide(record, e, n, numbers, used, journal, unfinished, frames),
     }
@@ -174,10 +175,10 @@ fn decide(
     journal: &mut [u8],
     unfinished: &mut [u8],
     frames: &mut [u8],
-) -> Answered
+) -> Answer
     requires { ⌜ e .line < lines ⌝ }
     ensures { λ r. ⌜ Deciding (now (numbers .entry)) (now (used .entry)) line e n (now (journal .entry)) (now (unfinished .entry)) (now (frames .entry))
-        r (now (numbers .exit)) (now (used .exit)) (now (journal .exit)) (now (unfinished .exit)) (now (frames .exit)) ⌝ }
+        (told r) (now (numbers .exit)) (now (used .exit)) (now (journal .exit)) (now (unfinished .exit)) (now (frames .exit)) ⌝ }
 {
     let i = e.line as usize;
     let ledger = plain::ledger_of(numbers, used);
@@ -188,7 +189,7 @@ fn decide(
     plain::put_record(numbers, i, after);
     plain::put_serial(numbers, i, booked);
     plain::put_used(used, i, booked);
-    plain::told(answer)
+    answer
 }
 
 // The text of a line's oldest entry goes to the start of the buffer.

@@ -16,6 +16,7 @@ use line::Last;
 use line::Line;
 use line::Reply;
 use line::State;
+use looking::Kind;
 
 // A line's numbers are so many; the first is its state, and the others stand so far behind it.
 pub const FIELDS: usize = 8;
@@ -94,19 +95,21 @@ pub fn collect(i: usize, byte: u8, numbers: &mut [u16; NUMBERS], frames: &mut [u
     numbers[at] = collected + 1;
 }
 
-// Whether a byte is STX between frames, and its line's numbers are within their limits: it only begins a frame.
-pub fn is_begin(numbers: &[u16; NUMBERS], i: usize, byte: u8) -> bool
+// Whether an event is STX between frames: it only begins one.
+pub fn is_begin(numbers: &[u16; NUMBERS], i: usize, kind: Kind) -> bool
     requires { ⌜ i < lines ⌝ }
-    ensures { λ r. ⌜ r ≡ begins (now (numbers .entry)) i byte ⌝ }
+    ensures { λ r. ⌜ r ≡ begins (now (numbers .entry)) i kind ⌝ }
 {
     let at = i * FIELDS;
-    if numbers[at] != WAITING {
-        return false;
+    match kind {
+        Kind::Byte(b) => {
+            if b != STX {
+                return false;
+            }
+            numbers[at] == WAITING
+        }
+        Kind::Seconds(_) => false,
     }
-    if byte != STX {
-        return false;
-    }
-    is_within(numbers, i)
 }
 
 // The line is inside a frame, and nothing else changes.

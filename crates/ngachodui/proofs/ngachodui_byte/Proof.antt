@@ -13,7 +13,7 @@ use Rattle.looking.specs.Lent.{rightLengths}
 use Rattle.looking.specs.declared.Kind.the-variants.{Byte}
 use Rattle.looking.proofs.Alone.{lengths-facts}
 use Rattle.ngachodui.proofs.Numbers.{numbers-facts}
-use Rattle.ngachodui.proofs.Ways.{no-line, wrong-size, quick-within, by-quick, by-begin}
+use Rattle.ngachodui.proofs.Ways.{no-line, wrong-size, quick-within, by-quick}
 use Rattle.ngachodui.proofs.ngachodui_byte.Statement.{statement}
 use Rattle.ngachodui.proofs.ngachodui_byte.Tie as tie
 
@@ -28,12 +28,9 @@ sizes c = sym (c .before .are-right .ensures) ∙ not-false _ (c .if2 .left)
 on-line : (c : tie.Else2) → entry (c .before) .args .line < lines
 on-line c = omega arith
 
--- behind 41, from each of the two looks at the byte
+-- behind 41, from the look at the byte
 abbrev past : tie.After-is-quick → tie.Else2
 past c = c .before .before
-
-abbrev past-quick : tie.After-is-begin → tie.Else2
-past-quick c = let other = c .before .before in past (other .before)
 
 returns : tie.Need-returns
 returns c =
@@ -67,20 +64,16 @@ returns-3 c =
     by-quick (now (a .numbers)) (now (a .used)) (a .line) (a .byte) (now (a .journal)) (now (a .unfinished)) (now (a .frames)) (on-line (past quick)) (sizes (past quick)) (sym (quick .is-quick .ensures) ∙ taken .if3 .taken)
     (c .told3 .ensures) (collected .collect .ensures .0) (collected .collect .ensures .1)
 
--- STX: one number
-returns-4 : tie.Need-returns-4
-returns-4 c =
-    let begun = c .before in
-    let taken = begun .before .before in
-    let begin = taken .before in
-    let a = entry (past-quick begin .before) .args in
-    by-begin (now (a .numbers)) (now (a .used)) (a .line) (a .byte) (now (a .journal)) (now (a .unfinished)) (now (a .frames)) (on-line (past-quick begin)) (sizes (past-quick begin)) (sym (begin .is-begin .ensures) ∙ taken .if4 .taken)
-    (c .told4 .ensures) (begun .begin .ensures)
-
 event-requires : tie.Need-event-requires
 event-requires c κs =
     let other = c .before .before .before .before .before in
-    (omega arith, sizes (past-quick (other .before)))
+    (omega arith, sizes (past (other .before)))
+
+returns-4 : tie.Need-returns-4
+returns-4 c =
+    let back = c .before .before .before .before in
+    let asked = back .before .before .before in
+    rw (c .told4 .ensures) (asked .event .ensures)
 
 pub ngachodui-byte-spec : {M : Type 1} → statement M
 ngachodui-byte-spec =
@@ -96,12 +89,9 @@ ngachodui-byte-spec =
     (λ c κs. search needs)
     (λ c. search needs)
     returns-3
-    (λ c κs. omega arith)
-    (λ c κs. omega arith)
-    (λ c κs. search needs)
-    returns-4
     event-requires
+    (λ c κs. search needs)
     (λ c. search needs)
     (λ c. search needs)
     (λ c. search needs)
-    (λ c. search needs))
+    returns-4)
