@@ -13,11 +13,13 @@ use lib.Seq.{set-getD, getD-set-other}
 use Rattle.memory.specs.Sizes.{lines, messageLimit}
 use Rattle.memory.proofs.Tests.{and-left, and-right}
 use Rattle.digits.specs.Number.{mostNumber}
-use Rattle.line.specs.Line.{mostCollected, mostSeconds, lastWithin, withinLimits, collectedLine}
+use Rattle.line.specs.Line.{mostCollected, mostSeconds, lastWithin, withinLimits, collectedLine, begunLine}
 use Rattle.line.specs.declared.Last.the-variants.{Number}
 use Rattle.line.proofs.Limits.{collected-fits, within-of}
 use Rattle.line.specs.declared.Line.{Line}
-use Rattle.ngachodui.specs.Plain.{inside, start, firstAt, numberAt, stateOf, stateNumber, lastOf, lastNumber, flag, withinNumbers, lineOf, withLine, ledgerOf, withSerial, withUsed}
+use Rattle.line.specs.declared.State.{State}
+use Rattle.line.specs.declared.State.the-variants.{Inside}
+use Rattle.ngachodui.specs.Plain.{insideAt, inside, start, firstAt, numberAt, stateOf, stateNumber, lastOf, lastNumber, flag, withinNumbers, lineOf, withLine, ledgerOf, withSerial, withUsed}
 
 pub record WithinNumbers (ns : List ℕ) (i : ℕ) : Type 0 where
   pub state : firstAt ns i ≤ inside
@@ -142,27 +144,49 @@ serial-kept ns i l =
 pub serial-back : (ns us : List ℕ) (i : ℕ) (l : Line) → i < lines → withSerial (withLine ns i l) i (ledgerOf ns us) ≡ withLine ns i l
 serial-back ns us i l h = again (withLine ns i l) (start i + 7) (getD (ledgerOf ns us .serials) i 0) (serial-at ns us i h ∙ sym (serial-kept ns i l))
 
--- the record and the ledger that the numbers tell, put back with another count of collected bytes: the other numbers of the line stay
-module _ (ns us : List ℕ) (i : ℕ) (h : i < lines) (e : withinNumbers ns i ≡ true) (count : ℕ) where
-  abbrev counted : List ℕ
-  counted = set ns (start i + 1) count
+-- the record and the ledger that the numbers tell, put back with another state and another count of collected bytes: the other numbers of the line stay
+module _ (ns us : List ℕ) (i : ℕ) (h : i < lines) (e : withinNumbers ns i ≡ true) where
+  abbrev changed : State → ℕ → Line
+  changed s count = record {
+    state = s;
+    collected = count;
+    joined = lineOf ns i .joined;
+    seconds = lineOf ns i .seconds;
+    next = lineOf ns i .next;
+    last = lineOf ns i .last;
+    refusing = lineOf ns i .refusing;
+  }
 
-  kept-number : (k : ℕ) → (k ≡ 1 → ⊥) → getD counted (start i + k) 0 ≡ numberAt ns i k
-  kept-number k n = getD-set-other ns (start i + 1) (start i + k) _ 0 (λ q. n (omega arith))
+  module _ (s : State) (count : ℕ) where
+    abbrev moved : List ℕ
+    moved = set ns (start i) (stateNumber s)
 
-  pub count-back : withSerial (withLine ns i (collectedLine (lineOf ns i) count)) i (ledgerOf ns us) ≡ set ns (start i + 1) count
-  unfolding withLine
-  count-back =
-      let w = numbers-facts ns i e in
-      rw (
-        again ns (start i) (stateNumber (stateOf (firstAt ns i))) (state-back (firstAt ns i) (w .state)),
-        again counted (start i + 2) (numberAt ns i 2) (sym (kept-number 2 (λ q. absurd (omega arith)))),
-        again counted (start i + 3) (numberAt ns i 3) (sym (kept-number 3 (λ q. absurd (omega arith)))),
-        again counted (start i + 4) (numberAt ns i 4) (sym (kept-number 4 (λ q. absurd (omega arith)))),
-        again counted (start i + 5) (lastNumber (lastOf (numberAt ns i 5))) (last-back (numberAt ns i 5) ∙ sym (kept-number 5 (λ q. absurd (omega arith)))),
-        again counted (start i + 6) (flag (eqb (numberAt ns i 6) 1)) (flag-back (numberAt ns i 6) (w .refusing) ∙ sym (kept-number 6 (λ q. absurd (omega arith)))),
-      )
-      (again counted (start i + 7) (getD (ledgerOf ns us .serials) i 0) (serial-at ns us i h ∙ sym (kept-number 7 (λ q. absurd (omega arith)))))
+    abbrev counted : List ℕ
+    counted = set moved (start i + 1) count
+
+    kept-number : (k : ℕ) → 1 < k → getD counted (start i + k) 0 ≡ numberAt ns i k
+    kept-number k n = getD-set-other moved (start i + 1) (start i + k) _ 0 (λ q. absurd (omega arith)) ∙ getD-set-other ns (start i) (start i + k) _ 0 (λ q. absurd (omega arith))
+
+    changed-back : withSerial (withLine ns i (changed s count)) i (ledgerOf ns us) ≡ counted
+    unfolding withLine
+    changed-back =
+        let w = numbers-facts ns i e in
+        rw (
+          again counted (start i + 2) (numberAt ns i 2) (sym (kept-number 2 (omega arith))),
+          again counted (start i + 3) (numberAt ns i 3) (sym (kept-number 3 (omega arith))),
+          again counted (start i + 4) (numberAt ns i 4) (sym (kept-number 4 (omega arith))),
+          again counted (start i + 5) (lastNumber (lastOf (numberAt ns i 5))) (last-back (numberAt ns i 5) ∙ sym (kept-number 5 (omega arith))),
+          again counted (start i + 6) (flag (eqb (numberAt ns i 6) 1)) (flag-back (numberAt ns i 6) (w .refusing) ∙ sym (kept-number 6 (omega arith))),
+        )
+        (again counted (start i + 7) (getD (ledgerOf ns us .serials) i 0) (serial-at ns us i h ∙ sym (kept-number 7 (omega arith))))
+
+  pub count-back : (count : ℕ) → withSerial (withLine ns i (collectedLine (lineOf ns i) count)) i (ledgerOf ns us) ≡ set ns (start i + 1) count
+  count-back count =
+      changed-back (lineOf ns i .state) count
+      ∙ ap (λ (x : List ℕ). set x (start i + 1) count) (again ns (start i) (stateNumber (stateOf (firstAt ns i))) (state-back (firstAt ns i) (numbers-facts ns i e .state)))
+
+  pub begun-back : withSerial (withLine ns i (begunLine (lineOf ns i))) i (ledgerOf ns us) ≡ insideAt ns i
+  begun-back = changed-back Inside (numberAt ns i 1) ∙ again (insideAt ns i) (start i + 1) (numberAt ns i 1) (sym (getD-set-other ns (start i) (start i + 1) _ 0 (λ q. absurd (omega arith))))
 
 -- as they are
 pub numbers-back : (ns us : List ℕ) (i : ℕ) → i < lines → withinNumbers ns i ≡ true → withSerial (withLine ns i (lineOf ns i)) i (ledgerOf ns us) ≡ ns

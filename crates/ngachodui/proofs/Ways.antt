@@ -9,15 +9,15 @@ use lib.Dec.{eqb}
 use lib.ListN.{length, set}
 use Rattle.memory.specs.Sizes.{lines}
 use Rattle.memory.specs.Tests.{is}
-use Rattle.memory.proofs.Tests.{and-left, and-right}
-use Rattle.characters.specs.Control.{lf}
+use Rattle.memory.proofs.Tests.{and-left, and-right, clash}
+use Rattle.characters.specs.Control.{lf, stx}
 use Rattle.room.specs.Room.{todaysShares}
 use Rattle.line.specs.Line.{mostCollected}
 use Rattle.line.specs.declared.Answer.{Answer}
 use Rattle.line.specs.declared.Answer.the-variants.{Nothing, NoLine, WrongSize, BeyondLimits}
 use Rattle.line.specs.declared.Line.{Line}
 use Rattle.looking.specs.Views.{frameStart}
-use Rattle.looking.specs.Looks.{byteLook, insideLook}
+use Rattle.looking.specs.Looks.{byteLook, insideLook, waitingLook}
 use Rattle.receiving.specs.Verdicts.{ownWork, verdictOf}
 use Rattle.looking.specs.Lent.{rightLengths}
 use Rattle.receiving.specs.Steps.{Memory, AfterStep, Leaves, memoryOf, settle, stepOf}
@@ -31,13 +31,16 @@ use Rattle.journal.specs.declared.Taking.{Taking}
 use Rattle.journal.specs.Removal.{takeOf, TakenFrom}
 use Rattle.line.specs.declared.State.the-variants.{Inside}
 use Rattle.looking.specs.declared.Event.{Event}
-use Rattle.looking.specs.declared.Kind.the-variants.{Byte}
+use Rattle.looking.specs.declared.Kind.{Kind}
+use Rattle.looking.specs.declared.Kind.the-variants.{Byte, Seconds}
 use Rattle.looking.specs.declared.Verdict.{Verdict}
-use Rattle.looking.specs.declared.Verdict.the-variants.{Collects}
-use Rattle.ngachodui.specs.Plain.{inside, firstAt, numberAt, stateOf, withLine, withSerial, withUsed, withinNumbers, onlyCollects, oneMore, quick, lineOf, ledgerOf, told, toldTaking}
+use Rattle.looking.specs.declared.Verdict.the-variants.{Collects, Begins}
+use Rattle.ngachodui.specs.Plain.{waiting, inside, begins, insideAt, firstAt, numberAt, stateOf, withLine, withSerial, withUsed, withinNumbers, onlyCollects, oneMore, quick, lineOf, ledgerOf, told, toldTaking}
 use Rattle.ngachodui.specs.Calls.{AfterCall, refused, putBack, callOf, Called, Calling, Stepping, Deciding, Taken}
 use Rattle.ngachodui.specs.declared.Answered.{Answered}
-use Rattle.ngachodui.proofs.Numbers.{told-within, used-back, serial-back, count-back}
+use Rattle.ngachodui.proofs.Numbers.{told-within, used-back, serial-back, count-back, begun-back}
+use Rattle.gateway.specs.Events.{tookAnswer}
+use Rattle.journal.proofs.Takings.{taken-line}
 use Rattle.receiving.proofs.Steps.{step-after, alone-asks, step-decides}
 use Rattle.ngachodui.proofs.Narrow.{Narrow, decide-narrow, taking-narrow}
 
@@ -61,12 +64,6 @@ module _ (ns us : List ℕ) (e : Event) (j u f : List ℕ) where
   unfolding callOf
   beyond r h s w q = as-called (rw (lt-ltb (e .line) lines h, s, w)) (same BeyondLimits r q)
 
-  -- and past them
-  pub by-step : {r : Answered} {ns′ us′ j′ u′ f′ : List ℕ} → e .line < lines → rightLengths (length j) (length u) (length f) ≡ true → withinNumbers ns (e .line) ≡ true
-      → Stepping ns us e j u f r ns′ us′ j′ u′ f′ → Calling ns us e j u f r ns′ us′ j′ u′ f′
-  unfolding callOf
-  by-step h s w c = as-called (rw (lt-ltb (e .line) lines h, s, w)) c
-
   -- an outcome of the gateway, put back
   put-back : {x : AfterStep} {s : Stepped} {ns₁ ns₂ us′ j′ u′ f′ : List ℕ} {r : Answered} → Leaves x s j′ u′ f′ → ns₁ ≡ withLine ns (e .line) (s .line) → ns₂ ≡ withSerial ns₁ (e .line) (s .ledger)
       → us′ ≡ withUsed us (e .line) (s .ledger) → r ≡ told (s .answer) → Called (putBack ns us (e .line) x) r ns₂ us′ j′ u′ f′
@@ -78,6 +75,12 @@ module _ (ns us : List ℕ) (e : Event) (j u f : List ℕ) where
     unfinished = y .unfinished;
     frames = y .frames;
   }
+
+  -- past 40 to 42: the step
+  pub by-step : {r : Answered} {ns′ us′ j′ u′ f′ : List ℕ} → e .line < lines → rightLengths (length j) (length u) (length f) ≡ true → withinNumbers ns (e .line) ≡ true
+      → Stepping ns us e j u f r ns′ us′ j′ u′ f′ → Calling ns us e j u f r ns′ us′ j′ u′ f′
+  unfolding callOf
+  by-step h s w c = as-called (rw (lt-ltb (e .line) lines h, s, w)) c
 
   -- a step that is done on the line alone: the ledger stays
   pub put-after : {l : Line} {t : Alone} {v : Verdict} {a : Answer} {ns′ u′ f′ : List ℕ} {r : Answered} → e .line < lines → l ≡ lineOf ns (e .line) → SteppingAlone l e (length j) u f t u′ f′
@@ -122,29 +125,49 @@ module _ (ns : List ℕ) (i b : ℕ) (q : quick ns i b ≡ true) where
       let rest = and-right (eqb (firstAt ns i) inside) (not (is lf b) && not (eqb (numberAt ns i 1) (mostCollected (lineOf ns i)))) only in
       (not-true _ (and-left (not (is lf b)) (not (eqb (numberAt ns i 1) (mostCollected (lineOf ns i)))) rest), not-true _ (and-right (not (is lf b)) (not (eqb (numberAt ns i 1) (mostCollected (lineOf ns i)))) rest))
 
-module _ (ns us : List ℕ) (i b : ℕ) (j u f : List ℕ) (h : i < lines) (s : rightLengths (length j) (length u) (length f) ≡ true) (q : quick ns i b ≡ true) where
+module _ (ns us : List ℕ) (i b : ℕ) (j u f : List ℕ) (h : i < lines) (s : rightLengths (length j) (length u) (length f) ≡ true) where
   abbrev here : Event
   here = record { line = i; kind = Byte b }
 
-  within : withinNumbers ns i ≡ true
-  within = quick-within ns i b q
-
-  verdict : verdictOf todaysShares (lineOf ns i) (ledgerOf ns us) here j u f ≡ Collects
-  unfolding verdictOf ownWork byteLook insideLook
-  verdict = rw (lt-ltb i lines h, s, told-within ns i within, no-end ns i b q .0, no-end ns i b q .1, is-inside ns i b q)
-
-  collects : stepOf todaysShares (lineOf ns i) (ledgerOf ns us) here (memoryOf j u f) ≡ settle Collects (lineOf ns i) (ledgerOf ns us) here (memoryOf j u f)
+  -- what the verdict is known to be, the step leaves
+  stepped : (v : Verdict) → verdictOf todaysShares (lineOf ns i) (ledgerOf ns us) here j u f ≡ v
+      → putBack ns us i (stepOf todaysShares (lineOf ns i) (ledgerOf ns us) here (memoryOf j u f)) ≡ putBack ns us i (settle v (lineOf ns i) (ledgerOf ns us) here (memoryOf j u f))
   unfolding stepOf
-  collects = ap (λ (v : Verdict). settle v (lineOf ns i) (ledgerOf ns us) here (memoryOf j u f)) verdict
+  stepped v e = ap (λ (x : Verdict). putBack ns us i (settle x (lineOf ns i) (ledgerOf ns us) here (memoryOf j u f))) e
 
-  pub by-quick : {r : Answered} {ns′ f′ : List ℕ} → r ≡ told Nothing → ns′ ≡ oneMore ns i → f′ ≡ set f (frameStart i + numberAt ns i 1) b → Calling ns us here j u f r ns′ us j u f′
-  by-quick {r} {ns′} {f′} p n g = by-step ns us here j u f h s within (as-called (ap (λ (x : AfterStep). putBack ns us i x) collects) (record {
+  collects : quick ns i b ≡ true → verdictOf todaysShares (lineOf ns i) (ledgerOf ns us) here j u f ≡ Collects
+  unfolding verdictOf ownWork byteLook insideLook
+  collects q = rw (lt-ltb i lines h, s, told-within ns i (quick-within ns i b q), no-end ns i b q .0, no-end ns i b q .1, is-inside ns i b q)
+
+  pub by-quick : {r : Answered} {ns′ f′ : List ℕ} → quick ns i b ≡ true → r ≡ told Nothing → ns′ ≡ oneMore ns i → f′ ≡ set f (frameStart i + numberAt ns i 1) b → Calling ns us here j u f r ns′ us j u f′
+  by-quick q p n g = by-step ns us here j u f h s (quick-within ns i b q) (as-called (stepped Collects (collects q)) (record {
     result = p;
-    numbers = n ∙ sym (count-back ns us i h within (numberAt ns i 1 + 1));
+    numbers = n ∙ sym (count-back ns us i h (quick-within ns i b q) (numberAt ns i 1 + 1));
     used = sym (used-back ns us i h);
     journal = refl;
     unfinished = refl;
     frames = g;
+  }))
+
+-- STX between frames: the line is inside one, and nothing else has changed
+module _ (ns us : List ℕ) (e : Event) (j u f : List ℕ) (h : e .line < lines) (s : rightLengths (length j) (length u) (length f) ≡ true) (w : withinNumbers ns (e .line) ≡ true) where
+  begin-verdict : (k : Kind) → e .kind ≡ k → begins ns (e .line) k ≡ true → verdictOf todaysShares (lineOf ns (e .line)) (ledgerOf ns us) e j u f ≡ Begins
+  unfolding verdictOf ownWork byteLook waitingLook
+  begin-verdict (Byte b) p q =
+      let stx-is = and-left (is stx b) (eqb (firstAt ns (e .line)) waiting) q in
+      let between = eqb-true (firstAt ns (e .line)) waiting (and-right (is stx b) (eqb (firstAt ns (e .line)) waiting) q) in
+      rw (lt-ltb (e .line) lines h, s, told-within ns (e .line) w, p, between, stx-is)
+  begin-verdict (Seconds n) p q = clash cc
+
+  pub by-begin : {ns′ : List ℕ} → begins ns (e .line) (e .kind) ≡ true → ns′ ≡ insideAt ns (e .line) → Calling ns us e j u f (told Nothing) ns′ us j u f
+  unfolding stepOf
+  by-begin q n = by-step ns us e j u f h s w (as-called (ap (λ (x : Verdict). putBack ns us (e .line) (settle x (lineOf ns (e .line)) (ledgerOf ns us) e (memoryOf j u f))) (begin-verdict (e .kind) refl q)) (record {
+    result = refl;
+    numbers = n ∙ sym (begun-back ns us (e .line) h w);
+    used = sym (used-back ns us (e .line) h);
+    journal = refl;
+    unfinished = refl;
+    frames = refl;
   }))
 
 -- a taking
@@ -152,22 +175,24 @@ module _ (ns us : List ℕ) (i : ℕ) (j b : List ℕ) where
   pub narrow-taken : (d : Ledger) {t : Taking} → t ≡ takeOf d i j b .taking → Narrow d → Narrow (t .ledger)
   narrow-taken d q w = subst (λ (x : Taking). Narrow (x .ledger)) (sym q) (taking-narrow d i j b w)
 
-  module _ {d : Ledger} {t : Taking} {j′ b′ : List ℕ} {r : Answered} (p : d ≡ ledgerOf ns us) (x : TakenFrom d i j b t j′ b′) (a : r ≡ toldTaking (t .answer)) where
-    told-by : TakenFrom (ledgerOf ns us) i j b t j′ b′
-    told-by = rw (← p) x
+  -- 40, before the ledger is read
+  pub taken-nowhere : {r : Answered} → lines ≤ i → r ≡ told NoLine → Taken ns us i j b r us j b
+  taken-nowhere h a =
+      let n = taken-line (ledgerOf ns us) i j b h in
+      record {
+        result = a ∙ ap (λ (z : Taking). toldTaking (z .answer)) (n .result);
+        used = rw (le-ltb i lines h);
+        journal = n .after;
+        buffer = n .lent;
+      }
 
-    pub taken-nowhere : lines ≤ i → Taken ns us i j b r us j′ b′
-    taken-nowhere h = record {
-      result = a ∙ ap (λ (z : Taking). toldTaking (z .answer)) (told-by .result);
-      used = rw (le-ltb i lines h);
-      journal = told-by .after;
-      buffer = told-by .lent;
-    }
-
-    pub taken-there : {us′ : List ℕ} → i < lines → us′ ≡ withUsed us i (t .ledger) → Taken ns us i j b r us′ j′ b′
-    taken-there h o = record {
-      result = a ∙ ap (λ (z : Taking). toldTaking (z .answer)) (told-by .result);
-      used = rw (lt-ltb i lines h) (o ∙ ap (λ (z : Taking). withUsed us i (z .ledger)) (told-by .result));
-      journal = told-by .after;
-      buffer = told-by .lent;
-    }
+  pub taken-there : {d : Ledger} {t : Taking} {a : Answer} {us′ j′ b′ : List ℕ} {r : Answered} → i < lines → d ≡ ledgerOf ns us → TakenFrom d i j b t j′ b′ → a ≡ tookAnswer (t .answer) → r ≡ told a
+      → us′ ≡ withUsed us i (t .ledger) → Taken ns us i j b r us′ j′ b′
+  taken-there {d} {t} {a} {us′} {j′} {b′} {r} h p x c q o =
+      let y : TakenFrom (ledgerOf ns us) i j b t j′ b′ = rw (← p) x in
+      record {
+        result = q ∙ ap told c ∙ ap (λ (z : Taking). toldTaking (z .answer)) (y .result);
+        used = rw (lt-ltb i lines h) (o ∙ ap (λ (z : Taking). withUsed us i (z .ledger)) (y .result));
+        journal = y .after;
+        buffer = y .lent;
+      }

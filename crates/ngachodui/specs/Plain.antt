@@ -1,27 +1,28 @@
 -- A line's record, the ledger and an answer in plain numbers, as a host keeps them.
 -- Assumes nothing.
 use Prim.Native.Nat.{ℕ, zero, suc, _+_, _*_}
-use mathlib.Core.Bool.{Bool, cond, not, _&&_}
+use mathlib.Core.Bool.{Bool, false, cond, not, _&&_}
 use mathlib.Core.List.{List, [], _∷_, _++_}
 use lib.ListN.{getD, set}
 use lib.Dec.{leb, eqb}
 use Rattle.memory.specs.Sizes.{lines, messageLimit}
 use Rattle.memory.specs.Tests.{is}
-use Rattle.characters.specs.Control.{lf}
+use Rattle.characters.specs.Control.{lf, stx}
 use Rattle.digits.specs.Number.{mostNumber}
 use Rattle.journal.specs.declared.Ledger.{Ledger}
 use Rattle.line.specs.Line.{mostCollected, mostSeconds}
-use Rattle.line.specs.Paper.{numberOf, replyOf}
+use Rattle.line.specs.Paper.{numberOf, valuesOf, named, replyOf}
 use Rattle.line.specs.declared.Line.{Line}
 use Rattle.line.specs.declared.State.{State}
 use Rattle.line.specs.declared.State.the-variants.{Neutral, Waiting, Inside}
 use Rattle.line.specs.declared.Last.{Last}
 use Rattle.line.specs.declared.Last.the-variants.{NoneYet, Number}
 use Rattle.line.specs.declared.Reply.{Reply}
-use Rattle.line.specs.declared.Reply.the-variants.{Silence, Byte}
+use Rattle.line.specs.declared.Reply.the-variants.{Silence, Byte as Sent}
 use Rattle.line.specs.declared.Answer.{Answer}
 use Rattle.journal.specs.declared.Took.{Took}
-use Rattle.journal.specs.declared.Took.the-variants.{Taken, NothingWaiting, BufferShort, BrokenJournal, NoSuchLine, WrongSize}
+use Rattle.looking.specs.declared.Kind.{Kind}
+use Rattle.looking.specs.declared.Kind.the-variants.{Byte, Seconds}
 use Rattle.gateway.specs.Events.{tookAnswer}
 use Rattle.ngachodui.specs.declared.Answered.{Answered}
 
@@ -62,15 +63,18 @@ abbrev pub serialAt : ℕ
 serialAt = 7
 
 -- a state: 0 neutral, 1 waiting, 2 inside
+abbrev pub waiting : ℕ
+waiting = 1
+
 abbrev pub inside : ℕ
 inside = 2
 
 abbrev pub stateOf : ℕ → State
-stateOf n = cond (eqb n 0) Neutral (cond (eqb n 1) Waiting Inside)
+stateOf n = cond (eqb n 0) Neutral (cond (eqb n waiting) Waiting Inside)
 
 abbrev pub stateNumber : State → ℕ
 stateNumber Neutral = 0
-stateNumber Waiting = 1
+stateNumber Waiting = waiting
 stateNumber Inside = inside
 
 -- the last accepted number: 0 for none, else one more than it
@@ -115,6 +119,14 @@ quick ns i b = onlyCollects ns i b && withinNumbers ns i
 abbrev pub oneMore : List ℕ → ℕ → List ℕ
 oneMore ns i = set ns (start i + collectedAt) (numberAt ns i collectedAt + 1)
 
+-- STX between frames only begins one; and the numbers then
+abbrev pub begins : List ℕ → ℕ → Kind → Bool
+begins ns i (Byte b) = is stx b && eqb (firstAt ns i) waiting
+begins ns i (Seconds s) = false
+
+abbrev pub insideAt : List ℕ → ℕ → List ℕ
+insideAt ns i = set ns (start i) inside
+
 -- the numbers with another record of line i
 unfoldable pub withLine : List ℕ → ℕ → Line → List ℕ
 withLine ns i l =
@@ -151,20 +163,22 @@ withUsed us i d = set (set us i (getD (d .used) i 0)) lines (d .in_use)
 -- a reply byte, or 0 for none
 abbrev pub replyByte : Reply → ℕ
 replyByte Silence = 0
-replyByte (Byte b) = b
+replyByte (Sent b) = b
 
--- the answer to an event carries no values
+-- an answer: its number, its reply and the values that it carries
 unfoldable pub told : Answer → Answered
-told a = record { number = numberOf a; reply = replyByte (replyOf (numberOf a)); serial = 0; place = 0; digits = 0; length = 0 }
+told a = record {
+  number = numberOf a;
+  reply = replyByte (replyOf (numberOf a));
+  serial = named (numberOf a) (valuesOf a) .serial;
+  place = 0;
+  digits = 0;
+  length = named (numberOf a) (valuesOf a) .length;
+}
 
--- the answer to a taking: for 8 the text's length and the serial
-unfoldable pub toldTaking : Took → Answered
-toldTaking (Taken n serial) = record { number = 8; reply = 0; serial = serial; place = 0; digits = 0; length = n }
-toldTaking NothingWaiting = told (tookAnswer NothingWaiting)
-toldTaking BufferShort = told (tookAnswer BufferShort)
-toldTaking BrokenJournal = told (tookAnswer BrokenJournal)
-toldTaking NoSuchLine = told (tookAnswer NoSuchLine)
-toldTaking WrongSize = told (tookAnswer WrongSize)
+-- the answer to a taking
+abbrev pub toldTaking : Took → Answered
+toldTaking t = told (tookAnswer t)
 
 -- a fresh line: neutral, next number 1, and the next serial 0; and the numbers of so many
 abbrev pub freshLine : List ℕ

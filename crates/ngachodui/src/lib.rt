@@ -6,11 +6,11 @@
 ghost use Prim.Native.Nat.{_<_};
 ghost use mathlib.Core.Path.{_≡_};
 ghost use mathlib.Core.Bool.{true};
+ghost use Rattle.looking.specs.declared.Kind.the-variants.{Byte, Seconds};
 ghost use lib.ListN.{length};
 ghost use Rattle.looking.specs.Lent.{rightLengths};
-ghost use Rattle.looking.specs.declared.Kind.the-variants.{Byte, Seconds};
 ghost use Rattle.memory.specs.Sizes.{lines};
-ghost use Rattle.ngachodui.specs.Plain.{withinNumbers};
+ghost use Rattle.ngachodui.specs.Plain.{withinNumbers, told};
 ghost use Rattle.ngachodui.specs.Layout.{layout};
 ghost use Rattle.ngachodui.specs.Calls.{Calling, Stepping, Deciding, Taken, Fresh};
 use line::Answer;
@@ -71,7 +71,7 @@ pub extern "C" fn ngachodui_byte(
     if memory::LINES <= i {
         return plain::told(Answer::NoLine);
     }
-    if !plain::is_right(journal.len(), unfinished.len(), frames.len()) {
+    if !looking::are_right(journal.len(), unfinished.len(), frames.len()) {
         return plain::told(Answer::WrongSize);
     }
     if plain::is_quick(numbers, i, byte) {
@@ -82,7 +82,7 @@ pub extern "C" fn ngachodui_byte(
         line,
         kind: Kind::Byte(byte),
     };
-    event(e, numbers, used, journal, unfinished, frames)
+    plain::told(event(e, numbers, used, journal, unfinished, frames))
 }
 
 // Seconds have passed on a line.
@@ -103,17 +103,17 @@ pub extern "C" fn ngachodui_seconds(
     if memory::LINES <= i {
         return plain::told(Answer::NoLine);
     }
-    if !plain::is_right(journal.len(), unfinished.len(), frames.len()) {
+    if !looking::are_right(journal.len(), unfinished.len(), frames.len()) {
         return plain::told(Answer::WrongSize);
     }
     let e = Event {
         line,
         kind: Kind::Seconds(seconds),
     };
-    event(e, numbers, used, journal, unfinished, frames)
+    plain::told(event(e, numbers, used, journal, unfinished, frames))
 }
 
-// An event past 40 and 41: 42, then the gateway's step.
+// An event past 40 and 41: numbers that are no record are 42; STX between frames only begins one, and needs no record; any other is stepped.
 fn event(
     e: Event,
     numbers: &mut [u16; plain::NUMBERS],
@@ -121,14 +121,19 @@ fn event(
     journal: &mut [u8],
     unfinished: &mut [u8],
     frames: &mut [u8],
-) -> Answered
+) -> Answer
     requires { ⌜ (e .line < lines) × (rightLengths (length (now journal)) (length (now unfinished)) (length (now frames)) ≡ true) ⌝ }
     ensures { λ r. ⌜ Calling (now (numbers .entry)) (now (used .entry)) e (now (journal .entry)) (now (unfinished .entry)) (now (frames .entry))
-        r (now (numbers .exit)) (now (used .exit)) (now (journal .exit)) (now (unfinished .exit)) (now (frames .exit)) ⌝ }
+        (told r) (now (numbers .exit)) (now (used .exit)) (now (journal .exit)) (now (unfinished .exit)) (now (frames .exit)) ⌝ }
 {
     let i = e.line as usize;
     if !plain::is_within(numbers, i) {
-        return plain::told(Answer::BeyondLimits);
+        return Answer::BeyondLimits;
+    }
+    let kind = e.kind;
+    if plain::is_begin(numbers, i, kind) {
+        plain::begin(i, numbers);
+        return Answer::Nothing;
     }
     step(e, numbers, used, journal, unfinished, frames)
 }
@@ -141,10 +146,10 @@ fn step(
     journal: &mut [u8],
     unfinished: &mut [u8],
     frames: &mut [u8],
-) -> Answered
+) -> Answer
     requires { ⌜ (e .line < lines) × (withinNumbers (now numbers) (e .line) ≡ true) ⌝ }
     ensures { λ r. ⌜ Stepping (now (numbers .entry)) (now (used .entry)) e (now (journal .entry)) (now (unfinished .entry)) (now (frames .entry))
-        r (now (numbers .exit)) (now (used .exit)) (now (journal .exit)) (now (unfinished .exit)) (now (frames .exit)) ⌝ }
+        (told r) (now (numbers .exit)) (now (used .exit)) (now (journal .exit)) (now (unfinished .exit)) (now (frames .exit)) ⌝ }
 {
     let i = e.line as usize;
     let record = plain::record_of(numbers, i);
@@ -154,7 +159,7 @@ fn step(
     match look {
         Look::Done(v) => {
             plain::put_record(numbers, i, after);
-            plain::told(v.answer())
+            v.answer()
         }
         Look::Decides(n) => decide(record, e, n, numbers, used, journal, unfinished, frames),
     }
@@ -170,10 +175,10 @@ fn decide(
     journal: &mut [u8],
     unfinished: &mut [u8],
     frames: &mut [u8],
-) -> Answered
+) -> Answer
     requires { ⌜ e .line < lines ⌝ }
     ensures { λ r. ⌜ Deciding (now (numbers .entry)) (now (used .entry)) line e n (now (journal .entry)) (now (unfinished .entry)) (now (frames .entry))
-        r (now (numbers .exit)) (now (used .exit)) (now (journal .exit)) (now (unfinished .exit)) (now (frames .exit)) ⌝ }
+        (told r) (now (numbers .exit)) (now (used .exit)) (now (journal .exit)) (now (unfinished .exit)) (now (frames .exit)) ⌝ }
 {
     let i = e.line as usize;
     let ledger = plain::ledger_of(numbers, used);
@@ -184,7 +189,7 @@ fn decide(
     plain::put_record(numbers, i, after);
     plain::put_serial(numbers, i, booked);
     plain::put_used(used, i, booked);
-    plain::told(answer)
+    answer
 }
 
 // The text of a line's oldest entry goes to the start of the buffer.
@@ -198,16 +203,16 @@ pub extern "C" fn ngachodui_take(
 ) -> Answered
     ensures { λ r. ⌜ Taken (now (numbers .entry)) (now (used .entry)) line (now (journal .entry)) (now (buffer .entry)) r (now (used .exit)) (now (journal .exit)) (now (buffer .exit)) ⌝ }
 {
+    let i = line as usize;
+    if memory::LINES <= i {
+        return plain::told(Answer::NoLine);
+    }
     let ledger = plain::ledger_of(numbers, used);
     let taking = journal::take(ledger, line, journal, buffer);
     let booked = taking.ledger;
     let took = taking.answer;
-    let i = line as usize;
-    if memory::LINES <= i {
-        return plain::told_taking(took);
-    }
     plain::put_used(used, i, booked);
-    plain::told_taking(took)
+    plain::told(gateway::answer_to(took))
 }
 
 // Every line fresh, the journal empty: each next number is 1, and all other numbers are 0.

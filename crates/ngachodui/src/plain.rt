@@ -5,18 +5,18 @@ ghost use mathlib.Core.Bool.{true};
 ghost use lib.ListN.{length, set};
 ghost use Rattle.memory.specs.Sizes.{lines, framesSize};
 ghost use Rattle.line.specs.Line.{mostCollected};
-ghost use Rattle.looking.specs.Lent.{rightLengths};
 ghost use Rattle.looking.specs.Views.{frameStart};
-ghost use Rattle.ngachodui.specs.Plain.{numberAt, oneMore, quick, stateOf, stateNumber, lastOf, lastNumber, flag, withinNumbers, onlyCollects, lineOf, withLine, usedFrom, serialsFrom, ledgerOf, withSerial, withUsed, replyByte, told as Plain·told, toldTaking};
+ghost use Rattle.ngachodui.specs.Plain.{numberAt, oneMore, quick, begins, insideAt, stateOf, stateNumber, lastOf, lastNumber, flag, withinNumbers, onlyCollects, lineOf, withLine, usedFrom, serialsFrom, ledgerOf, withSerial, withUsed, replyByte, told as Plain·told};
 use super::Answered;
 use characters::LF;
+use characters::STX;
 use journal::Ledger;
-use journal::Took;
 use line::Answer;
 use line::Last;
 use line::Line;
 use line::Reply;
 use line::State;
+use looking::Kind;
 
 // A line's numbers are so many; the first is its state, and the others stand so far behind it.
 pub const FIELDS: usize = 8;
@@ -40,7 +40,9 @@ pub const NUMBERS: usize = memory::LINES * FIELDS;
 
 pub const COUNTS: usize = memory::LINES + 1;
 
-// The state of a line inside a frame: no state has a higher number.
+// The states of a line between frames and inside one: no state has a higher number.
+const WAITING: u16 = 1;
+
 const INSIDE: u16 = 2;
 
 // Whether a line's numbers are those of a record within its limits.
@@ -70,19 +72,6 @@ pub fn is_within(numbers: &[u16; NUMBERS], i: usize) -> bool
     numbers[at + REFUSING] <= 1
 }
 
-// Whether the three memories have the sizes of document 01.
-pub fn is_right(journal: usize, unfinished: usize, frames: usize) -> bool
-    ensures { λ r. ⌜ r ≡ rightLengths journal unfinished frames ⌝ }
-{
-    if journal != memory::JOURNAL_SIZE {
-        return false;
-    }
-    if unfinished != memory::UNFINISHED_SIZE {
-        return false;
-    }
-    frames == memory::FRAMES_SIZE
-}
-
 // Whether a byte is only collected and its line's numbers are within their limits: in this order none is compared twice.
 pub fn is_quick(numbers: &[u16; NUMBERS], i: usize, byte: u8) -> bool
     requires { ⌜ i < lines ⌝ }
@@ -104,6 +93,32 @@ pub fn collect(i: usize, byte: u8, numbers: &mut [u16; NUMBERS], frames: &mut [u
     let place = i * memory::FRAME_PART + collected as usize;
     frames[place] = byte;
     numbers[at] = collected + 1;
+}
+
+// Whether an event is STX between frames: it only begins one.
+pub fn is_begin(numbers: &[u16; NUMBERS], i: usize, kind: Kind) -> bool
+    requires { ⌜ i < lines ⌝ }
+    ensures { λ r. ⌜ r ≡ begins (now (numbers .entry)) i kind ⌝ }
+{
+    let at = i * FIELDS;
+    match kind {
+        Kind::Byte(b) => {
+            if b != STX {
+                return false;
+            }
+            numbers[at] == WAITING
+        }
+        Kind::Seconds(_) => false,
+    }
+}
+
+// The line is inside a frame, and nothing else changes.
+pub fn begin(i: usize, numbers: &mut [u16; NUMBERS])
+    requires { ⌜ i < lines ⌝ }
+    ensures { λ _. ⌜ now (numbers .exit) ≡ insideAt (now (numbers .entry)) i ⌝ }
+{
+    let at = i * FIELDS;
+    numbers[at] = INSIDE;
 }
 
 // Whether a byte is only collected: inside a frame that it does not end.
@@ -147,7 +162,7 @@ fn state_of(n: u16) -> State
     if n == 0 {
         return State::Neutral;
     }
-    if n == 1 {
+    if n == WAITING {
         return State::Waiting;
     }
     State::Inside
@@ -186,7 +201,7 @@ fn state_number(state: State) -> u16
 {
     match state {
         State::Neutral => 0,
-        State::Waiting => 1,
+        State::Waiting => WAITING,
         State::Inside => INSIDE,
     }
 }
@@ -283,37 +298,17 @@ fn reply_byte(reply: Reply) -> u8
     }
 }
 
-// The answer to an event.
+// An answer in numbers, with what it carries.
 pub fn told(answer: Answer) -> Answered
     ensures { λ r. ⌜ r ≡ Plain·told answer ⌝ }
 {
+    let values = answer.values();
     Answered {
         number: answer.number(),
         reply: reply_byte(answer.reply()),
-        serial: 0,
+        serial: values.serial,
         place: 0,
         digits: 0,
-        length: 0,
-    }
-}
-
-// The answer to a taking; only 8 has values.
-pub fn told_taking(took: Took) -> Answered
-    ensures { λ r. ⌜ r ≡ toldTaking took ⌝ }
-{
-    match took {
-        Took::Taken(n, serial) => Answered {
-            number: 8,
-            reply: 0,
-            serial,
-            place: 0,
-            digits: 0,
-            length: n,
-        },
-        Took::NothingWaiting => told(Answer::NothingWaiting),
-        Took::BufferShort => told(Answer::BufferShort),
-        Took::BrokenJournal => told(Answer::Broken),
-        Took::NoSuchLine => told(Answer::NoLine),
-        Took::WrongSize => told(Answer::WrongSize),
+        length: values.length,
     }
 }

@@ -1,4 +1,4 @@
--- `ngachodui::ngachodui_seconds` meets its contract.
+-- `ngachodui::ngachodui_seconds` meets its contract: 40, 41, then the event.
 -- Assumes nothing.
 use borrow.Author.Needs.{needs}
 use native.Mathlib.Omega.{arith}
@@ -12,17 +12,25 @@ use Rattle.ngachodui.proofs.ngachodui_seconds.Tie as tie
 
 returns : tie.Need-returns
 returns c =
-    let a = c .before .before .before .before .before .args in
+    let tested = c .before in
+    let a = tested .before .before .before .before .args in
     no-line (now (a .numbers)) (now (a .used)) (record { line = a .line; kind = Seconds (a .seconds) }) (now (a .journal)) (now (a .unfinished)) (now (a .frames)) _ (omega arith) (c .told .ensures)
 
 returns-2 : tie.Need-returns-2
 returns-2 c =
     let right = c .before .before in
-    let a = right .before .before .before .before .before .args in
-    wrong-size (now (a .numbers)) (now (a .used)) (record { line = a .line; kind = Seconds (a .seconds) }) (now (a .journal)) (now (a .unfinished)) (now (a .frames)) _ (omega arith) (sym (right .is-right .ensures) ∙ not-true _ (c .before .if2 .taken)) (c .told2 .ensures)
+    let past = right .before in
+    let a = past .before .before .before .before .args in
+    wrong-size (now (a .numbers)) (now (a .used)) (record { line = a .line; kind = Seconds (a .seconds) }) (now (a .journal)) (now (a .unfinished)) (now (a .frames)) _ (omega arith) (sym (right .are-right .ensures) ∙ not-true _ (c .before .if2 .taken)) (c .told2 .ensures)
 
 event-requires : tie.Need-event-requires
-event-requires c κs = (omega arith, sym (c .before .before .before .before .before .before .is-right .ensures) ∙ not-false _ (c .before .before .before .before .before .if2 .left))
+event-requires c κs = let past = c .before .before .before .before .before in (omega arith, sym (past .before .are-right .ensures) ∙ not-false _ (past .if2 .left))
+
+returns-3 : tie.Need-returns-3
+returns-3 c =
+    let back = c .before .before .before .before in
+    let asked = back .before .before .before in
+    rw (c .told3 .ensures) (asked .event .ensures)
 
 pub ngachodui-seconds-spec : {M : Type 1} → statement M
 ngachodui-seconds-spec =
@@ -34,7 +42,8 @@ ngachodui-seconds-spec =
     (λ c κs. search needs)
     returns-2
     event-requires
+    (λ c κs. search needs)
     (λ c. search needs)
     (λ c. search needs)
     (λ c. search needs)
-    (λ c. search needs))
+    returns-3)
