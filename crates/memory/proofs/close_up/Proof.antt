@@ -30,6 +30,10 @@ Inv-loop area₀ at gap end last i₀ area i = Moved area₀ at gap end last are
 abbrev μ-loop : tie.MeasureT-loop
 μ-loop area₀ at gap end last i₀ area i = last - i
 
+-- the function's start, from behind the tests
+abbrev start : tie.Else3 Inv-loop μ-loop → tie.Start Inv-loop μ-loop
+start c = c .before .before .before .before
+
 returns : tie.Need-returns Inv-loop μ-loop
 returns c = let a = c .before .before .args in closed-no (now (a .area)) (a .at) (a .gap) (a .end) (λ h k. omega arith)
 
@@ -41,7 +45,7 @@ returns-3 c = let a = c .before .before .before .before .args in closed-no (now 
 
 loop-holds : tie.Need-loop-holds Inv-loop μ-loop
 loop-holds c =
-    let a = c .before .before .before .before .args in
+    let a = start c .args in
     record {
       fits = omega arith;
       room = omega arith;
@@ -54,9 +58,11 @@ loop-holds c =
 
 loop-again : tie.Need-loop-again Inv-loop μ-loop
 loop-again c =
-    let l = c .before .before .before .before .before .before .loop in
-    let a = c .before .before .before .before .before .before .before .before .before .before .before .args in
-    let n : ℕ = c .before .before .before .before .piece .result in
+    let m = c .before .before in
+    let p = m .before .before in
+    let l = p .before .before .loop in
+    let a = start (p .before .before .before) .args in
+    let n : ℕ = p .piece .result in
     let j : ℕ = l .i - a .at in
     let here : l .i ≡ a .at + j = omega arith in
     let next : l .i + n - a .at ≡ j + n = omega arith in
@@ -64,7 +70,7 @@ loop-again c =
     length-part (now (a .area)) (a .at + a .gap) (a .end - (a .at + a .gap)) (omega arith) in
     let first : length (take (j + n) (later (now (a .area)) (a .at) (a .gap) (a .end))) ≡ j + n =
     length-take-le (j + n) (later (now (a .area)) (a .at) (a .gap) (a .end)) (omega arith) in
-    let same = c .before .before .move-down .ensures
+    let same = m .move-down .ensures
     ∙ ap (λ (m : ℕ). splice (l .area) m (part (l .area) (m + a .gap) n)) here
     ∙ rw (← l .inv .same) at (close-on (now (a .area)) (a .at) (a .gap) (a .end) j n (omega arith) (omega arith)) in
     record {
@@ -80,7 +86,7 @@ loop-again c =
 returns-4 : tie.Need-returns-4 Inv-loop μ-loop
 returns-4 c =
     let l = c .before .loop in
-    let a = c .before .before .before .before .before .before .args in
+    let a = start (c .before .before) .args in
     let n : length (later (now (a .area)) (a .at) (a .gap) (a .end)) ≡ a .end - (a .at + a .gap) =
     length-part (now (a .area)) (a .at + a .gap) (a .end - (a .at + a .gap)) (omega arith) in
     let all : length (later (now (a .area)) (a .at) (a .gap) (a .end)) ≤ l .i - a .at = omega arith in

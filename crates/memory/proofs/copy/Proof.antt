@@ -26,6 +26,9 @@ Inv-loop dst₀ src done₀ dst done = Done dst₀ src dst done
 abbrev μ-loop : tie.MeasureT-loop
 μ-loop dst₀ src done₀ dst done = length src - done
 
+abbrev start : tie.At-loop Inv-loop μ-loop → tie.Start Inv-loop μ-loop
+start c = c .before .before .before .before
+
 returns : tie.Need-returns Inv-loop μ-loop
 returns c = let a = c .before .before .before .args in copied-no (now (a .dst)) 0 (now (a .src)) (omega arith)
 
@@ -39,15 +42,17 @@ carry-requires c κs = simp (length-take, length-drop) (omega arith)
 
 loop-again : tie.Need-loop-again Inv-loop μ-loop
 loop-again c =
-    let l = c .before .before .before .before .before .before .before .loop in
-    let a = c .before .before .before .before .before .before .before .before .before .before .before .args in
-    let n : ℕ = c .before .before .before .before .before .piece .result in
+    let y = c .before .before in
+    let p = y .before .before .before in
+    let l = p .before .before .loop in
+    let a = start (p .before .before) .args in
+    let n : ℕ = p .piece .result in
     let here : length (part (now (a .src)) (l .done) n) ≡ n = length-part (now (a .src)) (l .done) n (omega arith) in
     let next = l .done + n in
     let first : length (take next (now (a .src))) ≡ next = length-take-le next (now (a .src)) (omega arith) in
     let more = rw (← l .inv .same, zero-add) at (copy-on (now (a .dst)) 0 (now (a .src)) (l .done) n (omega arith) (omega arith)) in
     let same = laid-back (l .dst) (l .done) (part (now (a .src)) (l .done) n) _ _ (omega arith) refl
-    (c .before .before .carry .ensures ∙ ap (splice _ 0) (part-lent (now (a .src)) (l .done) n))
+    (y .carry .ensures ∙ ap (splice _ 0) (part-lent (now (a .src)) (l .done) n))
     ∙ more in
     record {
       fits = omega arith;
@@ -59,9 +64,10 @@ loop-again c =
 returns-2 : tie.Need-returns-2 Inv-loop μ-loop
 returns-2 c =
     let l = c .before .loop in
-    let a = c .before .before .before .before .before .args in
-    let e : l .done ≡ length (now (a .src)) = omega arith in
-    copied-yes (now (a .dst)) 0 (now (a .src)) (omega arith) refl (l .inv .same ∙ rw (e, take-length))
+    let a = start (c .before) .args in
+    let all : l .done ≡ length (now (a .src)) = omega arith in
+    let whole : take (l .done) (now (a .src)) ≡ now (a .src) = ap (λ (n : ℕ). take n (now (a .src))) all ∙ take-length (now (a .src)) in
+    copied-yes (now (a .dst)) 0 (now (a .src)) (omega arith) refl (l .inv .same ∙ ap (splice (now (a .dst)) 0) whole)
 
 pub copy-spec : {M : Type 1} → statement M
 copy-spec =

@@ -18,9 +18,11 @@ returns-2 c = let a = c .before .before .before .before .args in copied-no (now 
 
 returns-3 : tie.Need-returns-3
 returns-3 c =
-    let a = c .before .before .before .before .before .before .before .before .args in
+    let y = c .before .before in
+    let e = y .before .before in
+    let a = e .before .before .before .before .args in
     let h : a .at + length (now (a .src)) ≤ length (now (a .area)) = omega arith in
-    lent-back (now (a .area)) (a .at) (now (a .src)) _ _ _ h refl (c .before .before .copy .ensures)
+    lent-back (now (a .area)) (a .at) (now (a .src)) _ _ _ h refl (y .copy .ensures)
 
 pub copy-at-spec : {M : Type 1} → statement M
 copy-at-spec =

@@ -25,6 +25,9 @@ Inv-loop area at size n₀ i₀ n i = Read area at size n i
 abbrev μ-loop : tie.MeasureT-loop
 μ-loop area at size n₀ i₀ n i = size - i
 
+abbrev start : tie.At-loop Inv-loop μ-loop → tie.Start Inv-loop μ-loop
+start c = c .before .before .before .before .before
+
 returns : tie.Need-returns Inv-loop μ-loop
 unfolding fieldAt
 returns c = let a = c .before .before .args in rw (no-field (now (a .area)) (a .at) (a .size) (λ h k. omega arith))
@@ -53,7 +56,7 @@ add-n c =
 loop-again : tie.Need-loop-again Inv-loop μ-loop
 loop-again c =
     let l = c .before .before .before .loop in
-    let a = c .before .before .before .before .before .before .before .before .args in
+    let a = start (c .before .before .before) .args in
     let here : a .at + l .i < length (now (a .area)) = omega arith in
     record {
       short = omega arith;
@@ -67,7 +70,7 @@ returns-4 : tie.Need-returns-4 Inv-loop μ-loop
 unfolding fieldAt
 returns-4 c =
     let l = c .before .loop in
-    let a = c .before .before .before .before .before .before .args in
+    let a = start (c .before) .args in
     let e : l .i ≡ a .size = omega arith in
     rw (is-field (now (a .area)) (a .at) (a .size) (omega arith) (omega arith), l .inv .same, e)
 

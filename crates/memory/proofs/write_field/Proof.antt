@@ -30,6 +30,10 @@ Inv-loop area₀ at size n rest₀ i₀ area rest i = Written area₀ at size n 
 abbrev μ-loop : tie.MeasureT-loop
 μ-loop area₀ at size n rest₀ i₀ area rest i = i
 
+-- the function's start, from behind the test of the number's size
+abbrev start : tie.After-exceeds Inv-loop μ-loop → tie.Start Inv-loop μ-loop
+start c = c .before .before .before .before .before
+
 returns : tie.Need-returns Inv-loop μ-loop
 returns c = let a = c .before .before .args in written-outside (now (a .area)) (a .at) (a .size) (a .n) (λ h k. omega arith)
 
@@ -41,13 +45,13 @@ returns-3 c = let a = c .before .before .before .before .args in written-outside
 
 returns-4 : tie.Need-returns-4 Inv-loop μ-loop
 returns-4 c =
-    let a = c .before .before .before .before .before .before .args in
+    let a = start (c .before) .args in
     let large = leb-true (2 ^ width (octets (a .size))) (a .n) (sym (c .before .exceeds .ensures) ∙ c .if4 .taken) in
     written-large (now (a .area)) (a .at) (a .size) (a .n) large
 
 loop-holds : tie.Need-loop-holds Inv-loop μ-loop
 loop-holds c =
-    let a = c .before .before .before .before .before .before .args in
+    let a = start (c .before) .args in
     record {
       short = omega arith;
       inside = omega arith;
@@ -61,7 +65,7 @@ loop-holds c =
 loop-again : tie.Need-loop-again Inv-loop μ-loop
 loop-again c =
     let l = c .before .loop in
-    let a = c .before .before .before .before .before .before .before .before .args in
+    let a = start (c .before .before .before) .args in
     let k : ℕ = a .size - l .i in
     let here : a .at + l .i ≡ a .at + (l .i - 1) + 1 = omega arith in
     let more : a .size - (l .i - 1) ≡ k + 1 = omega arith in
@@ -79,7 +83,7 @@ loop-again c =
 returns-5 : tie.Need-returns-5 Inv-loop μ-loop
 returns-5 c =
     let l = c .before .loop in
-    let a = c .before .before .before .before .before .before .before .before .args in
+    let a = start (c .before .before .before) .args in
     let none : l .i ≡ 0 = omega arith in
     written-yes (now (a .area)) (a .at) (a .size) (a .n) (omega arith) (omega arith) (l .inv .below)
     (l .inv .same ∙ rw (none, add-zero (a .at), sub-zero (a .size)))

@@ -11,8 +11,9 @@ use Rattle.memory.proofs.Moves.{held}
 use Rattle.memory.proofs.moving.carry.Statement.{statement}
 use Rattle.memory.proofs.moving.carry.Tie as tie
 
-buffered : (c : tie.After-lay) → take (length (now (c .before .before .before .before .args .src))) (c .lay .last .0) ≡ now (c .before .before .before .before .args .src)
-buffered c = held _ (now (c .before .before .before .before .args .src)) (search needs) (c .lay .ensures)
+-- the buffer starts with the piece
+buffered : (c : tie.After-lay) → let a = c .before .before .before .before .args in take (length (now (a .src))) (c .lay .last .0) ≡ now (a .src)
+buffered c = let a = c .before .before .before .before .args in held _ (now (a .src)) (search needs) (c .lay .ensures)
 
 slice-aggregate-lay-2 : tie.Need-slice-aggregate-lay-2
 slice-aggregate-lay-2 c = rw (buffered (c .before .before .before))
@@ -22,8 +23,10 @@ lay-requires-2 c κs = rw (buffered (c .before .before .before)) (omega arith)
 
 returns : tie.Need-returns
 returns c =
-    let a = c .before .before .before .before .before .before .before .before .before .before .args in
-    c .before .before .lay2 .ensures ∙ ap (splice (now (a .dst)) 0) (buffered (c .before .before .before .before .before .before))
+    let y = c .before .before in
+    let l = y .before .before .before .before in
+    let a = l .before .before .before .before .args in
+    y .lay2 .ensures ∙ ap (splice (now (a .dst)) 0) (buffered l)
 
 pub carry-spec : {M : Type 1} → statement M
 carry-spec =
