@@ -16,7 +16,7 @@ use Rattle.digits.specs.Number.{mostNumber}
 use Rattle.frame.specs.Writing.{bodyOf, tailOf, collectedOf, frameOf, putOf, putIn, FramePut}
 use Rattle.digits.proofs.Check.{total-append}
 use Rattle.frame.specs.declared.End.{End}
-use Rattle.frame.specs.declared.Written.the-variants.{NoFrame, NoRoom, Length}
+use Rattle.frame.specs.declared.Written.the-variants.{Malformed, NotFitting, Length}
 
 -- two stores at the start, a text behind them, one store more
 module _ (d text x : List ℕ) (a b e : ℕ) (h : length text + 3 ≤ length d) (c : x ≡ splice (set (set d 0 a) 1 b) 2 text) where
@@ -79,11 +79,11 @@ frame-put d number end text h =
 
 -- what each way out of putting a frame says
 module _ (number : ℕ) (end : End) (text out : List ℕ) where
-  pub not-put : mostNumber < number → FramePut number end text out NoFrame out
+  pub not-put : mostNumber < number → FramePut number end text out Malformed out
   unfolding putOf putIn
   not-put h = let large = lt-leb number mostNumber h in record { answer = rw large; after = rw large }
 
-  pub no-room : number ≤ mostNumber → length out < length text + 7 → FramePut number end text out NoRoom out
+  pub no-room : number ≤ mostNumber → length out < length text + 7 → FramePut number end text out NotFitting out
   unfolding putOf putIn
   no-room k h =
       let few = le-leb number mostNumber k in

@@ -16,7 +16,7 @@ use Rattle.frame.specs.Shape.{aroundText}
 use Rattle.frame.specs.declared.End.{End}
 use Rattle.frame.specs.declared.End.the-variants.{Etb, Etx}
 use Rattle.frame.specs.declared.Written.{Written}
-use Rattle.frame.specs.declared.Written.the-variants.{NoFrame, NoRoom, Length}
+use Rattle.frame.specs.declared.Written.the-variants.{Malformed, NotFitting, Length}
 
 abbrev pub endByte : End → ℕ
 endByte Etb = etb
@@ -43,7 +43,7 @@ hasRoom text out = leb (length text + aroundText) (length out)
 
 -- the length of the frame written, or why there is none: of any bytes, of which only the number is tested
 unfoldable pub putOf : ℕ → List ℕ → List ℕ → Written
-putOf number text out = unless (leb number mostNumber) NoFrame (unless (hasRoom text out) NoRoom (Length (length text + aroundText)))
+putOf number text out = unless (leb number mostNumber) Malformed (unless (hasRoom text out) NotFitting (Length (length text + aroundText)))
 
 -- the memory after it: the frame over its start, and unchanged where none is written
 unfoldable pub putIn : ℕ → End → List ℕ → List ℕ → List ℕ
@@ -56,6 +56,6 @@ pub record FramePut (number : ℕ) (end : End) (text out : List ℕ) (r : Writte
 
 -- the paper's number of each refusal
 abbrev pub refusedBy : Written → Option ℕ
-refusedBy NoFrame = some 46
-refusedBy NoRoom = some 47
+refusedBy Malformed = some 46
+refusedBy NotFitting = some 47
 refusedBy (Length n) = none

@@ -30,8 +30,8 @@ pub enum Shape {
 
 // A frame written: why there is none, or its length.
 pub enum Written {
-    NoFrame,
-    NoRoom,
+    Malformed,
+    NotFitting,
     Length(usize),
 }
 
@@ -60,11 +60,11 @@ pub fn put_frame(number: u8, end: End, text: &[u8], out: &mut [u8]) -> Written
     ensures { λ r. ⌜ FramePut number end (now (text .entry)) (now (out .entry)) r (now (out .exit)) ⌝ }
 {
     if MOST_NUMBER < number {
-        return Written::NoFrame;
+        return Written::Malformed;
     }
     let size = text.len() + AROUND_TEXT;
     if out.len() < size {
-        return Written::NoRoom;
+        return Written::NotFitting;
     }
     writing::lay_frame(number, end, text, out);
     Written::Length(size)

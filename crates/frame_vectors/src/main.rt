@@ -155,8 +155,8 @@ fn show_whole(number: u8, end: End, length: usize, bytes: &[u8]) {
     let text_end = bytes.len() - 5;
     let mut out = [0u8; MOST];
     match frame::put_frame(number, end, &bytes[1..text_end], &mut out) {
-        Written::NoFrame => show(b" 46"),
-        Written::NoRoom => show(b" 47"),
+        Written::Malformed => show(b" 46"),
+        Written::NotFitting => show(b" 47"),
         Written::Length(n) => show_same(bytes, n, &out),
     }
 }

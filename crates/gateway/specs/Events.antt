@@ -12,7 +12,6 @@ use Rattle.journal.specs.Chain.{freshLedger}
 use Rattle.room.specs.Room.{todaysShares}
 use Rattle.journal.specs.Removal.{takeOf as takeEntry}
 use Rattle.journal.specs.declared.Took.{Took}
-use Rattle.journal.specs.declared.Took.the-variants.{Taken as Got, NothingWaiting as Empty, BufferShort as Short, BrokenJournal, NoSuchLine, WrongSize as OtherSize}
 use Rattle.line.specs.Line.{freshLine}
 use Rattle.line.specs.declared.Line.{Line}
 use Rattle.line.specs.declared.State.the-variants.{Neutral}
@@ -64,12 +63,12 @@ pub record Handling (g : Gateway) (e : Event) (j u f : List ℕ) (r : Handled) (
 
 -- the answer to a taking
 abbrev pub tookAnswer : Took → Answer
-tookAnswer (Got n serial) = Taken n serial
-tookAnswer Empty = NothingWaiting
-tookAnswer Short = BufferShort
-tookAnswer BrokenJournal = Broken
-tookAnswer NoSuchLine = NoLine
-tookAnswer OtherSize = WrongSize
+tookAnswer (Took.Taken n serial) = Taken n serial
+tookAnswer Took.NothingWaiting = NothingWaiting
+tookAnswer Took.BufferShort = BufferShort
+tookAnswer Took.Broken = Broken
+tookAnswer Took.NoLine = NoLine
+tookAnswer Took.WrongSize = WrongSize
 
 pub record AfterTake : Type 0 where
   pub handled : Handled

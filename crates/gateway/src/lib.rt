@@ -86,8 +86,8 @@ pub fn answer_to(took: Took) -> Answer
         Took::Taken(n, serial) => Answer::Taken(n, serial),
         Took::NothingWaiting => Answer::NothingWaiting,
         Took::BufferShort => Answer::BufferShort,
-        Took::BrokenJournal => Answer::Broken,
-        Took::NoSuchLine => Answer::NoLine,
+        Took::Broken => Answer::Broken,
+        Took::NoLine => Answer::NoLine,
         Took::WrongSize => Answer::WrongSize,
     }
 }

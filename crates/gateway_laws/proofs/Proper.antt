@@ -9,7 +9,6 @@ use Rattle.faults.specs.Faults.{isMessage}
 use Rattle.journal.specs.Verdicts.{judgeOf}
 use Rattle.journal.specs.declared.Ledger.{Ledger}
 use Rattle.journal.specs.declared.Verdict.{Verdict as Judgement}
-use Rattle.journal.specs.declared.Verdict.the-variants.{Fits, NoRoom as Full, Broken as Damaged, NoLine as Nowhere, OtherSize, NoText}
 use Rattle.line.specs.declared.Line.{Line}
 use Rattle.looking.specs.Views.{framesOf, textsOf, joinedText, Ready}
 use Rattle.looking.specs.Looks.{lookOf}
@@ -58,12 +57,12 @@ proper l = record {
 }
 
 room-proper : (q : Judgement) (n : ℕ) → Proper (roomVerdict q n)
-room-proper Fits n = refl
-room-proper Full n = refl
-room-proper Damaged n = refl
-room-proper Nowhere n = refl
-room-proper OtherSize n = refl
-room-proper NoText n = refl
+room-proper Judgement.Fits n = refl
+room-proper Judgement.NoRoom n = refl
+room-proper Judgement.Broken n = refl
+room-proper Judgement.NoLine n = refl
+room-proper Judgement.WrongSize n = refl
+room-proper Judgement.Malformed n = refl
 
 -- the answer to a text that is no message decides against it
 pub objection-against : (text : List ℕ) → classOf (objectionTo text) ≡ against

@@ -16,7 +16,7 @@ use Rattle.journal.specs.Chain.{chain}
 use Rattle.journal.specs.Removal.{AfterTaking, afterTaking, takeAt, takeOldest, takeFrom, takeOf as takeEntry}
 use Rattle.journal.specs.declared.Ledger.{Ledger}
 use Rattle.journal.specs.declared.Took.{Took}
-use Rattle.journal.specs.declared.Took.the-variants.{Taken, NothingWaiting, BufferShort, BrokenJournal, NoSuchLine, WrongSize}
+use Rattle.journal.specs.declared.Took.the-variants.{Taken, NothingWaiting, BufferShort, Broken, NoLine, WrongSize}
 use Rattle.gateway.specs.Events.{tookAnswer, AfterTake, takeOf}
 use Rattle.gateway.specs.declared.Gateway.{Gateway}
 use Rattle.gateway_laws.specs.Classes.{classOf, quiet, taking}
@@ -66,8 +66,8 @@ took-class : (t : Took) → (classOf (tookAnswer t) ≡ quiet) ⊎ (classOf (too
 took-class (Taken n serial) = inr refl
 took-class NothingWaiting = inl refl
 took-class BufferShort = inl refl
-took-class BrokenJournal = inl refl
-took-class NoSuchLine = inl refl
+took-class Broken = inl refl
+took-class NoLine = inl refl
 took-class WrongSize = inl refl
 
 pub taking-class : (g : Gateway) (i : ℕ) (j b : List ℕ) → (classOf (takeOf g i j b .handled .answer) ≡ quiet) ⊎ (classOf (takeOf g i j b .handled .answer) ≡ taking)

@@ -18,7 +18,7 @@ use Rattle.room.specs.Room.{sumTo, claims, fits, raised}
 use Rattle.journal.specs.Answers.{isFits}
 use Rattle.journal.specs.Verdicts.{judgeOf}
 use Rattle.journal.specs.declared.Ledger.{Ledger}
-use Rattle.journal.specs.declared.Verdict.the-variants.{Fits, NoRoom, Broken, NoLine, OtherSize, NoText}
+use Rattle.journal.specs.declared.Verdict.the-variants.{Fits, NoRoom, Broken, NoLine, WrongSize, Malformed}
 use Rattle.header.proofs.Starts.{text-facts, text-of, no-text}
 use Rattle.journal.proofs.Wholes.{Kept}
 use Rattle.journal.proofs.Inside.{sum-totals}
@@ -30,12 +30,12 @@ module _ (d : Ledger) (sh : List ℕ) (l n : ℕ) (j : List ℕ) where
   judged-line h = rw (le-ltb l lines h)
 
   module _ (line : l < lines) where
-    pub judged-size : (length j ≡ journalSize → ⊥) → OtherSize ≡ judgeOf d sh l n j
+    pub judged-size : (length j ≡ journalSize → ⊥) → WrongSize ≡ judgeOf d sh l n j
     unfolding judgeOf
     judged-size h = rw (lt-ltb l lines line, ne-eqb (length j) journalSize h)
 
     module _ (long : length j ≡ journalSize) where
-      pub judged-text : (1 ≤ n → n ≤ messageLimit → ⊥) → NoText ≡ judgeOf d sh l n j
+      pub judged-text : (1 ≤ n → n ≤ messageLimit → ⊥) → Malformed ≡ judgeOf d sh l n j
       unfolding judgeOf
       judged-text h = rw (lt-ltb l lines line, eq-eqb (length j) journalSize long, no-text n h)
 
@@ -58,7 +58,7 @@ pub record Fitting (d : Ledger) (sh : List ℕ) (l n : ℕ) (j : List ℕ) : Typ
   pub whole : isSome (chain d j) ≡ true
   pub room : fits sh (raised (d .used) l (entrySize n)) ≡ true
 
-all-passed : (a b c e f : Bool) → isFits (unless a NoLine (unless b OtherSize (unless c NoText (unless e Broken (unless f NoRoom Fits))))) ≡ true
+all-passed : (a b c e f : Bool) → isFits (unless a NoLine (unless b WrongSize (unless c Malformed (unless e Broken (unless f NoRoom Fits))))) ≡ true
     → (a ≡ true) × (b ≡ true) × (c ≡ true) × (e ≡ true) × (f ≡ true)
 all-passed true true true true true q = (refl, refl, refl, refl, refl)
 all-passed true true true true false q = absurd (true≢false (sym q))

@@ -23,7 +23,7 @@ use Rattle.journal.specs.Removal.{shrunk, without, takeAt, takeOf, rest,
 use Rattle.header.specs.declared.Header.{Header}
 use Rattle.journal.specs.declared.Ledger.{Ledger}
 use Rattle.journal.specs.declared.Taking.{Taking}
-use Rattle.journal.specs.declared.Took.the-variants.{Taken, NothingWaiting, BufferShort, BrokenJournal, NoSuchLine, WrongSize}
+use Rattle.journal.specs.declared.Took.the-variants.{Taken, NothingWaiting, BufferShort, Broken, NoLine, WrongSize}
 use Rattle.header.proofs.Starts.{starts-facts}
 use Rattle.header.proofs.Single.{size-pos, size-first, text-first, first-is}
 use Rattle.journal.proofs.Chains.{sizes-append}
@@ -161,7 +161,7 @@ module _ (d : Ledger) (l at : ℕ) (j : List ℕ) (line : l < lines) (long : len
 -- ---- the tests in front
 
 module _ (d : Ledger) (l : ℕ) (j b : List ℕ) where
-  pub taken-line : lines ≤ l → TakenFrom d l j b (record { ledger = d; answer = NoSuchLine }) j b
+  pub taken-line : lines ≤ l → TakenFrom d l j b (record { ledger = d; answer = NoLine }) j b
   unfolding takeOf
   taken-line h = record { result = rw (le-ltb l lines h); after = rw (le-ltb l lines h); lent = rw (le-ltb l lines h) }
 
@@ -176,7 +176,7 @@ module _ (d : Ledger) (l : ℕ) (j b : List ℕ) where
   is-none none e = refl
   is-none (some es) e = absurd (true≢false e)
 
-  pub taken-broken : l < lines → length j ≡ journalSize → isSome (chain d j) ≡ false → TakenFrom d l j b (record { ledger = d; answer = BrokenJournal }) j b
+  pub taken-broken : l < lines → length j ≡ journalSize → isSome (chain d j) ≡ false → TakenFrom d l j b (record { ledger = d; answer = Broken }) j b
   unfolding takeOf
   taken-broken h s n =
       let e₀ = lt-ltb l lines h in

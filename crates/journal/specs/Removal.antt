@@ -17,7 +17,7 @@ use Rattle.journal.specs.Chain.{chain}
 use Rattle.journal.specs.declared.Ledger.{Ledger}
 use Rattle.journal.specs.declared.Taking.{Taking}
 use Rattle.journal.specs.declared.Took.{Took}
-use Rattle.journal.specs.declared.Took.the-variants.{Taken, NothingWaiting, BufferShort, BrokenJournal, NoSuchLine, WrongSize}
+use Rattle.journal.specs.declared.Took.the-variants.{Taken, NothingWaiting, BufferShort, Broken, NoLine, WrongSize}
 
 -- the ledger without an entry of line l: its serial stays used
 unfoldable pub shrunk : Ledger → ℕ → Entry → Ledger
@@ -51,12 +51,12 @@ takeOldest d l at [] j b = afterTaking d NothingWaiting j b
 takeOldest d l at (e ∷ es) j b = takeAt d l at e j b
 
 abbrev pub takeFrom : Ledger → ℕ → Option (List Entry) → List ℕ → List ℕ → AfterTaking
-takeFrom d l none j b = afterTaking d BrokenJournal j b
+takeFrom d l none j b = afterTaking d Broken j b
 takeFrom d l (some es) j b = takeOldest d l (sizes (before l es)) (from l es) j b
 
 unfoldable pub takeOf : Ledger → ℕ → List ℕ → List ℕ → AfterTaking
 takeOf d l j b =
-    unless (ltb l lines) (afterTaking d NoSuchLine j b)
+    unless (ltb l lines) (afterTaking d NoLine j b)
     (unless (eqb (length j) journalSize) (afterTaking d WrongSize j b)
     (takeFrom d l (chain d j) j b))
 

@@ -35,8 +35,8 @@ pub enum Verdict {
     NoRoom,
     Broken,
     NoLine,
-    OtherSize,
-    NoText,
+    WrongSize,
+    Malformed,
 }
 
 // Document 01's 8 with the text's length and the serial, 44, 45, 43, 40 and 41.
@@ -44,8 +44,8 @@ pub enum Took {
     Taken(usize, u16),
     NothingWaiting,
     BufferShort,
-    BrokenJournal,
-    NoSuchLine,
+    Broken,
+    NoLine,
     WrongSize,
 }
 
@@ -68,13 +68,13 @@ pub fn judge(ledger: Ledger, shares: [u16; 8], line: u8, length: usize, journal:
         return Verdict::NoLine;
     }
     if journal.len() != memory::JOURNAL_SIZE {
-        return Verdict::OtherSize;
+        return Verdict::WrongSize;
     }
     if length < 1 {
-        return Verdict::NoText;
+        return Verdict::Malformed;
     }
     if memory::MESSAGE_LIMIT < length {
-        return Verdict::NoText;
+        return Verdict::Malformed;
     }
     let seen = chain::look(ledger, l, journal);
     if !seen.whole {
@@ -96,8 +96,8 @@ fn is_fits(verdict: Verdict) -> bool
         Verdict::NoRoom => false,
         Verdict::Broken => false,
         Verdict::NoLine => false,
-        Verdict::OtherSize => false,
-        Verdict::NoText => false,
+        Verdict::WrongSize => false,
+        Verdict::Malformed => false,
     }
 }
 
@@ -127,7 +127,7 @@ pub fn take(ledger: Ledger, line: u8, journal: &mut [u8], buffer: &mut [u8]) -> 
     if memory::LINES <= l {
         return Taking {
             ledger,
-            answer: Took::NoSuchLine,
+            answer: Took::NoLine,
         };
     }
     if journal.len() != memory::JOURNAL_SIZE {
@@ -140,7 +140,7 @@ pub fn take(ledger: Ledger, line: u8, journal: &mut [u8], buffer: &mut [u8]) -> 
     if !seen.whole {
         return Taking {
             ledger,
-            answer: Took::BrokenJournal,
+            answer: Took::Broken,
         };
     }
     let at = seen.oldest;

@@ -25,9 +25,9 @@ use Rattle.journal_laws.specs.Held.{Held}
 use Rattle.journal_laws.specs.Runs.{given}
 use Rattle.journal.specs.declared.Ledger.{Ledger}
 use Rattle.journal.specs.declared.Verdict.{Verdict}
-use Rattle.journal.specs.declared.Verdict.the-variants.{Fits, NoRoom, NoLine, NoText}
+use Rattle.journal.specs.declared.Verdict.the-variants.{Fits, NoRoom, NoLine, Malformed}
 use Rattle.journal.specs.declared.Took.{Took}
-use Rattle.journal.specs.declared.Took.the-variants.{Taken, NothingWaiting, BufferShort, NoSuchLine}
+use Rattle.journal.specs.declared.Took.the-variants.{Taken, NothingWaiting, BufferShort}
 use Rattle.journal.proofs.Judged.{judged-line, judged-text, judged-room}
 use Rattle.journal_laws.proofs.Keeps.{store-held, take-held}
 
@@ -73,9 +73,9 @@ module _ (sh : List ℕ) (d : Ledger) (l : ℕ) (t j : List ℕ) (es : List Entr
     | yes line ↦ elim (decLe 1 (length t)) [
       | yes low ↦ elim (decLe (length t) messageLimit) [
         | yes high ↦ decided line low high (fits sh (raised (d .used) l (entrySize (length t)))) refl
-        | no high ↦ inr (stays NoText (judged-text d sh l (length t) j line (h .long) (λ p q. high q)) refl refl refl)
+        | no high ↦ inr (stays Malformed (judged-text d sh l (length t) j line (h .long) (λ p q. high q)) refl refl refl)
       ]
-      | no low ↦ inr (stays NoText (judged-text d sh l (length t) j line (h .long) (λ p q. low p)) refl refl refl)
+      | no low ↦ inr (stays Malformed (judged-text d sh l (length t) j line (h .long) (λ p q. low p)) refl refl refl)
     ]
     | no line ↦ inr (stays NoLine (judged-line d sh l (length t) j (omega arith)) refl refl refl)
   ]
@@ -100,7 +100,7 @@ pub record Keeps (d : Ledger) (l : ℕ) (j b : List ℕ) : Type 0 where
 module _ (sh : List ℕ) (d : Ledger) (l : ℕ) (j b : List ℕ) (es : List Entry) (h : Held sh d j es) where
   no-line : lines ≤ l → Keeps d l j b
   unfolding takeOf
-  no-line n = record { answer = NoSuchLine; is = rw (le-ltb l lines n); no = λ c. refl; sized = refl; whole = refl }
+  no-line n = record { answer = Took.NoLine; is = rw (le-ltb l lines n); no = λ c. refl; sized = refl; whole = refl }
 
   pub take-empty : l < lines → from l es ≡ [] → takeOf d l j b ≡ afterTaking d NothingWaiting j b
   unfolding takeOf

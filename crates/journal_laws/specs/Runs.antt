@@ -12,7 +12,7 @@ use Rattle.journal.specs.Storage.{storeOf}
 use Rattle.journal.specs.Removal.{takeOf}
 use Rattle.journal.specs.declared.Ledger.{Ledger}
 use Rattle.journal.specs.declared.Took.{Took}
-use Rattle.journal.specs.declared.Took.the-variants.{Taken, NothingWaiting, BufferShort, BrokenJournal, NoSuchLine, WrongSize}
+use Rattle.journal.specs.declared.Took.the-variants.{Taken, NothingWaiting, BufferShort, Broken, NoLine, WrongSize}
 
 -- the storing of a text on a line, or a taking from a line into a buffer
 pub data Operation : Type 0 where
@@ -48,9 +48,9 @@ waiting l es = texts (only l es)
 -- what a taking left in the buffer, by its answer
 abbrev pub given : Took → List ℕ → List Numbered
 given (Taken n serial) b = record { serial = serial; text = take n b } ∷ []
-given NoSuchLine b = []
+given NoLine b = []
 given WrongSize b = []
-given BrokenJournal b = []
+given Broken b = []
 given NothingWaiting b = []
 given BufferShort b = []
 

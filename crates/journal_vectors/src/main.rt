@@ -24,8 +24,8 @@ fn number(verdict: journal::Verdict) -> u64
         journal::Verdict::NoRoom => 31,
         journal::Verdict::Broken => 43,
         journal::Verdict::NoLine => 40,
-        journal::Verdict::OtherSize => 41,
-        journal::Verdict::NoText => 46,
+        journal::Verdict::WrongSize => 41,
+        journal::Verdict::Malformed => 46,
     }
 }
 
@@ -134,8 +134,8 @@ fn took(answer: journal::Took) {
         }
         journal::Took::NothingWaiting => word(44),
         journal::Took::BufferShort => word(45),
-        journal::Took::BrokenJournal => word(43),
-        journal::Took::NoSuchLine => word(40),
+        journal::Took::Broken => word(43),
+        journal::Took::NoLine => word(40),
         journal::Took::WrongSize => word(41),
     }
 }

@@ -9,10 +9,10 @@ use borrow.Author.Tests.{le-leb, lt-leb, leb-true}
 use Rattle.memory.specs.Parts.{splice}
 use Rattle.memory.specs.Moves.{copied, Copied}
 use Rattle.listing.specs.Texts.{endOf, TextWritten}
-use Rattle.listing.specs.declared.Written.the-variants.{To, NoRoom}
+use Rattle.listing.specs.declared.Written.the-variants.{To, NotFitting}
 
 module _ (text out : List ℕ) (at : ℕ) where
-  pub text-no : length out < at + length text → TextWritten text out at NoRoom out
+  pub text-no : length out < at + length text → TextWritten text out at NotFitting out
   unfolding endOf copied
   text-no h = record { answer = rw (lt-leb (at + length text) (length out) h); after = rw (lt-leb (at + length text) (length out) h) }
 
@@ -24,7 +24,7 @@ module _ (text out : List ℕ) (at : ℕ) where
   pub copied-room : {r : Bool} {out′ : List ℕ} → Copied out at text r out′ → r ≡ true → at + length text ≤ length out
   copied-room c e = leb-true (at + length text) (length out) (sym (c .answer) ∙ e)
 
-  pub copied-not : {r : Bool} {out′ : List ℕ} → Copied out at text r out′ → r ≡ false → TextWritten text out at NoRoom out′
+  pub copied-not : {r : Bool} {out′ : List ℕ} → Copied out at text r out′ → r ≡ false → TextWritten text out at NotFitting out′
   unfolding endOf
   copied-not c e = record { answer = rw (sym (c .answer) ∙ e); after = c .after }
 

@@ -14,7 +14,7 @@ use Rattle.line.specs.declared.Reply.{Reply}
 use Rattle.line.specs.declared.Reply.the-variants.{Silence, Byte}
 use Rattle.decimal.specs.Decimal.{decimalOf}
 use Rattle.listing.specs.declared.Written.{Written}
-use Rattle.listing.specs.declared.Written.the-variants.{To, NoRoom}
+use Rattle.listing.specs.declared.Written.the-variants.{To, NotFitting}
 
 abbrev pub space : ℕ
 space = 0x20
@@ -83,7 +83,7 @@ faultText line = lineText ++ (decimalOf line ++ noEventText)
 
 -- where the text ends, or no room for it
 unfoldable pub endOf : List ℕ → List ℕ → ℕ → Written
-endOf text out at = cond (fitsAt out at text) (To (at + length text)) NoRoom
+endOf text out at = cond (fitsAt out at text) (To (at + length text)) NotFitting
 
 -- what writing a text says: the answer, and the memory after it, which is unchanged where the text has no room
 pub record TextWritten (text out : List ℕ) (at : ℕ) (r : Written) (out′ : List ℕ) : Type 0 where

@@ -17,7 +17,7 @@ pub enum Item {
 // Where a text written ends, or no room for it.
 pub enum Written {
     To(usize),
-    NoRoom,
+    NotFitting,
 }
 
 // The longest line that is looked at: a longer one is not an event.
@@ -62,7 +62,7 @@ pub fn write_header(out: &mut [u8], at: usize) -> Written
     ensures { λ r. ⌜ TextWritten headerText (now (out .entry)) at r (now (out .exit)) ⌝ }
 {
     if !memory::copy_at(out, at, &HEADER) {
-        return Written::NoRoom;
+        return Written::NotFitting;
     }
     Written::To(at + HEADER.len())
 }
@@ -79,10 +79,10 @@ pub fn write_row(
     ensures { λ r. ⌜ TextWritten (rowText event line number length) (now (out .entry)) at r (now (out .exit)) ⌝ }
 {
     if out.len() < at {
-        return Written::NoRoom;
+        return Written::NotFitting;
     }
     if !rows::has_room(event, line, number, length, out.len() - at) {
-        return Written::NoRoom;
+        return Written::NotFitting;
     }
     Written::To(rows::put(event, line, number, length, out, at))
 }
@@ -93,10 +93,10 @@ pub fn write_total(events: u64, out: &mut [u8], at: usize) -> Written
 {
     let n = decimal::size(events) + EVENTS.len();
     if out.len() < at {
-        return Written::NoRoom;
+        return Written::NotFitting;
     }
     if out.len() - at < n {
-        return Written::NoRoom;
+        return Written::NotFitting;
     }
     let end = decimal::put(events, out, at);
     memory::copy_at(out, end, &EVENTS);
@@ -109,10 +109,10 @@ pub fn write_fault(line: u64, out: &mut [u8], at: usize) -> Written
 {
     let n = LINE.len() + decimal::size(line) + NO_EVENT.len();
     if out.len() < at {
-        return Written::NoRoom;
+        return Written::NotFitting;
     }
     if out.len() - at < n {
-        return Written::NoRoom;
+        return Written::NotFitting;
     }
     memory::copy_at(out, at, &LINE);
     let number = at + LINE.len();

@@ -21,7 +21,6 @@ use Rattle.journal.specs.Answers.{isFits}
 use Rattle.journal.specs.Verdicts.{judgeOf}
 use Rattle.journal.specs.declared.Ledger.{Ledger}
 use Rattle.journal.specs.declared.Verdict.{Verdict as Judgement}
-use Rattle.journal.specs.declared.Verdict.the-variants.{Fits, NoRoom as Full, Broken as Damaged, NoLine as Nowhere, OtherSize, NoText}
 use Rattle.header.proofs.Heads.{head-size-high}
 use Rattle.journal.proofs.Judged.{fits-facts}
 use Rattle.journal.proofs.Wholes.{kept}
@@ -56,12 +55,12 @@ module _ (d : Ledger) (i : ℕ) (j : List ℕ) (w : Narrow d) where
 
   module _ (text : ℕ → List ℕ) (n : ℕ) where
     room-narrow : (q : Judgement) → judgeOf d todaysShares i (length (text n)) j ≡ q → Narrow (ledgerAfter (roomVerdict q n) d i text)
-    room-narrow Fits e = grown-narrow (length (text n)) (ap isFits e)
-    room-narrow Full e = w
-    room-narrow Damaged e = w
-    room-narrow Nowhere e = w
-    room-narrow OtherSize e = w
-    room-narrow NoText e = w
+    room-narrow Judgement.Fits e = grown-narrow (length (text n)) (ap isFits e)
+    room-narrow Judgement.NoRoom e = w
+    room-narrow Judgement.Broken e = w
+    room-narrow Judgement.NoLine e = w
+    room-narrow Judgement.WrongSize e = w
+    room-narrow Judgement.Malformed e = w
 
     decision-narrow : Narrow (ledgerAfter (decisionOf todaysShares d i n (text n) j) d i text)
     unfolding decisionOf

@@ -19,7 +19,7 @@ use Rattle.room.specs.Room.{share, todaysShares, claims, raised}
 use Rattle.journal.specs.Removal.{AfterTaking, shrunk, takeOf as takeEntry}
 use Rattle.journal_laws.specs.Runs.{Numbered, given}
 use Rattle.journal.specs.declared.Took.{Took}
-use Rattle.journal.specs.declared.Took.the-variants.{Taken, NothingWaiting, BufferShort, BrokenJournal, NoSuchLine, WrongSize}
+use Rattle.journal.specs.declared.Took.the-variants.{Taken, NothingWaiting, BufferShort, Broken, NoLine, WrongSize}
 use Rattle.journal_laws.proofs.Cases.{Gives, Keeps, take-cases}
 use Rattle.journal.proofs.Oldest.{total-oldest}
 use Rattle.room.proofs.Totals.{raised-own, raised-other, lowered-own, lowered-other, claims-le, claims-lowered, claims-raised-le}
@@ -57,8 +57,8 @@ keeps-answer : (t : Took) → ((c : List ℕ) → given t c ≡ []) → isEight 
 keeps-answer (Taken n serial) e = absurd (omega (arith, ap (λ (zs : List Numbered). length zs) (e [])))
 keeps-answer NothingWaiting e = refl
 keeps-answer BufferShort e = refl
-keeps-answer BrokenJournal e = refl
-keeps-answer NoSuchLine e = refl
+keeps-answer Broken e = refl
+keeps-answer NoLine e = refl
 keeps-answer WrongSize e = refl
 
 module _ (s : State) (w : Sound s) (i : ℕ) (line : i < lines) (b : List ℕ) (n serial : ℕ) where

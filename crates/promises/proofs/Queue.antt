@@ -18,7 +18,7 @@ use Rattle.journal.specs.Removal.{takeOf as takeEntry}
 use Rattle.journal_laws.specs.Held.{Held}
 use Rattle.journal_laws.specs.Runs.{Operation, put, get, State as Store, Numbered, numbered, waiting, given, next, after, goesIn, comesOut, allIn, allOut}
 use Rattle.journal.specs.declared.Took.{Took}
-use Rattle.journal.specs.declared.Took.the-variants.{Taken, NothingWaiting, BufferShort, BrokenJournal, NoSuchLine, WrongSize}
+use Rattle.journal.specs.declared.Took.the-variants.{Taken, NothingWaiting, BufferShort, Broken, NoLine, WrongSize}
 use Rattle.journal.specs.declared.Verdict.the-variants.{Fits}
 use Rattle.journal_laws.proofs.Cases.{store-fits}
 use Rattle.journal_laws.proofs.Queue.{fresh-runs}
@@ -60,8 +60,8 @@ gave-given : (t : Took) (b : List ℕ) → gave (told (tookAnswer t) b) ≡ give
 gave-given (Taken n serial) b = refl
 gave-given NothingWaiting b = refl
 gave-given BufferShort b = refl
-gave-given BrokenJournal b = refl
-gave-given NoSuchLine b = refl
+gave-given Broken b = refl
+gave-given NoLine b = refl
 gave-given WrongSize b = refl
 
 taking-does : (s : State) (i : ℕ) (b : List ℕ) → Does s (taking i b)

@@ -17,7 +17,7 @@ use Rattle.room.specs.Room.{share, todaysShares, claims, raised}
 use Rattle.journal.specs.Removal.{AfterTaking, takeOf as takeEntry}
 use Rattle.journal.specs.Answers.{tookPaper}
 use Rattle.journal.specs.declared.Took.{Took}
-use Rattle.journal.specs.declared.Took.the-variants.{Taken, NothingWaiting, BufferShort, BrokenJournal, NoSuchLine, WrongSize}
+use Rattle.journal.specs.declared.Took.the-variants.{Taken, NothingWaiting, BufferShort, Broken, NoLine, WrongSize}
 use Rattle.journal_laws.proofs.Cases.{Gives, Keeps, take-cases}
 use Rattle.room.proofs.Totals.{claims-own-share}
 use Rattle.line.specs.Paper.{numberOf}
@@ -87,8 +87,8 @@ took-fault : (t : Took) → eqb (getD (tookPaper t) 0 0) 41 ≡ false → eqb (g
 took-fault (Taken n serial) p q = refl
 took-fault NothingWaiting p q = refl
 took-fault BufferShort p q = refl
-took-fault BrokenJournal p q = absurd (true≢false q)
-took-fault NoSuchLine p q = refl
+took-fault Broken p q = absurd (true≢false q)
+took-fault NoLine p q = refl
 took-fault WrongSize p q = absurd (true≢false p)
 
 taking-fault : (s : State) → Sound s → (i : ℕ) (b : List ℕ) → isFault (answered ((step s (taking i b)) .0)) ≡ false

@@ -12,7 +12,6 @@ use Rattle.journal.specs.Storage.{storeBy, storeOf, Stored}
 use Rattle.journal.specs.declared.Ledger.{Ledger}
 use Rattle.journal.specs.declared.Storing.{Storing}
 use Rattle.journal.specs.declared.Verdict.{Verdict as Judgement}
-use Rattle.journal.specs.declared.Verdict.the-variants.{Fits, NoRoom as Full, Broken as Damaged, NoLine as Nowhere, OtherSize, NoText}
 use Rattle.line.specs.Paper.{numberOf, isObjection}
 use Rattle.line.specs.declared.Answer.{Answer}
 use Rattle.receiving.specs.Verdicts.{objectionTo, roomVerdict, decisionOf}
@@ -31,12 +30,12 @@ pub room-row : (q : Judgement) (d : Ledger) (i n : ℕ) (text j : List ℕ)
     → (storeBy q d i text j .storing .answer ≡ q)
     × (storeBy q d i text j .storing .ledger ≡ ledgerAfter (roomVerdict q n) d i (λ n. text))
     × (storeBy q d i text j .journal ≡ journalAfter (roomVerdict q n) d i (λ n. text) j)
-room-row Fits d i n text j = (refl, refl, refl)
-room-row Full d i n text j = (refl, refl, refl)
-room-row Damaged d i n text j = (refl, refl, refl)
-room-row Nowhere d i n text j = (refl, refl, refl)
-room-row OtherSize d i n text j = (refl, refl, refl)
-room-row NoText d i n text j = (refl, refl, refl)
+room-row Judgement.Fits d i n text j = (refl, refl, refl)
+room-row Judgement.NoRoom d i n text j = (refl, refl, refl)
+room-row Judgement.Broken d i n text j = (refl, refl, refl)
+room-row Judgement.NoLine d i n text j = (refl, refl, refl)
+room-row Judgement.WrongSize d i n text j = (refl, refl, refl)
+room-row Judgement.Malformed d i n text j = (refl, refl, refl)
 
 module _ (d : Ledger) (i n : ℕ) (text j : List ℕ) where
   is-objection : isMessage text ≡ false → decisionOf todaysShares d i n text j ≡ Against (objectionTo text) n

@@ -9,7 +9,6 @@ use Rattle.faults.specs.Faults.{isMessage}
 use Rattle.journal.specs.Verdicts.{judgeOf}
 use Rattle.journal.specs.declared.Ledger.{Ledger}
 use Rattle.journal.specs.declared.Verdict.{Verdict as Judgement}
-use Rattle.journal.specs.declared.Verdict.the-variants.{Fits, NoRoom as Full, Broken as Damaged, NoLine as Nowhere, OtherSize, NoText}
 use Rattle.line.specs.declared.Line.{Line}
 use Rattle.looking.specs.Fitting.{TextFits, Fitting}
 use Rattle.looking.specs.declared.Verdict.{Verdict}
@@ -32,12 +31,12 @@ quiet-keeps (Against a n) d i text j q = (refl, refl)
 
 -- a decision fits as its text does
 room-fits : (l : Line) (q : Judgement) (n : ℕ) → TextFits l n → Fitting (roomVerdict q n) l
-room-fits l Fits n t = t
-room-fits l Full n t = t
-room-fits l Damaged n t = tt
-room-fits l Nowhere n t = tt
-room-fits l OtherSize n t = tt
-room-fits l NoText n t = t
+room-fits l Judgement.Fits n t = t
+room-fits l Judgement.NoRoom n t = t
+room-fits l Judgement.Broken n t = tt
+room-fits l Judgement.NoLine n t = tt
+room-fits l Judgement.WrongSize n t = tt
+room-fits l Judgement.Malformed n t = t
 
 pub decision-fits : (l : Line) (shares : List ℕ) (d : Ledger) (i n : ℕ) (text j : List ℕ) → TextFits l n → Fitting (decisionOf shares d i n text j) l
 unfolding decisionOf

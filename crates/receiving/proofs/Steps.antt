@@ -16,7 +16,6 @@ use Rattle.room.specs.Room.{todaysShares}
 use Rattle.journal.specs.Verdicts.{judgeOf}
 use Rattle.journal.specs.declared.Ledger.{Ledger}
 use Rattle.journal.specs.declared.Verdict.{Verdict as Judgement}
-use Rattle.journal.specs.declared.Verdict.the-variants.{Fits, NoRoom as Full, Broken as Damaged, NoLine as Nowhere, OtherSize, NoText}
 use Rattle.line.specs.Line.{withinLimits}
 use Rattle.line.specs.declared.Line.{Line}
 use Rattle.line.specs.declared.Answer.{Answer}
@@ -47,12 +46,12 @@ use Rattle.receiving.proofs.Fits.{quiet-keeps}
 room-text : (q : Judgement) (d : Ledger) (i n : ℕ) (text : ℕ → List ℕ) (j : List ℕ)
     → (ledgerAfter (roomVerdict q n) d i (λ m. text n) ≡ ledgerAfter (roomVerdict q n) d i text)
     × (journalAfter (roomVerdict q n) d i (λ m. text n) j ≡ journalAfter (roomVerdict q n) d i text j)
-room-text Fits d i n text j = (refl, refl)
-room-text Full d i n text j = (refl, refl)
-room-text Damaged d i n text j = (refl, refl)
-room-text Nowhere d i n text j = (refl, refl)
-room-text OtherSize d i n text j = (refl, refl)
-room-text NoText d i n text j = (refl, refl)
+room-text Judgement.Fits d i n text j = (refl, refl)
+room-text Judgement.NoRoom d i n text j = (refl, refl)
+room-text Judgement.Broken d i n text j = (refl, refl)
+room-text Judgement.NoLine d i n text j = (refl, refl)
+room-text Judgement.WrongSize d i n text j = (refl, refl)
+room-text Judgement.Malformed d i n text j = (refl, refl)
 
 decision-text : (shares : List ℕ) (d : Ledger) (i n : ℕ) (text : ℕ → List ℕ) (j : List ℕ)
     → (ledgerAfter (decisionOf shares d i n (text n) j) d i (λ m. text n) ≡ ledgerAfter (decisionOf shares d i n (text n) j) d i text)

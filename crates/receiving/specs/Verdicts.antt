@@ -10,7 +10,6 @@ use Rattle.faults.specs.Faults.{isMessage}
 use Rattle.journal.specs.Verdicts.{judgeOf}
 use Rattle.journal.specs.declared.Ledger.{Ledger}
 use Rattle.journal.specs.declared.Verdict.{Verdict as Judgement}
-use Rattle.journal.specs.declared.Verdict.the-variants.{Fits, NoRoom as Full, Broken as Damaged, NoLine as Nowhere, OtherSize, NoText}
 use Rattle.line.specs.Line.{withinLimits}
 use Rattle.line.specs.declared.Line.{Line}
 use Rattle.line.specs.declared.Answer.{Answer}
@@ -27,12 +26,12 @@ use Rattle.looking.specs.declared.Verdict.the-variants.{Left, Stores, Against}
 
 -- what the journal says of a message: 43, 31, or it is stored. That it has no line, no right size or no text is never asked here.
 abbrev pub roomVerdict : Judgement → ℕ → Verdict
-roomVerdict Fits n = Stores n
-roomVerdict Full n = Against NoRoom n
-roomVerdict Damaged n = Left Broken
-roomVerdict Nowhere n = Left NoLine
-roomVerdict OtherSize n = Left WrongSize
-roomVerdict NoText n = Against NoMessage n
+roomVerdict Judgement.Fits n = Stores n
+roomVerdict Judgement.NoRoom n = Against NoRoom n
+roomVerdict Judgement.Broken n = Left Broken
+roomVerdict Judgement.NoLine n = Left NoLine
+roomVerdict Judgement.WrongSize n = Left WrongSize
+roomVerdict Judgement.Malformed n = Against NoMessage n
 
 -- why a complete text is no message, as the line is answered: 30, whatever is wrong with it
 unfoldable pub objectionTo : List ℕ → Answer

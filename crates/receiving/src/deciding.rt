@@ -77,7 +77,7 @@ fn by_room(answer: journal::Verdict, n: usize) -> Verdict
         journal::Verdict::NoRoom => Verdict::Against(Answer::NoRoom, n),
         journal::Verdict::Broken => Verdict::Left(Answer::Broken),
         journal::Verdict::NoLine => Verdict::Left(Answer::NoLine),
-        journal::Verdict::OtherSize => Verdict::Left(Answer::WrongSize),
-        journal::Verdict::NoText => Verdict::Against(Answer::NoMessage, n),
+        journal::Verdict::WrongSize => Verdict::Left(Answer::WrongSize),
+        journal::Verdict::Malformed => Verdict::Against(Answer::NoMessage, n),
     }
 }

@@ -13,7 +13,7 @@ use Rattle.memory.specs.Moves.{copied}
 use Rattle.memory.proofs.Parts.{length-splice}
 use Rattle.listing.specs.Texts.{endOf, TextWritten}
 use Rattle.listing.specs.declared.Written.{Written}
-use Rattle.listing.specs.declared.Written.the-variants.{To, NoRoom}
+use Rattle.listing.specs.declared.Written.the-variants.{To, NotFitting}
 use Rattle.replay.specs.Ends.{EndsIn}
 
 -- what is written ends within the memory that it was written to
@@ -21,7 +21,7 @@ pub ends-in : (text out : List ℕ) (at : ℕ) {r : Written} {out′ : List ℕ}
 unfolding endOf copied
 ends-in text out at {r} {out′} w = by-room (leb (at + length text) (length out)) refl (w .answer) (w .after)
   where
-    by-room : (t : Bool) → leb (at + length text) (length out) ≡ t → r ≡ cond t (To (at + length text)) NoRoom → out′ ≡ cond t (splice out at text) out → EndsIn r (length out′)
+    by-room : (t : Bool) → leb (at + length text) (length out) ≡ t → r ≡ cond t (To (at + length text)) NotFitting → out′ ≡ cond t (splice out at text) out → EndsIn r (length out′)
     by-room true e a b =
         let fits = leb-true (at + length text) (length out) e in
         let long : length out′ ≡ length out = ap length b ∙ length-splice out at text fits in

@@ -36,7 +36,7 @@ fn show(written: Written, text: &[u8])
 {
     match written {
         Written::To(n) => rows(&text[..n]),
-        Written::NoRoom => false,
+        Written::NotFitting => false,
     }
     ;
 }

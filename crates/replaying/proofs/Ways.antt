@@ -17,7 +17,7 @@ use Rattle.decimal.specs.Decimal.{decimalOf}
 use Rattle.listing.specs.declared.Item.{Item}
 use Rattle.listing.specs.declared.Item.the-variants.{Event, Taking, NotAnEvent as NoItem}
 use Rattle.listing.specs.declared.Written.{Written}
-use Rattle.listing.specs.declared.Written.the-variants.{To, NoRoom}
+use Rattle.listing.specs.declared.Written.the-variants.{To, NotFitting}
 use Rattle.listing.proofs.Columns.{length-row}
 use Rattle.decimal.proofs.Digits.{most-digits, twenty}
 use Rattle.looking.specs.declared.Event.{Event as GatewayEvent}
@@ -76,11 +76,11 @@ module _ (number line answer size behind : ℕ) (out : List ℕ) (put : ℕ) {w 
     (t : TextWritten (rowText number line answer size) out put w out′) where
   abbrev endIn : Written → ℕ
   endIn (To n) = n
-  endIn NoRoom = 0
+  endIn NotFitting = 0
 
   abbrev isTo : Written → Bool
   isTo (To n) = true
-  isTo NoRoom = false
+  isTo NotFitting = false
 
   pub told-row : {end : ℕ} → w ≡ To end → Telling number line answer size behind out put (Went behind end) out′
   told-row {end} e =
@@ -94,7 +94,7 @@ module _ (number line answer size behind : ℕ) (out : List ℕ) (put : ℕ) {w 
       let long : length out′ ≡ length out = ap length after ∙ length-splice out put (rowText number line answer size) room in
       omega (arith, is, long, room)
 
-  pub never-short : w ≡ NoRoom → ⊥
+  pub never-short : w ≡ NotFitting → ⊥
   never-short e = true≢false (ap isTo (sym (fits-written (rowText number line answer size) out put room t .0) ∙ e))
 
 module _ (d : Desk) (out : List ℕ) (put : ℕ) where

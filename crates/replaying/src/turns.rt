@@ -152,7 +152,7 @@ fn tell(
 {
     match listing::write_row(number, line, answer, size, out, put) {
         Written::To(end) => Turn::Went(behind, end),
-        Written::NoRoom => Turn::Stopped(Stop::Output),
+        Written::NotFitting => Turn::Stopped(Stop::Output),
     }
 }
 
