@@ -4,10 +4,8 @@ use Prim.Native.Nat.{ℕ}
 use mathlib.Core.Bool.{Bool, cond}
 use mathlib.Core.List.{List, [], _∷_}
 use lib.Dec.{leb, ltb, eqb}
-use lib.ListN.{getD}
 use Rattle.line.specs.declared.Answer.{Answer}
 use Rattle.line.specs.declared.Answer.the-variants.{Nothing, Opened, Accepted, Repeated, Stored, Ended, Dropped, TimedOut, Taken, Busy, Unended, Torn, WrongCheck, BadText, BadNumber, Refusing, OutOfTurn, TooLong, NoCr, NoMessage, NoRoom, NoLine, WrongSize, BeyondLimits, Broken, NothingWaiting, BufferShort, Malformed, NotFitting}
-use Rattle.line.specs.declared.Values.{Values}
 use Rattle.line.specs.declared.Reply.{Reply}
 use Rattle.line.specs.declared.Reply.the-variants.{Silence, Byte}
 
@@ -74,16 +72,6 @@ valuesOf NothingWaiting = []
 valuesOf BufferShort = []
 valuesOf Malformed = []
 valuesOf NotFitting = []
-
--- the same by name: the text's length and the serial belong to 8
-abbrev pub noValues : Values
-noValues = record { length = 0; serial = 0 }
-
-abbrev pub taken : ℕ
-taken = 8
-
-abbrev pub named : ℕ → List ℕ → Values
-named number values = cond (eqb number taken) (record { length = getD values 0 0; serial = getD values 1 0 }) noValues
 
 -- the control bytes between frames
 abbrev pub eot : ℕ

@@ -3,7 +3,7 @@ ghost use mathlib.Core.Path.{_≡_};
 ghost use Rattle.line.specs.Line.{freshLine, openedLine, closedLine, withinLimits, begunLine, collectedLine, countedLine, waitingLine, acceptedLine, refusingLine};
 ghost use Rattle.line.specs.Seconds.{passedOf};
 ghost use Rattle.line.specs.Turn.{isLast, turnOf};
-ghost use Rattle.line.specs.Paper.{numberOf, valuesOf, noValues, named, replyOf};
+ghost use Rattle.line.specs.Paper.{numberOf, replyOf};
 
 pub const ENQ: u8 = 0x05;
 
@@ -68,12 +68,6 @@ pub enum Answer {
     BufferShort,
     Malformed,
     NotFitting,
-}
-
-// What answers carry, each value by its name; 0 where an answer has none.
-pub struct Values {
-    pub length: usize,
-    pub serial: u16,
 }
 
 // The byte sent back to the analyzer, if any.
@@ -336,43 +330,6 @@ impl Answer {
         }
     }
 
-    // What the answer carries.
-    pub fn values(self) -> Values
-        ensures { λ r. ⌜ r ≡ named (numberOf self) (valuesOf self) ⌝ }
-    {
-        match self {
-            Answer::Nothing => none(),
-            Answer::Opened => none(),
-            Answer::Accepted => none(),
-            Answer::Repeated => none(),
-            Answer::Stored => none(),
-            Answer::Ended => none(),
-            Answer::Dropped => none(),
-            Answer::TimedOut => none(),
-            Answer::Taken(length, serial) => Values { length, serial },
-            Answer::Busy => none(),
-            Answer::Unended => none(),
-            Answer::Torn => none(),
-            Answer::WrongCheck => none(),
-            Answer::BadText => none(),
-            Answer::BadNumber => none(),
-            Answer::Refusing => none(),
-            Answer::OutOfTurn => none(),
-            Answer::TooLong => none(),
-            Answer::NoCr => none(),
-            Answer::NoMessage => none(),
-            Answer::NoRoom => none(),
-            Answer::NoLine => none(),
-            Answer::WrongSize => none(),
-            Answer::BeyondLimits => none(),
-            Answer::Broken => none(),
-            Answer::NothingWaiting => none(),
-            Answer::BufferShort => none(),
-            Answer::Malformed => none(),
-            Answer::NotFitting => none(),
-        }
-    }
-
     // The byte that the table sends back.
     pub fn reply(self) -> Reply
         ensures { λ r. ⌜ r ≡ replyOf (numberOf self) ⌝ }
@@ -398,13 +355,4 @@ pub fn reply_to(number: u8) -> Reply
         return Reply::Byte(NAK);
     }
     Reply::Silence
-}
-
-fn none() -> Values
-    ensures { λ r. ⌜ r ≡ noValues ⌝ }
-{
-    Values {
-        length: 0,
-        serial: 0,
-    }
 }

@@ -39,7 +39,6 @@ use Rattle.ngachodui.specs.Plain.{waiting, inside, begins, insideAt, fir
 use Rattle.ngachodui.specs.Calls.{AfterCall, refused, putBack, callOf, Called, Calling, Stepping, Deciding, Taken}
 use Rattle.ngachodui.specs.declared.Answered.{Answered}
 use Rattle.ngachodui.proofs.Numbers.{told-within, used-back, serial-back, count-back, begun-back}
-use Rattle.gateway.specs.Events.{tookAnswer}
 use Rattle.journal.proofs.Takings.{taken-line}
 use Rattle.receiving.proofs.Steps.{step-after, alone-asks, step-decides}
 use Rattle.ngachodui.proofs.Narrow.{Narrow, decide-narrow, taking-narrow}
@@ -177,6 +176,7 @@ module _ (ns us : List ℕ) (i : ℕ) (j b : List ℕ) where
 
   -- 40, before the ledger is read
   pub taken-nowhere : {r : Answered} → lines ≤ i → r ≡ told NoLine → Taken ns us i j b r us j b
+  unfolding toldTaking
   taken-nowhere h a =
       let n = taken-line (ledgerOf ns us) i j b h in
       record {
@@ -186,12 +186,12 @@ module _ (ns us : List ℕ) (i : ℕ) (j b : List ℕ) where
         buffer = n .lent;
       }
 
-  pub taken-there : {d : Ledger} {t : Taking} {a : Answer} {us′ j′ b′ : List ℕ} {r : Answered} → i < lines → d ≡ ledgerOf ns us → TakenFrom d i j b t j′ b′ → a ≡ tookAnswer (t .answer) → r ≡ told a
-      → us′ ≡ withUsed us i (t .ledger) → Taken ns us i j b r us′ j′ b′
-  taken-there {d} {t} {a} {us′} {j′} {b′} {r} h p x c q o =
+  pub taken-there : {d : Ledger} {t : Taking} {us′ j′ b′ : List ℕ} {r : Answered} → i < lines → d ≡ ledgerOf ns us → TakenFrom d i j b t j′ b′ → r ≡ toldTaking (t .answer) → us′ ≡ withUsed us i (t .ledger)
+      → Taken ns us i j b r us′ j′ b′
+  taken-there {d} {t} {us′} {j′} {b′} {r} h p x q o =
       let y : TakenFrom (ledgerOf ns us) i j b t j′ b′ = rw (← p) x in
       record {
-        result = q ∙ ap told c ∙ ap (λ (z : Taking). toldTaking (z .answer)) (y .result);
+        result = q ∙ ap (λ (z : Taking). toldTaking (z .answer)) (y .result);
         used = rw (lt-ltb i lines h) (o ∙ ap (λ (z : Taking). withUsed us i (z .ledger)) (y .result));
         journal = y .after;
         buffer = y .lent;

@@ -11,7 +11,7 @@ use Rattle.characters.specs.Control.{lf, stx}
 use Rattle.digits.specs.Number.{mostNumber}
 use Rattle.journal.specs.declared.Ledger.{Ledger}
 use Rattle.line.specs.Line.{mostCollected, mostSeconds}
-use Rattle.line.specs.Paper.{numberOf, valuesOf, named, replyOf}
+use Rattle.line.specs.Paper.{numberOf, replyOf}
 use Rattle.line.specs.declared.Line.{Line}
 use Rattle.line.specs.declared.State.{State}
 use Rattle.line.specs.declared.State.the-variants.{Neutral, Waiting, Inside}
@@ -20,6 +20,7 @@ use Rattle.line.specs.declared.Last.the-variants.{NoneYet, Number}
 use Rattle.line.specs.declared.Reply.{Reply}
 use Rattle.line.specs.declared.Reply.the-variants.{Silence, Byte as Sent}
 use Rattle.line.specs.declared.Answer.{Answer}
+use Rattle.line.specs.declared.Answer.the-variants.{Taken}
 use Rattle.journal.specs.declared.Took.{Took}
 use Rattle.looking.specs.declared.Kind.{Kind}
 use Rattle.looking.specs.declared.Kind.the-variants.{Byte, Seconds}
@@ -165,20 +166,18 @@ abbrev pub replyByte : Reply → ℕ
 replyByte Silence = 0
 replyByte (Sent b) = b
 
--- an answer: its number, its reply and the values that it carries
+-- the answer to an event carries no values
 unfoldable pub told : Answer → Answered
-told a = record {
-  number = numberOf a;
-  reply = replyByte (replyOf (numberOf a));
-  serial = named (numberOf a) (valuesOf a) .serial;
-  place = 0;
-  digits = 0;
-  length = named (numberOf a) (valuesOf a) .length;
-}
+told a = record { number = numberOf a; reply = replyByte (replyOf (numberOf a)); serial = 0; place = 0; digits = 0; length = 0 }
 
--- the answer to a taking
-abbrev pub toldTaking : Took → Answered
-toldTaking t = told (tookAnswer t)
+-- the answer to a taking: for 8 the text's length and the serial
+unfoldable pub toldTaking : Took → Answered
+toldTaking (Took.Taken n serial) = record { number = numberOf (Taken n serial); reply = 0; serial = serial; place = 0; digits = 0; length = n }
+toldTaking Took.NothingWaiting = told (tookAnswer Took.NothingWaiting)
+toldTaking Took.BufferShort = told (tookAnswer Took.BufferShort)
+toldTaking Took.Broken = told (tookAnswer Took.Broken)
+toldTaking Took.NoLine = told (tookAnswer Took.NoLine)
+toldTaking Took.WrongSize = told (tookAnswer Took.WrongSize)
 
 -- a fresh line: neutral, next number 1, and the next serial 0; and the numbers of so many
 abbrev pub freshLine : List ℕ

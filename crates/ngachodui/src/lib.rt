@@ -212,7 +212,7 @@ pub extern "C" fn ngachodui_take(
     let booked = taking.ledger;
     let took = taking.answer;
     plain::put_used(used, i, booked);
-    plain::told(gateway::answer_to(took))
+    plain::told_taking(took)
 }
 
 // Every line fresh, the journal empty: each next number is 1, and all other numbers are 0.

@@ -6,11 +6,12 @@ ghost use lib.ListN.{length, set};
 ghost use Rattle.memory.specs.Sizes.{lines, framesSize};
 ghost use Rattle.line.specs.Line.{mostCollected};
 ghost use Rattle.looking.specs.Views.{frameStart};
-ghost use Rattle.ngachodui.specs.Plain.{numberAt, oneMore, quick, begins, insideAt, stateOf, stateNumber, lastOf, lastNumber, flag, withinNumbers, onlyCollects, lineOf, withLine, usedFrom, serialsFrom, ledgerOf, withSerial, withUsed, replyByte, told as Plain·told};
+ghost use Rattle.ngachodui.specs.Plain.{numberAt, oneMore, quick, begins, insideAt, stateOf, stateNumber, lastOf, lastNumber, flag, withinNumbers, onlyCollects, lineOf, withLine, usedFrom, serialsFrom, ledgerOf, withSerial, withUsed, replyByte, told as Plain·told, toldTaking};
 use super::Answered;
 use characters::LF;
 use characters::STX;
 use journal::Ledger;
+use journal::Took;
 use line::Answer;
 use line::Last;
 use line::Line;
@@ -39,6 +40,9 @@ const SERIAL: usize = 7;
 pub const NUMBERS: usize = memory::LINES * FIELDS;
 
 pub const COUNTS: usize = memory::LINES + 1;
+
+// An entry taken, the only answer with values.
+const TAKEN: u8 = 8;
 
 // The states of a line between frames and inside one: no state has a higher number.
 const WAITING: u16 = 1;
@@ -298,17 +302,37 @@ fn reply_byte(reply: Reply) -> u8
     }
 }
 
-// An answer in numbers, with what it carries.
+// The answer to an event.
 pub fn told(answer: Answer) -> Answered
     ensures { λ r. ⌜ r ≡ Plain·told answer ⌝ }
 {
-    let values = answer.values();
     Answered {
         number: answer.number(),
         reply: reply_byte(answer.reply()),
-        serial: values.serial,
+        serial: 0,
         place: 0,
         digits: 0,
-        length: values.length,
+        length: 0,
+    }
+}
+
+// The answer to a taking; only 8 has values.
+pub fn told_taking(took: Took) -> Answered
+    ensures { λ r. ⌜ r ≡ toldTaking took ⌝ }
+{
+    match took {
+        Took::Taken(length, serial) => Answered {
+            number: TAKEN,
+            reply: 0,
+            serial,
+            place: 0,
+            digits: 0,
+            length,
+        },
+        Took::NothingWaiting => told(gateway::answer_to(took)),
+        Took::BufferShort => told(gateway::answer_to(took)),
+        Took::Broken => told(gateway::answer_to(took)),
+        Took::NoLine => told(gateway::answer_to(took)),
+        Took::WrongSize => told(gateway::answer_to(took)),
     }
 }

@@ -1,19 +1,88 @@
 -- A host's run from numbers in order is the gateway's run: the same answers, and at its end the numbers tell the gateway's state. So what is promised of runs holds for hosts.
 -- Assumes nothing.
 use mathlib.Core.Path.{_≡_, refl, sym, ap, subst, _∙_}
-use mathlib.Core.Bool.{false}
+use mathlib.Core.Bool.{Bool, true, false, cond, not, _&&_, _||_}
 use mathlib.Core.List.{List, [], _∷_}
 use Prim.Native.Nat.{ℕ}
+use lib.Dec.{ltb, eqb}
+use Rattle.memory.specs.Sizes.{lines}
+use Rattle.memory.specs.Tests.{unless}
+use Rattle.memory.proofs.Tests.{clash}
 use Rattle.room.specs.Room.{todaysShares}
-use Rattle.gateway.specs.Events.{freshGateway, eventOf}
+use Rattle.line.specs.Paper.{numberOf, valuesOf}
+use Rattle.line.specs.declared.Answer.{Answer}
+use Rattle.line.specs.declared.Answer.the-variants.{NoLine}
+use Rattle.line.proofs.Paper.{every-answer}
+use Rattle.receiving.specs.Verdicts.{verdictOf}
+use Rattle.receiving.specs.Steps.{Memory, stepOf}
+use Rattle.gateway.specs.Events.{lineAt, putBack, freshGateway, eventOf}
+use Rattle.looking.specs.declared.Event.{Event}
+use Rattle.gateway.specs.declared.Gateway.{Gateway}
+use Rattle.looking.specs.declared.Verdict.{Verdict}
+use Rattle.gateway_laws.specs.Classes.{Class, quiet, opening, closing, refusing, accepting, storing, against, taking as gives, classOf, verdictClass}
+use Rattle.gateway_laws.proofs.Rows.{Of, of-class}
+use Rattle.gateway_laws.proofs.Proper.{verdict-proper}
 use Rattle.serial.specs.Serial.{event, taking, annotate, final, Every}
 use Rattle.promises.specs.Machine.{State, Told, GatewayItem, onLine, step, Sound, May}
 use Rattle.promises.specs.Runs.{RightSizes, fresh, answered, isFault}
 use Rattle.promises.proofs.Runs.{always-sound, never-faulty}
+use Rattle.ngachodui.specs.Plain.{told}
 use Rattle.ngachodui_laws.specs.Hosting.{Tells}
 use Rattle.ngachodui_laws.specs.HostRuns.{HostState, gatewayState, InOrder, freshHost, HostTold, hostStep, Alike}
 use Rattle.ngachodui.specs.declared.Answered.{Answered}
-use Rattle.ngachodui_laws.proofs.Hosts.{hosts-the-gateway, taking-hosts, fresh-hosts, tells}
+use Rattle.ngachodui_laws.proofs.Hosts.{hosts-the-gateway, taking-hosts, fresh-hosts}
+
+-- no event is answered 8, so what an event is told has all that its answer has
+abbrev isGiving : Class → Bool
+isGiving quiet = false
+isGiving opening = false
+isGiving closing = false
+isGiving refusing = false
+isGiving accepting = false
+isGiving storing = false
+isGiving against = false
+isGiving gives = true
+
+abbrev isNone : List ℕ → Bool
+isNone [] = true
+isNone (v ∷ vs) = false
+
+never-gives : (c : Class) (v : Verdict) → Of c v → isGiving c ≡ false
+never-gives quiet v o = refl
+never-gives opening v o = refl
+never-gives closing v o = refl
+never-gives refusing v o = refl
+never-gives accepting v o = refl
+never-gives storing v o = refl
+never-gives against v o = refl
+
+-- and but for 8 no answer carries values
+abbrev isPlain : Answer → Bool
+isPlain a = isGiving (classOf a) || (not (eqb (numberOf a) 8) && isNone (valuesOf a))
+
+plain-values : (gives eight : Bool) (vs : List ℕ) → gives || (not eight && isNone vs) ≡ true → gives ≡ false → cond eight (0 ∷ 0 ∷ []) [] ≡ vs
+plain-values false false [] p q = refl
+plain-values false false (v ∷ vs) p q = clash cc
+plain-values false true vs p q = clash cc
+plain-values true eight vs p q = clash cc
+
+tells-event : (a : Answer) → isGiving (classOf a) ≡ false → Tells (told a) a
+unfolding told
+tells-event a h = record {
+  number = refl;
+  reply = refl;
+  values = plain-values (isGiving (classOf a)) (eqb (numberOf a) 8) (valuesOf a) (every-answer isPlain (λ vs. refl) a) h;
+}
+
+event-gives : (g : Gateway) (e : Event) (m : Memory) → isGiving (classOf (eventOf todaysShares g e m .handled .answer)) ≡ false
+unfolding eventOf stepOf
+event-gives g e m = by-line (ltb (e .line) lines)
+  where
+    by-line : (b : Bool) → isGiving (classOf (unless b (record { handled = record { gateway = g; answer = NoLine }; memory = m }) (putBack g (e .line) (stepOf todaysShares (lineAt g (e .line)) (g .ledger) e m)) .handled .answer)) ≡ false
+    by-line true =
+        let v = verdictOf todaysShares (lineAt g (e .line)) (g .ledger) e (m .journal) (m .unfinished) (m .frames) in
+        ap isGiving (verdict-proper todaysShares (lineAt g (e .line)) (g .ledger) e (m .journal) (m .unfinished) (m .frames)) ∙ never-gives (verdictClass v) v (of-class v)
+    by-line false = refl
 
 -- one call
 pub record OneCall (s : HostState) (e : GatewayItem) : Type 0 where
@@ -28,7 +97,7 @@ one-call s o (event i k) =
     let h = hosts-the-gateway (s .numbers) (s .used) o (onLine i k) (s .memory) in
     record {
       state = λ z. record { gateway = h .gateway z; memory = h .memory z };
-      tells = subst (λ (x : Answered). Tells x (eventOf todaysShares g (onLine i k) (s .memory) .handled .answer)) (sym (h .answer)) (tells _);
+      tells = subst (λ (x : Answered). Tells x (eventOf todaysShares g (onLine i k) (s .memory) .handled .answer)) (sym (h .answer)) (tells-event _ (event-gives g (onLine i k) (s .memory)));
       buffer = refl;
       in-order = h .ordered;
     }

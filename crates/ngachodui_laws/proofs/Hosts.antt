@@ -1,31 +1,30 @@
 -- A host that calls with plain numbers has the gateway: each call does to the gateway that its numbers tell what the gateway's definition does.
 -- Assumes nothing.
 use mathlib.Core.Path.{_≡_, refl, sym, ap, subst, _∙_}
-use mathlib.Core.Bool.{Bool, true, false, cond}
-use mathlib.Core.List.{List, [], _∷_}
+use mathlib.Core.Bool.{Bool, true, false}
+use mathlib.Core.List.{List}
 use Prim.Native.Nat.{ℕ, zero, suc, _+_, _<_}
 use native.Mathlib.Decide.{ℕ-discrete}
 use native.Mathlib.Omega.{arith}
 use borrow.Author.Tests.{lt-ltb, ltb-true}
-use lib.Dec.{ltb, eqb}
-use lib.ListN.{length, replicate, getD}
+use lib.Dec.{ltb}
+use lib.ListN.{length, replicate}
 use Rattle.memory.specs.Sizes.{lines}
 use Rattle.memory.specs.Tests.{unless}
-use Rattle.memory.proofs.Tests.{clash}
 use Rattle.room.specs.Room.{todaysShares}
 use Rattle.journal.specs.Removal.{AfterTaking, takeOf as takeEntry}
+use Rattle.journal.specs.declared.Took.{Took}
 use Rattle.line.specs.Line.{mostCollected}
-use Rattle.line.specs.Paper.{numberOf, valuesOf, noValues, taken}
+use Rattle.line.specs.Paper.{replyOf}
 use Rattle.line.specs.declared.Answer.{Answer}
 use Rattle.line.specs.declared.Answer.the-variants.{WrongSize}
-use Rattle.line.proofs.Paper.{every-answer}
 use Rattle.looking.specs.Lent.{rightSizes}
 use Rattle.receiving.specs.Verdicts.{verdictOf}
 use Rattle.receiving.specs.Steps.{Memory, memoryOf, AfterStep, stepOf}
 use Rattle.gateway.specs.Events.{AfterEvent, freshGateway, eventOf, takeOf, tookAnswer, putBack as putLine}
 use Rattle.looking.specs.declared.Event.{Event}
 use Rattle.gateway_laws.proofs.Laws.{unchanged, left-unchanged, limits-kept}
-use Rattle.ngachodui.specs.Plain.{lineOf, ledgerOf, withinNumbers, withUsed, told, freshNumbers}
+use Rattle.ngachodui.specs.Plain.{lineOf, ledgerOf, withinNumbers, withUsed, told, toldTaking, freshNumbers}
 use Rattle.ngachodui.specs.Calls.{AfterCall, refused, putBack, callOf, Calling, Taken, Fresh}
 use Rattle.ngachodui_laws.specs.Hosting.{linesOf, gatewayOf, Ordered, Hosts, Tells, HostsTaking}
 use Rattle.ngachodui.specs.declared.Answered.{Answered}
@@ -118,53 +117,37 @@ call-hosts ns us o e j u f {r} {ns′} {us′} {j′} {u′} {f′} c =
     } in
     subst (λ (x : AfterCall). Hosts x (eventOf todaysShares (gatewayOf ns us) e (memoryOf j u f))) (sym same) (hosts-the-gateway ns us o e (memoryOf j u f))
 
--- an answer in plain numbers has all that the answer has: but for 8, which has two, no answer carries values
-abbrev isPair : List ℕ → Bool
-isPair (x ∷ y ∷ []) = true
-isPair vs = false
-
-abbrev isNone : List ℕ → Bool
-isNone [] = true
-isNone (v ∷ vs) = false
-
-values-told : (eight : Bool) (vs : List ℕ) → cond eight (isPair vs) (isNone vs) ≡ true
-    → cond eight (cond eight (record { length = getD vs 0 0; serial = getD vs 1 0 }) noValues .length ∷ cond eight (record { length = getD vs 0 0; serial = getD vs 1 0 }) noValues .serial ∷ []) [] ≡ vs
-values-told false [] h = refl
-values-told false (v ∷ vs) h = clash cc
-values-told true [] h = clash cc
-values-told true (x ∷ []) h = clash cc
-values-told true (x ∷ y ∷ []) h = refl
-values-told true (x ∷ y ∷ z ∷ vs) h = clash cc
-
-pub tells : (a : Answer) → Tells (told a) a
-unfolding told
-tells a = record {
-  number = refl;
-  reply = refl;
-  values = values-told (eqb (numberOf a) taken) (valuesOf a) (every-answer (λ x. cond (eqb (numberOf x) taken) (isPair (valuesOf x)) (isNone (valuesOf x))) (λ vs. refl) a);
-}
+-- an answer to a taking tells what the gateway's tells
+pub tells : (t : Took) → Tells (toldTaking t) (tookAnswer t)
+unfolding told toldTaking replyOf
+tells (Took.Taken n serial) = record { number = refl; reply = refl; values = refl }
+tells Took.NothingWaiting = record { number = refl; reply = refl; values = refl }
+tells Took.BufferShort = record { number = refl; reply = refl; values = refl }
+tells Took.Broken = record { number = refl; reply = refl; values = refl }
+tells Took.NoLine = record { number = refl; reply = refl; values = refl }
+tells Took.WrongSize = record { number = refl; reply = refl; values = refl }
 
 module _ (ns us : List ℕ) (o : Ordered ns us) (i : ℕ) (j b : List ℕ) where
-  abbrev took : AfterTaking
-  took = takeEntry (ledgerOf ns us) i j b
+  abbrev taken : AfterTaking
+  taken = takeEntry (ledgerOf ns us) i j b
 
   -- the used counts after it: as they were on no line, else put back
-  used-after : (t : Bool) → ltb i lines ≡ t → ledgerOf ns (unless t us (withUsed us i (took .taking .ledger))) ≡ took .taking .ledger
+  used-after : (t : Bool) → ltb i lines ≡ t → ledgerOf ns (unless t us (withUsed us i (taken .taking .ledger))) ≡ taken .taking .ledger
   unfolding takeEntry
-  used-after true h = taking-put ns us i (ltb-true i lines h) (took .taking .ledger) (o .used) (taking-lowered (ledgerOf ns us) i (ltb-true i lines h) (used-long ns us) j b)
+  used-after true h = taking-put ns us i (ltb-true i lines h) (taken .taking .ledger) (o .used) (taking-lowered (ledgerOf ns us) i (ltb-true i lines h) (used-long ns us) j b)
   used-after false h = rw h
 
-  long-after : (t : Bool) → length (unless t us (withUsed us i (took .taking .ledger))) ≡ lines + 1
-  long-after true = counts-long us i (took .taking .ledger) ∙ o .used
+  long-after : (t : Bool) → length (unless t us (withUsed us i (taken .taking .ledger))) ≡ lines + 1
+  long-after true = counts-long us i (taken .taking .ledger) ∙ o .used
   long-after false = o .used
 
   pub taking-hosts : {r : Answered} {us′ j′ b′ : List ℕ} → Taken ns us i j b r us′ j′ b′ → HostsTaking ns us′ j′ b′ r (takeOf (gatewayOf ns us) i j b)
   unfolding takeOf
   taking-hosts {r} {us′} t =
-      let ledger : ledgerOf ns us′ ≡ took .taking .ledger = ap (ledgerOf ns) (t .used) ∙ used-after (ltb i lines) refl in
+      let ledger : ledgerOf ns us′ ≡ taken .taking .ledger = ap (ledgerOf ns) (t .used) ∙ used-after (ltb i lines) refl in
       record {
         gateway = λ z. record { lines = linesOf ns 0 lines; ledger = ledger z };
-        answer = subst (λ (x : Answered). Tells x (tookAnswer (took .taking .answer))) (sym (t .result)) (tells (tookAnswer (took .taking .answer)));
+        answer = subst (λ (x : Answered). Tells x (tookAnswer (taken .taking .answer))) (sym (t .result)) (tells (taken .taking .answer));
         journal = t .journal;
         buffer = t .buffer;
         ordered = record { numbers = o .numbers; used = ap length (t .used) ∙ long-after (ltb i lines); within = o .within };

@@ -19,7 +19,7 @@ use Rattle.line.proofs.Paper.{every-answer}
 use Rattle.looking.specs.Lent.{rightSizes}
 use Rattle.receiving.specs.Verdicts.{verdictOf}
 use Rattle.receiving.specs.Steps.{Memory, AfterStep, stepOf}
-use Rattle.gateway.specs.Events.{AfterTake, takeOf, tookAnswer}
+use Rattle.gateway.specs.Events.{AfterTake, takeOf}
 use Rattle.looking.specs.declared.Event.{Event}
 use Rattle.looking.specs.declared.Verdict.the-variants.{Left}
 use Rattle.gateway_laws.specs.Classes.{Class, classOf, quiet, opening, closing, refusing, accepting, storing, against, taking as gives}
@@ -114,7 +114,7 @@ pub taking-leaves : (ns us : List ℕ) (i : ℕ) (j b : List ℕ) {r : Answered}
 unfolding takeOf
 taking-leaves ns us i j b {r} {us′} t h =
     let a = takeOf (gatewayOf ns us) i j b .handled .answer in
-    let n : isRefusal (numberOf a) ≡ true = sym (ap isRefusal (ap (λ (x : Answered). x .number) (t .result) ∙ tells (tookAnswer (takeEntry (ledgerOf ns us) i j b .taking .answer)) .number)) ∙ h in
+    let n : isRefusal (numberOf a) ≡ true = sym (ap isRefusal (ap (λ (x : Answered). x .number) (t .result) ∙ tells (takeEntry (ledgerOf ns us) i j b .taking .answer) .number)) ∙ h in
     let s = taking-refused (gatewayOf ns us) i j b (refusal-class a n) in
     let d : takeEntry (ledgerOf ns us) i j b .taking .ledger ≡ ledgerOf ns us = ap (λ (x : AfterTake). x .handled .gateway .ledger) s in
     (t .used ∙ by-line d (ltb i lines) refl, t .journal ∙ ap (λ (x : AfterTake). x .journal) s, t .buffer ∙ ap (λ (x : AfterTake). x .buffer) s)

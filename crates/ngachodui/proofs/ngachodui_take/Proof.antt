@@ -28,11 +28,11 @@ put-used-requires c κs =
 
 returns-2 : tie.Need-returns-2
 returns-2 c =
-    let put = c .before .before in
+    let put = c .before in
     let took = taken (put .before .before) in
     let ledger = took .before .before .before in
     let a = entry ledger .args in
-    taken-there (now (a .numbers)) (now (a .used)) (a .line) (now (a .journal)) (now (a .buffer)) (omega arith) (ledger .ledger-of .ensures .0) (took .take .ensures) (c .before .answer-to .ensures) (c .told2 .ensures) (put .put-used .ensures)
+    taken-there (now (a .numbers)) (now (a .used)) (a .line) (now (a .journal)) (now (a .buffer)) (omega arith) (ledger .ledger-of .ensures .0) (took .take .ensures) (c .told-taking .ensures) (put .put-used .ensures)
 
 pub ngachodui-take-spec : {M : Type 1} → statement M
 ngachodui-take-spec =
@@ -43,7 +43,6 @@ ngachodui-take-spec =
     (λ c κs. search needs)
     (λ c κs. search needs)
     put-used-requires
-    (λ c κs. search needs)
     (λ c κs. search needs)
     (λ c. search needs)
     (λ c. search needs)

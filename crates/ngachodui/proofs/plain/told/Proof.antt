@@ -7,7 +7,7 @@ use Rattle.ngachodui.proofs.plain.told.Tie as tie
 
 returns : tie.Need-returns
 unfolding told
-returns c = let replied = c .before in let numbered = replied .before in rw (c .reply-byte .ensures, replied .reply .ensures, numbered .number .ensures, numbered .before .values .ensures)
+returns c = rw (c .reply-byte .ensures, c .before .reply .ensures, c .before .before .number .ensures)
 
 pub told-spec : {M : Type 1} → statement M
-told-spec = tie.close (tie.spec (λ c κs. search needs) (λ c κs. search needs) (λ c κs. search needs) (λ c κs. search needs) returns)
+told-spec = tie.close (tie.spec (λ c κs. search needs) (λ c κs. search needs) (λ c κs. search needs) returns)
