@@ -49,7 +49,7 @@ pub fn handle(
     }
     let line = g.lines[i];
     let ledger = g.ledger;
-    let stepped = receiving::step(line, ledger, e, journal, unfinished, frames);
+    let stepped = stepping::step(line, ledger, e, journal, unfinished, frames);
     let after = stepped.line;
     let booked = stepped.ledger;
     let answer = stepped.answer;

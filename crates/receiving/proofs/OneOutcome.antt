@@ -7,15 +7,9 @@ use Rattle.journal.specs.declared.Ledger.{Ledger}
 use Rattle.line.specs.declared.Line.{Line}
 use Rattle.looking.specs.declared.Event.{Event}
 use Rattle.looking.specs.declared.Look.{Look}
-use Rattle.receiving.specs.Steps.{Stepping}
 use Rattle.receiving.specs.Alone.{SteppingAlone, Deciding}
 use Rattle.receiving.specs.declared.Alone.{Alone}
 use Rattle.receiving.specs.declared.Stepped.{Stepped}
-
--- `step`, and `step_in_place` with the line, the ledger and the answer in one record
-pub step-once : (l : Line) (d : Ledger) (e : Event) (j u f : List ℕ) {r s : Stepped} {j₁ j₂ u₁ u₂ f₁ f₂ : List ℕ} → Stepping l d e j u f r j₁ u₁ f₁ → Stepping l d e j u f s j₂ u₂ f₂
-    → (r ≡ s) × (j₁ ≡ j₂) × (u₁ ≡ u₂) × (f₁ ≡ f₂)
-step-once l d e j u f a b = (a .result ∙ sym (b .result), a .journal ∙ sym (b .journal), a .unfinished ∙ sym (b .unfinished), a .frames ∙ sym (b .frames))
 
 -- `step_alone`
 pub alone-once : (l : Line) (e : Event) (n : ℕ) (u f : List ℕ) {r s : Alone} {u₁ u₂ f₁ f₂ : List ℕ} → SteppingAlone l e n u f r u₁ f₁ → SteppingAlone l e n u f s u₂ f₂ → (r ≡ s) × (u₁ ≡ u₂) × (f₁ ≡ f₂)

@@ -1,6 +1,5 @@
-// One event on one line: look, then act.
+// One event on one line in two parts, each look and then act: the line alone, and the deciding of a complete message.
 ghost use mathlib.Core.Path.{_≡_};
-ghost use Rattle.receiving.specs.Steps.{Stepping};
 ghost use Rattle.receiving.specs.Alone.{SteppingAlone, Deciding};
 use journal::Ledger;
 use line::Answer;
@@ -25,27 +24,7 @@ pub struct Alone {
     pub look: Look,
 }
 
-// One event on the line whose record this is, by value.
-pub fn step(
-    line: Line,
-    ledger: Ledger,
-    e: Event,
-    journal: &mut [u8],
-    unfinished: &mut [u8],
-    frames: &mut [u8],
-) -> Stepped
-    ensures { λ r. ⌜ Stepping line ledger e (now (journal .entry)) (now (unfinished .entry)) (now (frames .entry)) r (now (journal .exit)) (now (unfinished .exit)) (now (frames .exit)) ⌝ }
-{
-    let alone = step_alone(line, e, journal.len(), unfinished, frames);
-    let after = alone.line;
-    let look = alone.look;
-    match look {
-        Look::Done(v) => left(after, ledger, v.answer()),
-        Look::Decides(n) => decide(line, ledger, e, n, journal, unfinished, frames),
-    }
-}
-
-// The same on the line alone: of the journal only its length is asked. An event that completes a message is left to `decide`.
+// One event on the line whose record this is, as far as the line alone goes: of the journal only its length is asked. An event that completes a message is left to `decide`.
 pub fn step_alone(
     line: Line,
     e: Event,
@@ -92,24 +71,6 @@ pub fn decide(
         return left(line, ledger, Answer::BeyondLimits);
     }
     completing::by_decision(line, ledger, e, n, journal, unfinished, frames)
-}
-
-// The same where the line's record and the ledger lie: the step by value, and its outcome stored.
-pub fn step_in_place(
-    line: &mut Line,
-    ledger: &mut Ledger,
-    event: Event,
-    journal: &mut [u8],
-    unfinished: &mut [u8],
-    frames: &mut [u8],
-) -> Answer
-    ensures { λ r. ⌜ Stepping (now (line .entry)) (now (ledger .entry)) event (now (journal .entry)) (now (unfinished .entry)) (now (frames .entry))
-        (record { line = now (line .exit); ledger = now (ledger .exit); answer = r }) (now (journal .exit)) (now (unfinished .exit)) (now (frames .exit)) ⌝ }
-{
-    let s = step(*line, *ledger, event, journal, unfinished, frames);
-    *line = s.line;
-    *ledger = s.ledger;
-    s.answer
 }
 
 // Nothing changed.

@@ -1,4 +1,4 @@
--- `receiving::step_in_place` meets its contract: a walk of its MIR, by hand. Each lent record is copied out of its opened borrow; `step` is called on the copies, and takes the slices at their own
+-- `stepping::step_in_place` meets its contract: a walk of its MIR, by hand. Each lent record is copied out of its opened borrow; `step` is called on the copies, and takes the slices at their own
 -- lifetimes, shares and ghost names, so those borrows are given up for good; the new records are stored, and the borrows closed at them. Of the callee the proof knows only that it meets its contract.
 -- Assumes nothing.
 use mathlib.Core.Path.{_≡_, refl, ap}
@@ -52,19 +52,19 @@ use Rattle.journal.proofs.Ledger as Ledger
 use Rattle.journal.proofs.Ledger.Laws as Ledger′
 use Rattle.looking.proofs.Event as Event
 use Rattle.looking.proofs.Event.Laws as Event′
 use Rattle.receiving.proofs.Stepped as Stepped
 use Rattle.receiving.proofs.Stepped.Laws as Stepped′
 use Rattle.line.proofs.Answer as Answer
 use Rattle.line.proofs.Answer.Laws as Answer′
 use Rattle.receiving.specs.Steps.{Stepping}
-use Rattle.receiving.proofs.step as callee
-use Rattle.receiving.proofs.step.Symbol as callee-def
-use Rattle.receiving.proofs.step.Symbol.{name as #callee}
-use Rattle.receiving.proofs.step.Met as callee-thm
-use Rattle.receiving.proofs.step_in_place.Key.{name as #f}
-use Rattle.receiving.proofs.step_in_place as f
-use Rattle.receiving.proofs.step_in_place.Statement as stated
-use Rattle.receiving.proofs.step_in_place.Code as code
+use Rattle.stepping.proofs.step as callee
+use Rattle.stepping.proofs.step.Symbol as callee-def
+use Rattle.stepping.proofs.step.Symbol.{name as #callee}
+use Rattle.stepping.proofs.step.Met as callee-thm
+use Rattle.stepping.proofs.step_in_place.Key.{name as #f}
+use Rattle.stepping.proofs.step_in_place as f
+use Rattle.stepping.proofs.step_in_place.Statement as stated
+use Rattle.stepping.proofs.step_in_place.Code as code
 
 abbrev stayed : Stays (f.ended .signature .params) (f.ended .kept)
 stayed = (stay-ref (0 ∷ []) tt (plain (λ _. Line.the-row)), (stay-ref (1 ∷ []) tt (plain (λ _. Ledger.the-row)), (stay-dropped (plain (λ _. Event.the-row)) yes, (gave-slice (2 ∷ []) tt (plain (λ _. u8)), (gave-slice (3 ∷ []) tt (plain (λ _. u8)), (gave-slice (4 ∷ []) tt (plain (λ _. u8)), tt))))))
@@ -204,4 +204,4 @@ step-in-place-spec 𝓤 H 𝓜 𝓖 𝓡 =
     entered 𝓤 H (tripleOf 𝓤 H (𝓖 .A) f.signature (f.spec 𝓤 H (𝓖 .A) (𝓜 .mem) (𝓡 .run)))
     (tables 𝓤 H 𝓜 𝓡 code.env .C) (tables 𝓤 H 𝓜 𝓡 code.env .Λ) #f code.function (code.unfolded 𝓤 H 𝓜 𝓡)
     (meets 𝓤 H (𝓖 .A) (givenOf 𝓤 H 𝓜 𝓖) (𝓜 .mem) (𝓡 .run) (tablesOf 𝓤 H 𝓜 (tables 𝓤 H 𝓜 𝓡 code.env))
-    (cited 𝓤 H (Callee 𝓤 H (𝓖 .A) (𝓜 .mem) (𝓡 .run)) 𝓜 𝓡 code.env #callee callee-def.routine code.calls-receiving·step (callee-thm.met 𝓤 H 𝓜 𝓖 𝓡)))
+    (cited 𝓤 H (Callee 𝓤 H (𝓖 .A) (𝓜 .mem) (𝓡 .run)) 𝓜 𝓡 code.env #callee callee-def.routine code.calls-stepping·step (callee-thm.met 𝓤 H 𝓜 𝓖 𝓡)))

@@ -1,10 +1,10 @@
--- `receiving::step` meets its contract: the line alone, and the deciding where the look comes to one.
+-- `stepping::step` meets its contract: the line alone, and the deciding where the look comes to one.
 -- Assumes nothing.
 use borrow.Author.Needs.{needs}
 use denote.Ref.{now}
 use Rattle.receiving.proofs.Steps.{step-after, step-asks}
-use Rattle.receiving.proofs.step.Statement.{statement}
-use Rattle.receiving.proofs.step.Tie as tie
+use Rattle.stepping.proofs.step.Statement.{statement}
+use Rattle.stepping.proofs.step.Tie as tie
 
 -- where the line alone was stepped, from the look's two cases; and where the function was entered
 abbrev entry : tie.After-step-alone → tie.Start
@@ -18,7 +18,7 @@ returns c =
     let told = c .before .before .before in
     let stepped = alone (told .before .before) in
     let a = entry stepped .args in
-    rw (c .left .ensures) (step-after (a .line) (a .ledger) (a .e) (now (a .journal)) (now (a .unfinished)) (now (a .frames)) _ _ (stepped .step-alone .ensures) (told .look .given .1) (c .before .answer .ensures))
+    rw (c .done .ensures) (step-after (a .line) (a .ledger) (a .e) (now (a .journal)) (now (a .unfinished)) (now (a .frames)) _ _ (stepped .step-alone .ensures) (told .look .given .1) (c .before .answer .ensures))
 
 returns-2 : tie.Need-returns-2
 returns-2 c =
