@@ -10,7 +10,7 @@ ghost use Rattle.looking.specs.declared.Kind.the-variants.{Byte, Seconds};
 ghost use lib.ListN.{length};
 ghost use Rattle.looking.specs.Lent.{rightLengths};
 ghost use Rattle.memory.specs.Sizes.{lines};
-ghost use Rattle.ngachodui.specs.Plain.{withinNumbers, told};
+ghost use Rattle.ngachodui.specs.Plain.{withinNumbers};
 ghost use Rattle.ngachodui.specs.Layout.{layout};
 ghost use Rattle.ngachodui.specs.Calls.{Calling, Stepping, Deciding, Taken, Fresh};
 use line::Answer;
@@ -82,7 +82,7 @@ pub extern "C" fn ngachodui_byte(
         line,
         kind: Kind::Byte(byte),
     };
-    plain::told(event(e, numbers, used, journal, unfinished, frames))
+    event(e, numbers, used, journal, unfinished, frames)
 }
 
 // Seconds have passed on a line.
@@ -110,7 +110,7 @@ pub extern "C" fn ngachodui_seconds(
         line,
         kind: Kind::Seconds(seconds),
     };
-    plain::told(event(e, numbers, used, journal, unfinished, frames))
+    event(e, numbers, used, journal, unfinished, frames)
 }
 
 // An event past 40 and 41: numbers that are no record are 42; STX between frames only begins one, and needs no record; any other is stepped.
@@ -121,19 +121,19 @@ fn event(
     journal: &mut [u8],
     unfinished: &mut [u8],
     frames: &mut [u8],
-) -> Answer
+) -> Answered
     requires { ⌜ (e .line < lines) × (rightLengths (length (now journal)) (length (now unfinished)) (length (now frames)) ≡ true) ⌝ }
     ensures { λ r. ⌜ Calling (now (numbers .entry)) (now (used .entry)) e (now (journal .entry)) (now (unfinished .entry)) (now (frames .entry))
-        (told r) (now (numbers .exit)) (now (used .exit)) (now (journal .exit)) (now (unfinished .exit)) (now (frames .exit)) ⌝ }
+        r (now (numbers .exit)) (now (used .exit)) (now (journal .exit)) (now (unfinished .exit)) (now (frames .exit)) ⌝ }
 {
     let i = e.line as usize;
     if !plain::is_within(numbers, i) {
-        return Answer::BeyondLimits;
+        return plain::told(Answer::BeyondLimits);
     }
     let kind = e.kind;
     if plain::is_begin(numbers, i, kind) {
         plain::begin(i, numbers);
-        return Answer::Nothing;
+        return plain::told(Answer::Nothing);
     }
     step(e, numbers, used, journal, unfinished, frames)
 }
@@ -146,10 +146,10 @@ fn step(
     journal: &mut [u8],
     unfinished: &mut [u8],
     frames: &mut [u8],
-) -> Answer
+) -> Answered
     requires { ⌜ (e .line < lines) × (withinNumbers (now numbers) (e .line) ≡ true) ⌝ }
     ensures { λ r. ⌜ Stepping (now (numbers .entry)) (now (used .entry)) e (now (journal .entry)) (now (unfinished .entry)) (now (frames .entry))
-        (told r) (now (numbers .exit)) (now (used .exit)) (now (journal .exit)) (now (unfinished .exit)) (now (frames .exit)) ⌝ }
+        r (now (numbers .exit)) (now (used .exit)) (now (journal .exit)) (now (unfinished .exit)) (now (frames .exit)) ⌝ }
 {
     let i = e.line as usize;
     let record = plain::record_of(numbers, i);
@@ -159,7 +159,7 @@ fn step(
     match look {
         Look::Done(v) => {
             plain::put_record(numbers, i, after);
-            v.answer()
+            plain::told(v.answer())
         }
         Look::Decides(n) => decide(record, e, n, numbers, used, journal, unfinished, frames),
     }
@@ -175,10 +175,10 @@ fn decide(
     journal: &mut [u8],
     unfinished: &mut [u8],
     frames: &mut [u8],
-) -> Answer
+) -> Answered
     requires { ⌜ e .line < lines ⌝ }
     ensures { λ r. ⌜ Deciding (now (numbers .entry)) (now (used .entry)) line e n (now (journal .entry)) (now (unfinished .entry)) (now (frames .entry))
-        (told r) (now (numbers .exit)) (now (used .exit)) (now (journal .exit)) (now (unfinished .exit)) (now (frames .exit)) ⌝ }
+        r (now (numbers .exit)) (now (used .exit)) (now (journal .exit)) (now (unfinished .exit)) (now (frames .exit)) ⌝ }
 {
     let i = e.line as usize;
     let ledger = plain::ledger_of(numbers, used);
@@ -189,7 +189,7 @@ fn decide(
     plain::put_record(numbers, i, after);
     plain::put_serial(numbers, i, booked);
     plain::put_used(used, i, booked);
-    answer
+    plain::told(answer)
 }
 
 // The text of a line's oldest entry goes to the start of the buffer.

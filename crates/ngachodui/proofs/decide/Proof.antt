@@ -1,7 +1,6 @@
 -- `ngachodui::decide` meets its contract: the outcome of the deciding, put back.
 -- Assumes nothing.
 use borrow.Author.Needs.{needs}
-use mathlib.Core.Path.{refl}
 use denote.Ref.{now}
 use Rattle.ngachodui.proofs.Ways.{narrow-after, put-decided}
 use Rattle.ngachodui.proofs.decide.Statement.{statement}
@@ -32,12 +31,13 @@ put-used-requires c κs =
 
 returns : tie.Need-returns
 returns c =
-    let serial = c .before .before in
+    let put = c .before in
+    let serial = put .before .before in
     let line = serial .before .before in
     let made = decided (line .before .before) in
     let a = entry (ledger made) .args in
     put-decided (now (a .numbers)) (now (a .used)) (a .e) (now (a .journal)) (now (a .unfinished)) (now (a .frames)) (a .line) (a .n) (ledger made .ledger-of .ensures .0) (made .decide .ensures) (line .put-record .ensures)
-    (serial .put-serial .ensures) (c .put-used .ensures) refl
+    (serial .put-serial .ensures) (put .put-used .ensures) (c .told .ensures)
 
 pub decide-spec : {M : Type 1} → statement M
 decide-spec =
@@ -49,6 +49,7 @@ decide-spec =
     put-record-requires
     put-serial-requires
     put-used-requires
+    (λ c κs. search needs)
     (λ c. search needs)
     (λ c. search needs)
     (λ c. search needs)

@@ -1,7 +1,7 @@
 -- `ngachodui::event` meets its contract: 42, STX between frames, or the step.
 -- Assumes nothing.
 use borrow.Author.Needs.{needs}
-use mathlib.Core.Path.{_≡_, refl, sym, _∙_}
+use mathlib.Core.Path.{_≡_, sym, _∙_}
 use mathlib.Core.Bool.{true}
 use denote.Ref.{now}
 use borrow.Author.Tests.{not-true, not-false}
@@ -20,10 +20,10 @@ within c = sym (c .before .is-within .ensures) ∙ not-false _ (c .if1 .left)
 
 returns : tie.Need-returns
 returns c =
-    let tested = c .before in
+    let tested = c .before .before in
     let start = entry tested in
     let a = start .args in
-    beyond (now (a .numbers)) (now (a .used)) (a .e) (now (a .journal)) (now (a .unfinished)) (now (a .frames)) _ (start .pre .0) (start .pre .1) (sym (tested .is-within .ensures) ∙ not-true _ (c .if1 .taken)) refl
+    beyond (now (a .numbers)) (now (a .used)) (a .e) (now (a .journal)) (now (a .unfinished)) (now (a .frames)) _ (start .pre .0) (start .pre .1) (sym (tested .is-within .ensures) ∙ not-true _ (c .before .if1 .taken)) (c .told .ensures)
 
 is-begin-requires : tie.Need-is-begin-requires
 is-begin-requires c κs = let past = c .before in entry (past .before) .pre .0
@@ -33,12 +33,13 @@ begin-requires c κs = let looked = c .before .before in let past = looked .befo
 
 returns-2 : tie.Need-returns-2
 returns-2 c =
-    let taken = c .before .before in
+    let begun = c .before in
+    let taken = begun .before .before in
     let looked = taken .before in
     let past = looked .before .before in
     let start = entry (past .before) in
     let a = start .args in
-    by-begin (now (a .numbers)) (now (a .used)) (a .e) (now (a .journal)) (now (a .unfinished)) (now (a .frames)) (start .pre .0) (start .pre .1) (within past) (sym (looked .is-begin .ensures) ∙ taken .if2 .taken) (c .begin .ensures)
+    rw (c .told2 .ensures) (by-begin (now (a .numbers)) (now (a .used)) (a .e) (now (a .journal)) (now (a .unfinished)) (now (a .frames)) (start .pre .0) (start .pre .1) (within past) (sym (looked .is-begin .ensures) ∙ taken .if2 .taken) (begun .begin .ensures))
 
 step-requires : tie.Need-step-requires
 step-requires c κs =
@@ -63,9 +64,11 @@ event-spec =
     (tie.spec
     (λ c. search needs)
     (λ c κs. search needs)
+    (λ c κs. search needs)
     returns
     is-begin-requires
     begin-requires
+    (λ c κs. search needs)
     returns-2
     step-requires
     (λ c. search needs)

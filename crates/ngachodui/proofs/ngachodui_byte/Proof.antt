@@ -69,12 +69,6 @@ event-requires c κs =
     let other = c .before .before .before .before .before in
     (omega arith, sizes (past (other .before)))
 
-returns-4 : tie.Need-returns-4
-returns-4 c =
-    let back = c .before .before .before .before in
-    let asked = back .before .before .before in
-    rw (c .told4 .ensures) (asked .event .ensures)
-
 pub ngachodui-byte-spec : {M : Type 1} → statement M
 ngachodui-byte-spec =
     tie.close
@@ -90,8 +84,7 @@ ngachodui-byte-spec =
     (λ c. search needs)
     returns-3
     event-requires
-    (λ c κs. search needs)
     (λ c. search needs)
     (λ c. search needs)
     (λ c. search needs)
-    returns-4)
+    (λ c. search needs))

@@ -26,12 +26,6 @@ returns-2 c =
 event-requires : tie.Need-event-requires
 event-requires c κs = let past = c .before .before .before .before .before in (omega arith, sym (past .before .are-right .ensures) ∙ not-false _ (past .if2 .left))
 
-returns-3 : tie.Need-returns-3
-returns-3 c =
-    let back = c .before .before .before .before in
-    let asked = back .before .before .before in
-    rw (c .told3 .ensures) (asked .event .ensures)
-
 pub ngachodui-seconds-spec : {M : Type 1} → statement M
 ngachodui-seconds-spec =
     tie.close
@@ -42,8 +36,7 @@ ngachodui-seconds-spec =
     (λ c κs. search needs)
     returns-2
     event-requires
-    (λ c κs. search needs)
     (λ c. search needs)
     (λ c. search needs)
     (λ c. search needs)
-    returns-3)
+    (λ c. search needs))

@@ -1,7 +1,6 @@
 -- `ngachodui::step` meets its contract: the line alone, and the deciding where the look comes to one.
 -- Assumes nothing.
 use borrow.Author.Needs.{needs}
-use mathlib.Core.Path.{refl}
 use denote.Ref.{now}
 use Rattle.ngachodui.proofs.Ways.{put-after, by-decide}
 use Rattle.ngachodui.proofs.step.Statement.{statement}
@@ -25,14 +24,14 @@ decide-requires c κs = let lent = c .before .before .before .before in let told
 
 returns : tie.Need-returns
 returns c =
-    let put = c .before in
+    let put = c .before .before in
     let told = put .before .before .before in
     let stepped = alone (told .before .before) in
     let read = record-read stepped in
     let start = entry read in
     let a = start .args in
     put-after (now (a .numbers)) (now (a .used)) (a .e) (now (a .journal)) (now (a .unfinished)) (now (a .frames)) (start .pre .0) (read .record-of .ensures) (stepped .step-alone .ensures) (told .look .given .1)
-    (put .put-record .ensures) (c .answer .ensures) refl
+    (put .put-record .ensures) (c .before .answer .ensures) (c .told .ensures)
 
 returns-2 : tie.Need-returns-2
 returns-2 c =
@@ -54,6 +53,7 @@ step-spec =
     (λ c κs. search needs)
     (λ c. search needs)
     put-record-requires
+    (λ c κs. search needs)
     (λ c κs. search needs)
     (λ c. search needs)
     decide-requires
