@@ -14,7 +14,7 @@ use crate::boundary;
 use crate::frames::{check_digits, next_number, CR, ENQ, EOT, ETB, ETX, LF, STX};
 use crate::layout::{FRAMES_SIZE, JOURNAL_SIZE, NEXT, UNFINISHED_SIZE};
 use crate::library::Gateway;
-use crate::script::{decimal, each, hex, unknown, Said, Step};
+use crate::script::{decimal, each_step, hex, unknown, Step};
 
 /// What a buffer holds before it is lent: no byte of a frame and no byte of a text.
 const FILLER: u8 = 0x7F;
@@ -39,20 +39,11 @@ pub fn run(script: &str) -> Result<bool, String> {
         ),
         text: Vec::new(),
     };
-    each(script, |said| match said {
-        Said::Title(text) => {
-            println!("{}", text);
-            run.gateway.renew();
-            run.text.clear();
-            Ok(())
-        }
-        Said::Comment(text) => {
-            println!("{}", text);
-            Ok(())
-        }
-        Said::Piece(_) => unknown(':'),
-        Said::Step(step) => run.step(&step),
-    })?;
+    let renew = |run: &mut Run| {
+        run.gateway.renew();
+        run.text.clear();
+    };
+    each_step(script, &mut run, renew, Run::step)?;
     Ok(true)
 }
 

@@ -1,7 +1,7 @@
 //! A gateway run by hand: each answer is shown with its line's record and the ledger before and
 //! after, and a digest of each memory.
 //!
-//!     = TITLE             a fresh gateway, memory of the right sizes, all bytes 0;   # TEXT_LIMIT   nothing
+//!     = TITLE             a fresh gateway, memory of the right sizes, all bytes 0;   # TEXT   nothing
 //!     B L HEX, A L N      bytes that come on line L; the byte 41 N times
 //!     S L N, T L N        N seconds on line L; a taking from it with a buffer of N bytes
 //!     C L NNN HEX         no event: the text that the digits spell (- spells none) is cut into a
@@ -19,7 +19,7 @@ use crate::boundary::{self, Answered};
 use crate::frames::next_number;
 use crate::layout::*;
 use crate::library::{Gateway, Memory};
-use crate::script::{decimal, each, hex, unknown, Said, Step};
+use crate::script::{decimal, each_step, hex, unknown, Step};
 
 /// Each memory has so much more than its right size, and can be lent too long.
 const SPARE: usize = 1;
@@ -39,20 +39,8 @@ struct Run {
 
 /// Runs a script.
 pub fn run(script: &str) -> Result<bool, String> {
-    let mut run = Run::fresh();
-    each(script, |said| match said {
-        Said::Title(text) => {
-            println!("{}", text);
-            run = Run::fresh();
-            Ok(())
-        }
-        Said::Comment(text) => {
-            println!("{}", text);
-            Ok(())
-        }
-        Said::Piece(_) => unknown(':'),
-        Said::Step(step) => run.step(&step),
-    })?;
+    let renew = |run: &mut Run| *run = Run::fresh();
+    each_step(script, &mut Run::fresh(), renew, Run::step)?;
     Ok(true)
 }
 

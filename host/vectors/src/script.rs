@@ -35,6 +35,28 @@ pub fn each<'a>(
     Ok(())
 }
 
+/// Runs a script that has no pieces: titles and comments are written out, and a title makes the run
+/// new.
+pub fn each_step<R>(
+    script: &str,
+    run: &mut R,
+    renew: impl Fn(&mut R),
+    does: impl Fn(&mut R, &Step) -> Result<(), String>,
+) -> Result<(), String> {
+    each(script, |said| {
+        match said {
+            Said::Title(text) => {
+                println!("{}", text);
+                renew(run);
+            }
+            Said::Comment(text) => println!("{}", text),
+            Said::Piece(_) => return unknown(':'),
+            Said::Step(step) => return does(run, &step),
+        }
+        Ok(())
+    })
+}
+
 fn said(text: &str) -> Result<Said<'_>, String> {
     match text.split_once(' ') {
         Some(("=", _)) => Ok(Said::Title(text)),

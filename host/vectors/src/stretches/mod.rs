@@ -1,7 +1,7 @@
 //! Whole traces: each is run from fresh, told again stretch by stretch, and compared, every answer and
 //! the whole final state.
 //!
-//!     = TITLE      a new trace;   # TEXT_LIMIT   nothing
+//!     = TITLE      a new trace;   # TEXT   nothing
 //!     E L          ENQ on line L;   B L HEX   bytes;   A L N   the byte 41 N times;   S L N   N seconds
 //!     F L NETEXT   a frame: its number N (a digit, * the line's next one, - the last one again), E . for
 //!                  ETX or + for ETB, its text with / for CR
