@@ -22,8 +22,8 @@ use Rattle.listing.proofs.Columns.{length-row}
 use Rattle.decimal.proofs.Digits.{most-digits, twenty}
 use Rattle.looking.specs.declared.Event.{Event as GatewayEvent}
 use Rattle.looking.specs.declared.Kind.{Kind}
-use Rattle.ngachodui.specs.Calls.{Calling, Taken}
-use Rattle.ngachodui.specs.declared.Answered.{Answered}
+use Rattle.calls.specs.Calls.{Calling, Taken}
+use Rattle.calls.specs.declared.Answered.{Answered}
 use Rattle.replaying.specs.Lines.{nextOf}
 use Rattle.replaying.specs.Desk.{rowRoom, Desk, eventAsked, takingAsked}
 use Rattle.replaying.specs.Turns.{AfterTurn, stopped, acted, onLine, turnOf, Leaves, Telling, ReadIn}

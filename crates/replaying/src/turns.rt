@@ -4,16 +4,16 @@ ghost use mathlib.Core.Path.{_≡_};
 ghost use lib.ListN.{length};
 ghost use Rattle.replaying.specs.Desk.{rowRoom};
 ghost use Rattle.replaying.specs.Turns.{Turning, Acting, Telling, ReadIn, EndsIn};
-ghost use Rattle.ngachodui.specs.Calls.{Calling};
+ghost use Rattle.calls.specs.Calls.{Calling};
 use super::Next;
 use super::Stop;
 use super::Turn;
 use super::lines;
+use calls::Answered;
 use listing::Item;
 use listing::Written;
 use looking::Event;
 use looking::Kind;
-use ngachodui::Answered;
 
 // The line that starts at `at`, as event `number`, and its row behind `put` bytes of the listing.
 pub fn turn(
@@ -22,8 +22,8 @@ pub fn turn(
     at: usize,
     out: &mut [u8],
     put: usize,
-    numbers: &mut [u16; ngachodui::NUMBERS],
-    used: &mut [u32; ngachodui::COUNTS],
+    numbers: &mut [u16; calls::NUMBERS],
+    used: &mut [u32; calls::COUNTS],
     journal: &mut [u8],
     unfinished: &mut [u8],
     frames: &mut [u8],
@@ -64,8 +64,8 @@ fn act(
     behind: usize,
     out: &mut [u8],
     put: usize,
-    numbers: &mut [u16; ngachodui::NUMBERS],
-    used: &mut [u32; ngachodui::COUNTS],
+    numbers: &mut [u16; calls::NUMBERS],
+    used: &mut [u32; calls::COUNTS],
     journal: &mut [u8],
     unfinished: &mut [u8],
     frames: &mut [u8],
@@ -92,13 +92,7 @@ fn act(
         }
         Item::Taking(line, n) => {
             let lent = least(n, buffer.len());
-            let answered = ngachodui::ngachodui_take(
-                line,
-                numbers,
-                used,
-                journal,
-                &mut buffer[..lent],
-            );
+            let answered = calls::take(line, numbers, used, journal, &mut buffer[..lent]);
             tell(
                 number,
                 line,
@@ -116,8 +110,8 @@ fn act(
 // An event is a byte or seconds.
 fn event(
     e: Event,
-    numbers: &mut [u16; ngachodui::NUMBERS],
-    used: &mut [u32; ngachodui::COUNTS],
+    numbers: &mut [u16; calls::NUMBERS],
+    used: &mut [u32; calls::COUNTS],
     journal: &mut [u8],
     unfinished: &mut [u8],
     frames: &mut [u8],
@@ -128,12 +122,8 @@ fn event(
     let line = e.line;
     let kind = e.kind;
     match kind {
-        Kind::Byte(b) => {
-            ngachodui::ngachodui_byte(line, b, numbers, used, journal, unfinished, frames)
-        }
-        Kind::Seconds(s) => {
-            ngachodui::ngachodui_seconds(line, s, numbers, used, journal, unfinished, frames)
-        }
+        Kind::Byte(b) => { calls::byte(line, b, numbers, used, journal, unfinished, frames) }
+        Kind::Seconds(s) => { calls::seconds(line, s, numbers, used, journal, unfinished, frames) }
     }
 }
 

@@ -20,10 +20,10 @@ event c = c .before .before .before .before .before .before .before .before .bef
 abbrev event-item : tie.After-event → tie.After-item
 event-item c = c .before .before .before .before .before .before .before
 
-abbrev taking : tie.After-slice-known12 → tie.After-ngachodui-take
+abbrev taking : tie.After-slice-known12 → tie.After-take
 taking c = c .before .before .before .before .before .before .before .before
 
-abbrev lent : tie.After-ngachodui-take-arg4 → tie.After-least
+abbrev lent : tie.After-take-arg4 → tie.After-least
 lent c = c .before .before .before .before
 
 abbrev taking-start : tie.After-least → tie.Start
@@ -33,8 +33,8 @@ taking-start c = start (c .before .before .before .before)
 abbrev desk : tie.Start → Desk
 desk s = let a = s .args in deskOf (now (a .numbers)) (now (a .used)) (now (a .journal)) (now (a .unfinished)) (now (a .frames)) (now (a .buffer))
 
-slice-aggregate-ngachodui-take : tie.Need-slice-aggregate-ngachodui-take
-slice-aggregate-ngachodui-take c =
+slice-aggregate-take : tie.Need-slice-aggregate-take
+slice-aggregate-take c =
     let l = lent c in
     sym (length-take-le (l .least .result) (now (taking-start l .args .buffer)) (l .least .ensures .0))
 
@@ -54,7 +54,7 @@ returns-2 c =
     let s = taking-start l in
     let a = s .args in
     let (row, ends) = c .before .before .tell2 .ensures in
-    (acted-taking (desk s) (now (a .out)) (a .put) (a .item) (a .number) (a .behind) (l .before .before .item2 .given .1) (l .least .ensures .1) (t .ngachodui-take .ensures) refl row, ends)
+    (acted-taking (desk s) (now (a .out)) (a .put) (a .item) (a .number) (a .behind) (l .before .before .item2 .given .1) (l .least .ensures .1) (t .take .ensures) refl row, ends)
 
 returns-3 : tie.Need-returns-3
 returns-3 c =
@@ -72,7 +72,7 @@ act-spec =
     (λ c. search needs)
     (λ c κs. search needs)
     (λ c. search needs)
-    slice-aggregate-ngachodui-take
+    slice-aggregate-take
     (λ c κs. search needs)
     (λ c κs. search needs)
     (λ c. search needs)

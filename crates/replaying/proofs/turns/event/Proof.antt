@@ -7,16 +7,16 @@ use Rattle.replaying.proofs.turns.event.Statement.{statement}
 use Rattle.replaying.proofs.turns.event.Tie as tie
 
 -- the places of each arm: the call, and from it the kind matched; and the function's start
-abbrev byte : tie.After-slice-known6 → tie.After-ngachodui-byte
+abbrev byte : tie.After-slice-known6 → tie.After-byte
 byte c = c .before .before .before .before .before .before
 
-abbrev byte-kind : tie.After-ngachodui-byte → tie.After-kind
+abbrev byte-kind : tie.After-byte → tie.After-kind
 byte-kind c = c .before .before .before .before .before .before .before
 
-abbrev seconds : tie.After-slice-known9 → tie.After-ngachodui-seconds
+abbrev seconds : tie.After-slice-known9 → tie.After-seconds
 seconds c = c .before .before .before .before .before .before
 
-abbrev seconds-kind : tie.After-ngachodui-seconds → tie.After-kind2
+abbrev seconds-kind : tie.After-seconds → tie.After-kind2
 seconds-kind c = c .before .before .before .before .before .before .before
 
 abbrev start : tie.After-slice-known3 → tie.Start
@@ -26,13 +26,13 @@ returns : tie.Need-returns
 returns c =
     let k = byte-kind (byte c) in
     let a = start (k .before .before) .args in
-    as-kind (now (a .numbers)) (now (a .used)) (a .e) (now (a .journal)) (now (a .unfinished)) (now (a .frames)) (k .kind .given .1) (byte c .ngachodui-byte .ensures)
+    as-kind (now (a .numbers)) (now (a .used)) (a .e) (now (a .journal)) (now (a .unfinished)) (now (a .frames)) (k .kind .given .1) (byte c .byte .ensures)
 
 returns-2 : tie.Need-returns-2
 returns-2 c =
     let k = seconds-kind (seconds c) in
     let a = start (k .before .before) .args in
-    as-kind (now (a .numbers)) (now (a .used)) (a .e) (now (a .journal)) (now (a .unfinished)) (now (a .frames)) (k .kind2 .given .1) (seconds c .ngachodui-seconds .ensures)
+    as-kind (now (a .numbers)) (now (a .used)) (a .e) (now (a .journal)) (now (a .unfinished)) (now (a .frames)) (k .kind2 .given .1) (seconds c .seconds .ensures)
 
 pub event-spec : {M : Type 1} → statement M
 event-spec =

@@ -1,0 +1,4 @@
+pub mod Numbers
+pub mod Narrow
+pub mod Ways
+pub mod OneOutcome

@@ -1,0 +1,198 @@
+-- Each way out of a call.
+-- Assumes nothing.
+use mathlib.Core.Path.{_≡_, refl, sym, ap, subst, _∙_}
+use mathlib.Core.Bool.{true, false, not, _&&_}
+use mathlib.Core.List.{List}
+use Prim.Native.Nat.{ℕ, _+_, _≤_, _<_}
+use borrow.Author.Tests.{lt-ltb, le-ltb, eqb-true, not-true}
+use lib.Dec.{eqb}
+use lib.ListN.{length, set}
+use Rattle.memory.specs.Sizes.{lines}
+use Rattle.memory.specs.Tests.{is}
+use Rattle.memory.proofs.Tests.{and-left, and-right, clash}
+use Rattle.characters.specs.Control.{lf, stx}
+use Rattle.room.specs.Room.{todaysShares}
+use Rattle.line.specs.Line.{mostCollected}
+use Rattle.line.specs.declared.Answer.{Answer}
+use Rattle.line.specs.declared.Answer.the-variants.{Nothing, NoLine, WrongSize, BeyondLimits}
+use Rattle.line.specs.declared.Line.{Line}
+use Rattle.looking.specs.Views.{frameStart}
+use Rattle.looking.specs.Looks.{byteLook, insideLook, waitingLook}
+use Rattle.receiving.specs.Verdicts.{ownWork, verdictOf}
+use Rattle.looking.specs.Lent.{rightLengths}
+use Rattle.receiving.specs.Steps.{Memory, AfterStep, Leaves, memoryOf, settle, stepOf}
+use Rattle.receiving.specs.Alone.{SteppingAlone, decideOf}
+use Rattle.receiving.specs.declared.Alone.{Alone}
+use Rattle.looking.specs.Answers.{answerOf}
+use Rattle.looking.specs.declared.Look.the-variants.{Done, Decides}
+use Rattle.receiving.specs.declared.Stepped.{Stepped}
+use Rattle.journal.specs.declared.Ledger.{Ledger}
+use Rattle.journal.specs.declared.Taking.{Taking}
+use Rattle.journal.specs.Removal.{takeOf, TakenFrom}
+use Rattle.line.specs.declared.State.the-variants.{Inside}
+use Rattle.looking.specs.declared.Event.{Event}
+use Rattle.looking.specs.declared.Kind.{Kind}
+use Rattle.looking.specs.declared.Kind.the-variants.{Byte, Seconds}
+use Rattle.looking.specs.declared.Verdict.{Verdict}
+use Rattle.looking.specs.declared.Verdict.the-variants.{Collects, Begins}
+use Rattle.calls.specs.Plain.{waiting, inside, begins, insideAt, firstAt, numberAt, stateOf, withLine, withSerial, withUsed, withinNumbers, onlyCollects, oneMore, quick, lineOf, ledgerOf, told, toldTaking}
+use Rattle.calls.specs.Calls.{AfterCall, refused, putBack, callOf, Called, Calling, Stepping, Deciding, Taken}
+use Rattle.calls.specs.declared.Answered.{Answered}
+use Rattle.calls.proofs.Numbers.{told-within, used-back, serial-back, count-back, begun-back}
+use Rattle.journal.proofs.Takings.{taken-line}
+use Rattle.receiving.proofs.Steps.{step-after, alone-asks, step-decides}
+use Rattle.calls.proofs.Narrow.{Narrow, decide-narrow, taking-narrow}
+
+as-called : {s t : AfterCall} {r : Answered} {ns us j u f : List ℕ} → s ≡ t → Called t r ns us j u f → Called s r ns us j u f
+as-called {s} {t} {r} {ns} {us} {j} {u} {f} q c = subst (λ (x : AfterCall). Called x r ns us j u f) (sym q) c
+
+module _ (ns us : List ℕ) (e : Event) (j u f : List ℕ) where
+  same : (a : Answer) (r : Answered) → r ≡ told a → Called (refused a ns us (memoryOf j u f)) r ns us j u f
+  same a r q = record { result = q; numbers = refl; used = refl; journal = refl; unfinished = refl; frames = refl }
+
+  -- 40, 41 and 42
+  pub no-line : (r : Answered) → lines ≤ e .line → r ≡ told NoLine → Calling ns us e j u f r ns us j u f
+  unfolding callOf
+  no-line r h q = as-called (rw (le-ltb (e .line) lines h)) (same NoLine r q)
+
+  pub wrong-size : (r : Answered) → e .line < lines → rightLengths (length j) (length u) (length f) ≡ false → r ≡ told WrongSize → Calling ns us e j u f r ns us j u f
+  unfolding callOf
+  wrong-size r h s q = as-called (rw (lt-ltb (e .line) lines h, s)) (same WrongSize r q)
+
+  pub beyond : (r : Answered) → e .line < lines → rightLengths (length j) (length u) (length f) ≡ true → withinNumbers ns (e .line) ≡ false → r ≡ told BeyondLimits → Calling ns us e j u f r ns us j u f
+  unfolding callOf
+  beyond r h s w q = as-called (rw (lt-ltb (e .line) lines h, s, w)) (same BeyondLimits r q)
+
+  -- an outcome of the gateway, put back
+  put-back : {x : AfterStep} {s : Stepped} {ns₁ ns₂ us′ j′ u′ f′ : List ℕ} {r : Answered} → Leaves x s j′ u′ f′ → ns₁ ≡ withLine ns (e .line) (s .line) → ns₂ ≡ withSerial ns₁ (e .line) (s .ledger)
+      → us′ ≡ withUsed us (e .line) (s .ledger) → r ≡ told (s .answer) → Called (putBack ns us (e .line) x) r ns₂ us′ j′ u′ f′
+  put-back {x} {s} y m n o t = record {
+    result = t ∙ ap (λ (z : Stepped). told (z .answer)) (y .result);
+    numbers = n ∙ ap (λ (z : List ℕ). withSerial z (e .line) (s .ledger)) m ∙ ap (λ (z : Stepped). withSerial (withLine ns (e .line) (z .line)) (e .line) (z .ledger)) (y .result);
+    used = o ∙ ap (λ (z : Stepped). withUsed us (e .line) (z .ledger)) (y .result);
+    journal = y .journal;
+    unfinished = y .unfinished;
+    frames = y .frames;
+  }
+
+  -- past 40 to 42: the step
+  pub by-step : {r : Answered} {ns′ us′ j′ u′ f′ : List ℕ} → e .line < lines → rightLengths (length j) (length u) (length f) ≡ true → withinNumbers ns (e .line) ≡ true
+      → Stepping ns us e j u f r ns′ us′ j′ u′ f′ → Calling ns us e j u f r ns′ us′ j′ u′ f′
+  unfolding callOf
+  by-step h s w c = as-called (rw (lt-ltb (e .line) lines h, s, w)) c
+
+  -- a step that is done on the line alone: the ledger stays
+  pub put-after : {l : Line} {t : Alone} {v : Verdict} {a : Answer} {ns′ u′ f′ : List ℕ} {r : Answered} → e .line < lines → l ≡ lineOf ns (e .line) → SteppingAlone l e (length j) u f t u′ f′
+      → t .look ≡ Done v → ns′ ≡ withLine ns (e .line) (t .line) → a ≡ answerOf v → r ≡ told a → Stepping ns us e j u f r ns′ us j u′ f′
+  put-after {l} {t} {v} {a} {ns′} {u′} {f′} {r} h p s k m w q =
+      let x : SteppingAlone (lineOf ns (e .line)) e (length j) u f t u′ f′ = rw (← p) s in
+      put-back (step-after (lineOf ns (e .line)) (ledgerOf ns us) e j u f t v x k w) refl (m ∙ sym (serial-back ns us (e .line) (t .line) h)) (sym (used-back ns us (e .line) h)) q
+
+  -- a message that is decided
+  pub put-decided : (l : Line) (n : ℕ) {d : Ledger} {s : Stepped} {ns₁ ns₂ us′ j′ u′ f′ : List ℕ} {r : Answered} → d ≡ ledgerOf ns us → Leaves (decideOf todaysShares l d e n (memoryOf j u f)) s j′ u′ f′
+      → ns₁ ≡ withLine ns (e .line) (s .line) → ns₂ ≡ withSerial ns₁ (e .line) (s .ledger) → us′ ≡ withUsed us (e .line) (s .ledger) → r ≡ told (s .answer) → Deciding ns us l e n j u f r ns₂ us′ j′ u′ f′
+  put-decided l n {d} {s} {ns₁} {ns₂} {us′} {j′} {u′} {f′} {r} q x m o p t =
+      let y : Leaves (decideOf todaysShares l (ledgerOf ns us) e n (memoryOf j u f)) s j′ u′ f′ = rw (← q) x in
+      put-back y m o p t
+
+  pub by-decide : {l : Line} {t : Alone} {n : ℕ} {u₁ f₁ ns′ us′ j′ u′ f′ : List ℕ} {r : Answered} → l ≡ lineOf ns (e .line) → SteppingAlone l e (length j) u f t u₁ f₁ → t .look ≡ Decides n
+      → Deciding ns us l e n j u₁ f₁ r ns′ us′ j′ u′ f′ → Stepping ns us e j u f r ns′ us′ j′ u′ f′
+  by-decide {l} {t} {n} {u₁} {f₁} {ns′} {us′} {j′} {u′} {f′} {r} p s k c =
+      let (h, x, y) = alone-asks l (ledgerOf ns us) e j u f t s k in
+      let z : Deciding ns us l e n j u f r ns′ us′ j′ u′ f′ = rw (← x, ← y) c in
+      rw (← p) (as-called (ap (λ (w : AfterStep). putBack ns us (e .line) w) (step-decides l (ledgerOf ns us) e j u f n h)) z)
+
+-- the ledger after a deciding still fits
+pub narrow-after : (l : Line) (d : Ledger) (e : Event) (n : ℕ) (m : Memory) {s : Stepped} → s ≡ decideOf todaysShares l d e n m .stepped → Narrow d → Narrow (s .ledger)
+narrow-after l d e n m q w = subst (λ (z : Stepped). Narrow (z .ledger)) (sym q) (decide-narrow l d e m w n)
+
+-- a byte that is only collected
+module _ (ns : List ℕ) (i b : ℕ) (q : quick ns i b ≡ true) where
+  pub quick-within : withinNumbers ns i ≡ true
+  quick-within = and-right (onlyCollects ns i b) (withinNumbers ns i) q
+
+  is-inside : stateOf (firstAt ns i) ≡ Inside
+  unfolding onlyCollects
+  is-inside =
+      let only = and-left (onlyCollects ns i b) (withinNumbers ns i) q in
+      rw (eqb-true (firstAt ns i) inside (and-left (eqb (firstAt ns i) inside) (not (is lf b) && not (eqb (numberAt ns i 1) (mostCollected (lineOf ns i)))) only))
+
+  no-end : (is lf b ≡ false) × (eqb (numberAt ns i 1) (mostCollected (lineOf ns i)) ≡ false)
+  unfolding onlyCollects
+  no-end =
+      let only = and-left (onlyCollects ns i b) (withinNumbers ns i) q in
+      let rest = and-right (eqb (firstAt ns i) inside) (not (is lf b) && not (eqb (numberAt ns i 1) (mostCollected (lineOf ns i)))) only in
+      (not-true _ (and-left (not (is lf b)) (not (eqb (numberAt ns i 1) (mostCollected (lineOf ns i)))) rest), not-true _ (and-right (not (is lf b)) (not (eqb (numberAt ns i 1) (mostCollected (lineOf ns i)))) rest))
+
+module _ (ns us : List ℕ) (i b : ℕ) (j u f : List ℕ) (h : i < lines) (s : rightLengths (length j) (length u) (length f) ≡ true) where
+  abbrev here : Event
+  here = record { line = i; kind = Byte b }
+
+  -- what the verdict is known to be, the step leaves
+  stepped : (v : Verdict) → verdictOf todaysShares (lineOf ns i) (ledgerOf ns us) here j u f ≡ v
+      → putBack ns us i (stepOf todaysShares (lineOf ns i) (ledgerOf ns us) here (memoryOf j u f)) ≡ putBack ns us i (settle v (lineOf ns i) (ledgerOf ns us) here (memoryOf j u f))
+  unfolding stepOf
+  stepped v e = ap (λ (x : Verdict). putBack ns us i (settle x (lineOf ns i) (ledgerOf ns us) here (memoryOf j u f))) e
+
+  collects : quick ns i b ≡ true → verdictOf todaysShares (lineOf ns i) (ledgerOf ns us) here j u f ≡ Collects
+  unfolding verdictOf ownWork byteLook insideLook
+  collects q = rw (lt-ltb i lines h, s, told-within ns i (quick-within ns i b q), no-end ns i b q .0, no-end ns i b q .1, is-inside ns i b q)
+
+  pub by-quick : {r : Answered} {ns′ f′ : List ℕ} → quick ns i b ≡ true → r ≡ told Nothing → ns′ ≡ oneMore ns i → f′ ≡ set f (frameStart i + numberAt ns i 1) b → Calling ns us here j u f r ns′ us j u f′
+  by-quick q p n g = by-step ns us here j u f h s (quick-within ns i b q) (as-called (stepped Collects (collects q)) (record {
+    result = p;
+    numbers = n ∙ sym (count-back ns us i h (quick-within ns i b q) (numberAt ns i 1 + 1));
+    used = sym (used-back ns us i h);
+    journal = refl;
+    unfinished = refl;
+    frames = g;
+  }))
+
+-- STX between frames: the line is inside one, and nothing else has changed
+module _ (ns us : List ℕ) (e : Event) (j u f : List ℕ) (h : e .line < lines) (s : rightLengths (length j) (length u) (length f) ≡ true) (w : withinNumbers ns (e .line) ≡ true) where
+  begin-verdict : (k : Kind) → e .kind ≡ k → begins ns (e .line) k ≡ true → verdictOf todaysShares (lineOf ns (e .line)) (ledgerOf ns us) e j u f ≡ Begins
+  unfolding verdictOf ownWork byteLook waitingLook
+  begin-verdict (Byte b) p q =
+      let stx-is = and-left (is stx b) (eqb (firstAt ns (e .line)) waiting) q in
+      let between = eqb-true (firstAt ns (e .line)) waiting (and-right (is stx b) (eqb (firstAt ns (e .line)) waiting) q) in
+      rw (lt-ltb (e .line) lines h, s, told-within ns (e .line) w, p, between, stx-is)
+  begin-verdict (Seconds n) p q = clash cc
+
+  pub by-begin : {ns′ : List ℕ} → begins ns (e .line) (e .kind) ≡ true → ns′ ≡ insideAt ns (e .line) → Calling ns us e j u f (told Nothing) ns′ us j u f
+  unfolding stepOf
+  by-begin q n = by-step ns us e j u f h s w (as-called (ap (λ (x : Verdict). putBack ns us (e .line) (settle x (lineOf ns (e .line)) (ledgerOf ns us) e (memoryOf j u f))) (begin-verdict (e .kind) refl q)) (record {
+    result = refl;
+    numbers = n ∙ sym (begun-back ns us (e .line) h w);
+    used = sym (used-back ns us (e .line) h);
+    journal = refl;
+    unfinished = refl;
+    frames = refl;
+  }))
+
+-- a taking
+module _ (ns us : List ℕ) (i : ℕ) (j b : List ℕ) where
+  pub narrow-taken : (d : Ledger) {t : Taking} → t ≡ takeOf d i j b .taking → Narrow d → Narrow (t .ledger)
+  narrow-taken d q w = subst (λ (x : Taking). Narrow (x .ledger)) (sym q) (taking-narrow d i j b w)
+
+  -- 40, before the ledger is read
+  pub taken-nowhere : {r : Answered} → lines ≤ i → r ≡ told NoLine → Taken ns us i j b r us j b
+  unfolding toldTaking
+  taken-nowhere h a =
+      let n = taken-line (ledgerOf ns us) i j b h in
+      record {
+        result = a ∙ ap (λ (z : Taking). toldTaking (z .answer)) (n .result);
+        used = rw (le-ltb i lines h);
+        journal = n .after;
+        buffer = n .lent;
+      }
+
+  pub taken-there : {d : Ledger} {t : Taking} {us′ j′ b′ : List ℕ} {r : Answered} → i < lines → d ≡ ledgerOf ns us → TakenFrom d i j b t j′ b′ → r ≡ toldTaking (t .answer) → us′ ≡ withUsed us i (t .ledger)
+      → Taken ns us i j b r us′ j′ b′
+  taken-there {d} {t} {us′} {j′} {b′} {r} h p x q o =
+      let y : TakenFrom (ledgerOf ns us) i j b t j′ b′ = rw (← p) x in
+      record {
+        result = q ∙ ap (λ (z : Taking). toldTaking (z .answer)) (y .result);
+        used = rw (lt-ltb i lines h) (o ∙ ap (λ (z : Taking). withUsed us i (z .ledger)) (y .result));
+        journal = y .after;
+        buffer = y .lent;
+      }

@@ -1,0 +1,42 @@
+-- `calls::seconds` meets its contract: 40, 41, then the event.
+-- Assumes nothing.
+use borrow.Author.Needs.{needs}
+use native.Mathlib.Omega.{arith}
+use mathlib.Core.Path.{sym, _∙_}
+use denote.Ref.{now}
+use borrow.Author.Tests.{not-true, not-false}
+use Rattle.looking.specs.declared.Kind.the-variants.{Seconds}
+use Rattle.calls.proofs.Ways.{no-line, wrong-size}
+use Rattle.calls.proofs.seconds.Statement.{statement}
+use Rattle.calls.proofs.seconds.Tie as tie
+
+returns : tie.Need-returns
+returns c =
+    let tested = c .before in
+    let a = tested .before .before .before .before .args in
+    no-line (now (a .numbers)) (now (a .used)) (record { line = a .line; kind = Seconds (a .seconds) }) (now (a .journal)) (now (a .unfinished)) (now (a .frames)) _ (omega arith) (c .told .ensures)
+
+returns-2 : tie.Need-returns-2
+returns-2 c =
+    let right = c .before .before in
+    let past = right .before in
+    let a = past .before .before .before .before .args in
+    wrong-size (now (a .numbers)) (now (a .used)) (record { line = a .line; kind = Seconds (a .seconds) }) (now (a .journal)) (now (a .unfinished)) (now (a .frames)) _ (omega arith) (sym (right .are-right .ensures) ∙ not-true _ (c .before .if2 .taken)) (c .told2 .ensures)
+
+event-requires : tie.Need-event-requires
+event-requires c κs = let past = c .before .before .before .before .before in (omega arith, sym (past .before .are-right .ensures) ∙ not-false _ (past .if2 .left))
+
+pub seconds-spec : {M : Type 1} → statement M
+seconds-spec =
+    tie.close
+    (tie.spec
+    (λ c κs. search needs)
+    returns
+    (λ c κs. search needs)
+    (λ c κs. search needs)
+    returns-2
+    event-requires
+    (λ c. search needs)
+    (λ c. search needs)
+    (λ c. search needs)
+    (λ c. search needs))

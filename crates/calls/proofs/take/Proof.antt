@@ -1,0 +1,49 @@
+-- `calls::take` meets its contract: 40, or the journal's taking of the ledger that the numbers tell.
+-- Assumes nothing.
+use borrow.Author.Needs.{needs}
+use native.Mathlib.Omega.{arith}
+use denote.Ref.{now}
+use Rattle.calls.proofs.Ways.{narrow-taken, taken-nowhere, taken-there}
+use Rattle.calls.proofs.take.Statement.{statement}
+use Rattle.calls.proofs.take.Tie as tie
+
+-- where the function was entered, from behind the ledger; and where the journal was asked, from behind what it left
+abbrev entry : tie.After-ledger-of → tie.Start
+entry c = let past = c .before .before in past .before .before .before
+
+abbrev taken : tie.After-booked → tie.After-take
+taken c = let back = c .before .before .before in back .before .before
+
+returns : tie.Need-returns
+returns c =
+    let a = c .before .before .before .before .args in
+    taken-nowhere (now (a .numbers)) (now (a .used)) (a .line) (now (a .journal)) (now (a .buffer)) (omega arith) (c .told .ensures)
+
+put-used-requires : tie.Need-put-used-requires
+put-used-requires c κs =
+    let took = taken (c .before) in
+    let ledger = took .before .before .before in
+    let a = entry ledger .args in
+    (omega arith, narrow-taken (now (a .numbers)) (now (a .used)) (a .line) (now (a .journal)) (now (a .buffer)) _ (took .take .ensures .result) (ledger .ledger-of .ensures .1))
+
+returns-2 : tie.Need-returns-2
+returns-2 c =
+    let put = c .before in
+    let took = taken (put .before .before) in
+    let ledger = took .before .before .before in
+    let a = entry ledger .args in
+    taken-there (now (a .numbers)) (now (a .used)) (a .line) (now (a .journal)) (now (a .buffer)) (omega arith) (ledger .ledger-of .ensures .0) (took .take .ensures) (c .told-taking .ensures) (put .put-used .ensures)
+
+pub take-spec : {M : Type 1} → statement M
+take-spec =
+    tie.close
+    (tie.spec
+    (λ c κs. search needs)
+    returns
+    (λ c κs. search needs)
+    (λ c κs. search needs)
+    put-used-requires
+    (λ c κs. search needs)
+    (λ c. search needs)
+    (λ c. search needs)
+    returns-2)

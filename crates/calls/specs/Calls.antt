@@ -1,0 +1,83 @@
+-- What a host's calls leave: an event and a taking over plain numbers.
+-- Assumes nothing.
+use Prim.Native.Nat.{ℕ, _+_}
+use mathlib.Core.Path.{_≡_}
+use mathlib.Core.List.{List}
+use lib.ListN.{replicate}
+use lib.Dec.{ltb}
+use Rattle.memory.specs.Sizes.{lines}
+use Rattle.memory.specs.Tests.{unless}
+use Rattle.room.specs.Room.{todaysShares}
+use Rattle.journal.specs.Removal.{AfterTaking, takeOf}
+use Rattle.line.specs.declared.Line.{Line}
+use Rattle.line.specs.declared.Answer.{Answer}
+use Rattle.line.specs.declared.Answer.the-variants.{NoLine, WrongSize, BeyondLimits}
+use Rattle.looking.specs.Lent.{rightSizes}
+use Rattle.receiving.specs.Steps.{Memory, memoryOf, AfterStep, stepOf}
+use Rattle.receiving.specs.Alone.{decideOf}
+use Rattle.looking.specs.declared.Event.{Event}
+use Rattle.calls.specs.Plain.{withinNumbers, lineOf, withLine, ledgerOf, withSerial, withUsed, told, toldTaking, freshNumbers}
+use Rattle.calls.specs.declared.Answered.{Answered}
+
+-- the answer, the numbers and the lent memory after an event
+pub record AfterCall : Type 0 where
+  pub answered : Answered
+  pub numbers : List ℕ
+  pub used : List ℕ
+  pub memory : Memory
+
+-- nothing changed
+abbrev pub refused : Answer → List ℕ → List ℕ → Memory → AfterCall
+refused a ns us m = record { answered = told a; numbers = ns; used = us; memory = m }
+
+-- the step's outcome put back into the numbers
+abbrev pub putBack : List ℕ → List ℕ → ℕ → AfterStep → AfterCall
+putBack ns us i s = record {
+  answered = told (s .stepped .answer);
+  numbers = withSerial (withLine ns i (s .stepped .line)) i (s .stepped .ledger);
+  used = withUsed us i (s .stepped .ledger);
+  memory = s .memory;
+}
+
+-- an event: 40, 41, 42, or the gateway's step of its line
+unfoldable pub callOf : List ℕ → List ℕ → Event → Memory → AfterCall
+callOf ns us e m =
+    unless (ltb (e .line) lines) (refused NoLine ns us m)
+    (unless (rightSizes (m .journal) (m .unfinished) (m .frames)) (refused WrongSize ns us m)
+    (unless (withinNumbers ns (e .line)) (refused BeyondLimits ns us m)
+    (putBack ns us (e .line) (stepOf todaysShares (lineOf ns (e .line)) (ledgerOf ns us) e m))))
+
+-- what an event says
+pub record Called (s : AfterCall) (r : Answered) (ns us j u f : List ℕ) : Type 0 where
+  pub result : r ≡ s .answered
+  pub numbers : ns ≡ s .numbers
+  pub used : us ≡ s .used
+  pub journal : j ≡ s .memory .journal
+  pub unfinished : u ≡ s .memory .unfinished
+  pub frames : f ≡ s .memory .frames
+
+abbrev pub Calling : List ℕ → List ℕ → Event → List ℕ → List ℕ → List ℕ → Answered → List ℕ → List ℕ → List ℕ → List ℕ → List ℕ → Type 0
+Calling ns us e j u f r ns′ us′ j′ u′ f′ = Called (callOf ns us e (memoryOf j u f)) r ns′ us′ j′ u′ f′
+
+-- the step alone, past 40 to 42
+abbrev pub Stepping : List ℕ → List ℕ → Event → List ℕ → List ℕ → List ℕ → Answered → List ℕ → List ℕ → List ℕ → List ℕ → List ℕ → Type 0
+Stepping ns us e j u f r ns′ us′ j′ u′ f′ = Called (putBack ns us (e .line) (stepOf todaysShares (lineOf ns (e .line)) (ledgerOf ns us) e (memoryOf j u f))) r ns′ us′ j′ u′ f′
+
+-- the deciding of a message that n bytes of its frame complete
+abbrev pub Deciding : List ℕ → List ℕ → Line → Event → ℕ → List ℕ → List ℕ → List ℕ → Answered → List ℕ → List ℕ → List ℕ → List ℕ → List ℕ → Type 0
+Deciding ns us l e n j u f r ns′ us′ j′ u′ f′ = Called (putBack ns us (e .line) (decideOf todaysShares l (ledgerOf ns us) e n (memoryOf j u f))) r ns′ us′ j′ u′ f′
+
+-- a taking: the journal's, of the ledger that the numbers tell; on no line (40) nothing is written
+abbrev pub usedAfter : List ℕ → ℕ → AfterTaking → List ℕ
+usedAfter us i t = unless (ltb i lines) us (withUsed us i (t .taking .ledger))
+
+pub record Taken (ns us : List ℕ) (i : ℕ) (j b : List ℕ) (r : Answered) (us′ j′ b′ : List ℕ) : Type 0 where
+  pub result : r ≡ toldTaking (takeOf (ledgerOf ns us) i j b .taking .answer)
+  pub used : us′ ≡ usedAfter us i (takeOf (ledgerOf ns us) i j b)
+  pub journal : j′ ≡ takeOf (ledgerOf ns us) i j b .journal
+  pub buffer : b′ ≡ takeOf (ledgerOf ns us) i j b .buffer
+
+-- every line fresh, the journal empty
+pub record Fresh (ns us : List ℕ) : Type 0 where
+  pub numbers : ns ≡ freshNumbers lines
+  pub used : us ≡ replicate (lines + 1) 0

@@ -1,0 +1,338 @@
+// Records, ledger and answers in plain numbers.
+ghost use Prim.Native.Nat.{_+_, _<_, _≤_, _^_};
+ghost use mathlib.Core.Path.{_≡_};
+ghost use mathlib.Core.Bool.{true};
+ghost use lib.ListN.{length, set};
+ghost use Rattle.memory.specs.Sizes.{lines, framesSize};
+ghost use Rattle.line.specs.Line.{mostCollected};
+ghost use Rattle.looking.specs.Views.{frameStart};
+ghost use Rattle.calls.specs.Plain.{numberAt, oneMore, quick, begins, insideAt, stateOf, stateNumber, lastOf, lastNumber, flag, withinNumbers, onlyCollects, lineOf, withLine, usedFrom, serialsFrom, ledgerOf, withSerial, withUsed, replyByte, told as Plain·told, toldTaking};
+use super::Answered;
+use characters::LF;
+use characters::STX;
+use journal::Ledger;
+use journal::Took;
+use line::Answer;
+use line::Last;
+use line::Line;
+use line::Reply;
+use line::State;
+use looking::Kind;
+
+// A line's numbers are so many; the first is its state, and the others stand so far behind it.
+pub const FIELDS: usize = 8;
+
+const COLLECTED: usize = 1;
+
+const JOINED: usize = 2;
+
+const SECONDS: usize = 3;
+
+pub const NEXT: usize = 4;
+
+const LAST: usize = 5;
+
+const REFUSING: usize = 6;
+
+const SERIAL: usize = 7;
+
+// How many numbers all lines have; and how many counts: each line's used count, then the bytes in use.
+pub const NUMBERS: usize = memory::LINES * FIELDS;
+
+pub const COUNTS: usize = memory::LINES + 1;
+
+// An entry taken, the only answer with values.
+const TAKEN: u8 = 8;
+
+// The states of a line between frames and inside one: no state has a higher number.
+const WAITING: u16 = 1;
+
+const INSIDE: u16 = 2;
+
+// Whether a line's numbers are those of a record within its limits.
+pub fn is_within(numbers: &[u16; NUMBERS], i: usize) -> bool
+    requires { ⌜ i < lines ⌝ }
+    ensures { λ r. ⌜ r ≡ withinNumbers (now (numbers .entry)) i ⌝ }
+{
+    let at = i * FIELDS;
+    if INSIDE < numbers[at] {
+        return false;
+    }
+    if Line::MOST_COLLECTED < numbers[at + COLLECTED] {
+        return false;
+    }
+    if Line::MOST_JOINED < numbers[at + JOINED] {
+        return false;
+    }
+    if (Line::MOST_SECONDS as u16) < numbers[at + SECONDS] {
+        return false;
+    }
+    if (Line::MOST_NUMBER as u16) < numbers[at + NEXT] {
+        return false;
+    }
+    if (Line::MOST_NUMBER as u16) + 1 < numbers[at + LAST] {
+        return false;
+    }
+    numbers[at + REFUSING] <= 1
+}
+
+// Whether a byte is only collected and its line's numbers are within their limits: in this order none is compared twice.
+pub fn is_quick(numbers: &[u16; NUMBERS], i: usize, byte: u8) -> bool
+    requires { ⌜ i < lines ⌝ }
+    ensures { λ r. ⌜ r ≡ quick (now (numbers .entry)) i byte ⌝ }
+{
+    if !collects(numbers, i, byte) {
+        return false;
+    }
+    is_within(numbers, i)
+}
+
+// The byte behind those collected, and one more collected.
+pub fn collect(i: usize, byte: u8, numbers: &mut [u16; NUMBERS], frames: &mut [u8])
+    requires { ⌜ (i < lines) × (numberAt (now numbers) i 1 ≤ mostCollected (lineOf (now numbers) i)) × (length (now frames) ≡ framesSize) ⌝ }
+    ensures { λ _. ⌜ (now (numbers .exit) ≡ oneMore (now (numbers .entry)) i) × (now (frames .exit) ≡ set (now (frames .entry)) (frameStart i + numberAt (now (numbers .entry)) i 1) byte) ⌝ }
+{
+    let at = i * FIELDS + COLLECTED;
+    let collected = numbers[at];
+    let place = i * memory::FRAME_PART + collected as usize;
+    frames[place] = byte;
+    numbers[at] = collected + 1;
+}
+
+// Whether an event is STX between frames: it only begins one.
+pub fn is_begin(numbers: &[u16; NUMBERS], i: usize, kind: Kind) -> bool
+    requires { ⌜ i < lines ⌝ }
+    ensures { λ r. ⌜ r ≡ begins (now (numbers .entry)) i kind ⌝ }
+{
+    let at = i * FIELDS;
+    match kind {
+        Kind::Byte(b) => {
+            if b != STX {
+                return false;
+            }
+            numbers[at] == WAITING
+        }
+        Kind::Seconds(_) => false,
+    }
+}
+
+// The line is inside a frame, and nothing else changes.
+pub fn begin(i: usize, numbers: &mut [u16; NUMBERS])
+    requires { ⌜ i < lines ⌝ }
+    ensures { λ _. ⌜ now (numbers .exit) ≡ insideAt (now (numbers .entry)) i ⌝ }
+{
+    let at = i * FIELDS;
+    numbers[at] = INSIDE;
+}
+
+// Whether a byte is only collected: inside a frame that it does not end.
+fn collects(numbers: &[u16; NUMBERS], i: usize, byte: u8) -> bool
+    requires { ⌜ i < lines ⌝ }
+    ensures { λ r. ⌜ r ≡ onlyCollects (now (numbers .entry)) i byte ⌝ }
+{
+    let at = i * FIELDS;
+    if numbers[at] != INSIDE {
+        return false;
+    }
+    if byte == LF {
+        return false;
+    }
+    numbers[at + COLLECTED] != Line::MOST_COLLECTED
+}
+
+// The record that a line's numbers tell.
+pub fn record_of(numbers: &[u16; NUMBERS], i: usize) -> Line
+    requires { ⌜ (i < lines) × (withinNumbers (now numbers) i ≡ true) ⌝ }
+    ensures { λ r. ⌜ r ≡ lineOf (now (numbers .entry)) i ⌝ }
+{
+    let at = i * FIELDS;
+    let state = state_of(numbers[at]);
+    let last = last_of(numbers[at + LAST]);
+    Line {
+        state,
+        collected: numbers[at + COLLECTED],
+        joined: numbers[at + JOINED],
+        seconds: numbers[at + SECONDS] as u8,
+        next: numbers[at + NEXT] as u8,
+        last,
+        refusing: numbers[at + REFUSING] == 1,
+    }
+}
+
+// 0 neutral, 1 waiting, 2 inside.
+fn state_of(n: u16) -> State
+    ensures { λ r. ⌜ r ≡ stateOf n ⌝ }
+{
+    if n == 0 {
+        return State::Neutral;
+    }
+    if n == WAITING {
+        return State::Waiting;
+    }
+    State::Inside
+}
+
+// 0 for none, else one more than the number.
+fn last_of(n: u16) -> Last
+    requires { ⌜ n ≤ 256 ⌝ }
+    ensures { λ r. ⌜ r ≡ lastOf n ⌝ }
+{
+    if n == 0 {
+        return Last::NoneYet;
+    }
+    Last::Number((n - 1) as u8)
+}
+
+// Puts a record in the place of a line's first seven numbers.
+pub fn put_record(numbers: &mut [u16; NUMBERS], i: usize, line: Line)
+    requires { ⌜ i < lines ⌝ }
+    ensures { λ _. ⌜ now (numbers .exit) ≡ withLine (now (numbers .entry)) i line ⌝ }
+{
+    let at = i * FIELDS;
+    let state = line.state;
+    let last = line.last;
+    numbers[at] = state_number(state);
+    numbers[at + COLLECTED] = line.collected;
+    numbers[at + JOINED] = line.joined;
+    numbers[at + SECONDS] = line.seconds as u16;
+    numbers[at + NEXT] = line.next as u16;
+    numbers[at + LAST] = last_number(last);
+    numbers[at + REFUSING] = flag_number(line.refusing);
+}
+
+fn state_number(state: State) -> u16
+    ensures { λ r. ⌜ r ≡ stateNumber state ⌝ }
+{
+    match state {
+        State::Neutral => 0,
+        State::Waiting => WAITING,
+        State::Inside => INSIDE,
+    }
+}
+
+fn last_number(last: Last) -> u16
+    ensures { λ r. ⌜ r ≡ lastNumber last ⌝ }
+{
+    match last {
+        Last::NoneYet => 0,
+        Last::Number(n) => n as u16 + 1,
+    }
+}
+
+fn flag_number(b: bool) -> u16
+    ensures { λ r. ⌜ r ≡ flag b ⌝ }
+{
+    if b {
+        return 1;
+    }
+    0
+}
+
+// A cast of its own tells the caller that the number is below 2 to the 32.
+fn wide(n: u32) -> usize
+    ensures { λ r. ⌜ (r ≡ n) × (r < 2 ^ 32) ⌝ }
+{
+    n as usize
+}
+
+// The ledger that the numbers tell.
+pub fn ledger_of(numbers: &[u16; NUMBERS], used: &[u32; COUNTS]) -> Ledger
+    ensures { λ r. ⌜ (r ≡ ledgerOf (now (numbers .entry)) (now (used .entry))) × (r .in_use < 2 ^ 32) ⌝ }
+{
+    Ledger {
+        in_use: wide(used[memory::LINES]),
+        used: used_of(used),
+        serials: serials_of(numbers),
+    }
+}
+
+fn used_of(used: &[u32; COUNTS]) -> [u32; memory::LINES]
+    ensures { λ r. ⌜ r ≡ usedFrom (now (used .entry)) 0 lines ⌝ }
+{
+    [
+        used[0],
+        used[1],
+        used[2],
+        used[3],
+        used[4],
+        used[5],
+        used[6],
+        used[7],
+    ]
+}
+
+fn serials_of(numbers: &[u16; NUMBERS]) -> [u16; memory::LINES]
+    ensures { λ r. ⌜ r ≡ serialsFrom (now (numbers .entry)) 0 lines ⌝ }
+{
+    [
+        numbers[0 * FIELDS + SERIAL],
+        numbers[1 * FIELDS + SERIAL],
+        numbers[2 * FIELDS + SERIAL],
+        numbers[3 * FIELDS + SERIAL],
+        numbers[4 * FIELDS + SERIAL],
+        numbers[5 * FIELDS + SERIAL],
+        numbers[6 * FIELDS + SERIAL],
+        numbers[7 * FIELDS + SERIAL],
+    ]
+}
+
+// Puts back what a ledger has of a line: its serial, and its used count with the bytes in use.
+pub fn put_serial(numbers: &mut [u16; NUMBERS], i: usize, ledger: Ledger)
+    requires { ⌜ i < lines ⌝ }
+    ensures { λ _. ⌜ now (numbers .exit) ≡ withSerial (now (numbers .entry)) i ledger ⌝ }
+{
+    let at = i * FIELDS + SERIAL;
+    numbers[at] = ledger.serials[i];
+}
+
+pub fn put_used(used: &mut [u32; COUNTS], i: usize, ledger: Ledger)
+    requires { ⌜ (i < lines) × (ledger .in_use < 2 ^ 32) ⌝ }
+    ensures { λ _. ⌜ now (used .exit) ≡ withUsed (now (used .entry)) i ledger ⌝ }
+{
+    used[i] = ledger.used[i];
+    used[memory::LINES] = ledger.in_use as u32;
+}
+
+fn reply_byte(reply: Reply) -> u8
+    ensures { λ r. ⌜ r ≡ replyByte reply ⌝ }
+{
+    match reply {
+        Reply::Silence => 0,
+        Reply::Byte(b) => b,
+    }
+}
+
+// The answer to an event.
+pub fn told(answer: Answer) -> Answered
+    ensures { λ r. ⌜ r ≡ Plain·told answer ⌝ }
+{
+    Answered {
+        number: answer.number(),
+        reply: reply_byte(answer.reply()),
+        serial: 0,
+        place: 0,
+        digits: 0,
+        length: 0,
+    }
+}
+
+// The answer to a taking; only 8 has values.
+pub fn told_taking(took: Took) -> Answered
+    ensures { λ r. ⌜ r ≡ toldTaking took ⌝ }
+{
+    match took {
+        Took::Taken(length, serial) => Answered {
+            number: TAKEN,
+            reply: 0,
+            serial,
+            place: 0,
+            digits: 0,
+            length,
+        },
+        Took::NothingWaiting => told(gateway::answer_to(took)),
+        Took::BufferShort => told(gateway::answer_to(took)),
+        Took::Broken => told(gateway::answer_to(took)),
+        Took::NoLine => told(gateway::answer_to(took)),
+        Took::WrongSize => told(gateway::answer_to(took)),
+    }
+}

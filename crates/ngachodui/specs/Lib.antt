@@ -1,4 +1,0 @@
-pub mod Plain
-pub mod Layout
-pub mod Calls
-pub mod Texts

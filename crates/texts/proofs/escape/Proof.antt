@@ -1,0 +1,14 @@
+-- `texts::escape` meets its contract.
+-- Assumes nothing.
+use borrow.Author.Needs.{needs}
+use Rattle.texts.proofs.Ways.{by-escaping}
+use Rattle.texts.proofs.escape.Statement.{statement}
+use Rattle.texts.proofs.escape.Tie as tie
+
+returns : tie.Need-returns
+returns c = by-escaping (c .before .before .before .before .before .standard .ensures) (c .before .before .before .escape .ensures) (c .made-by-putting .ensures)
+
+pub escape-spec : {M : Type 1} → statement M
+escape-spec =
+    tie.close
+    (tie.spec (λ c κs. search needs) (λ c κs. search needs) (λ c κs. search needs) (λ c. search needs) returns)

@@ -1,0 +1,11 @@
+-- `texts::refused_with` meets its contract.
+-- Assumes nothing.
+use borrow.Author.Needs.{needs}
+use Rattle.texts.proofs.refused_with.Statement.{statement}
+use Rattle.texts.proofs.refused_with.Tie as tie
+
+returns : tie.Need-returns
+returns c = rw (c .number .ensures)
+
+pub refused-with-spec : {M : Type 1} → statement M
+refused-with-spec = tie.close (tie.spec (λ c κs. search needs) returns)

@@ -1,0 +1,74 @@
+-- Texts that a host cuts, reads, escapes and unescapes: what became of one, in plain numbers. The delimiters are the standard ones.
+-- Assumes nothing.
+use Prim.Native.Nat.{ℕ}
+use mathlib.Core.Path.{_≡_}
+use mathlib.Core.List.{List}
+use lib.ListN.{length}
+use Rattle.memory.specs.Sizes.{frameLimit}
+use Rattle.memory.specs.Moves.{copied}
+use Rattle.kinds.specs.Delimiters.{standard}
+use Rattle.records.specs.Records.{records}
+use Rattle.component.specs.Escape.{escaped, escapeAnswer}
+use Rattle.component.specs.Unescape.{unescapeAnswer, unescapedOver}
+use Rattle.component.specs.declared.Put.{Put}
+use Rattle.component.specs.declared.Put.the-variants as put
+use Rattle.owner.specs.Owners.{typesOf, ownersOf}
+use Rattle.owner.specs.Reading.{offsetsOf, lengthsOf, readingOf, laid}
+use Rattle.owner.specs.declared.Reading.{Reading}
+use Rattle.owner.specs.declared.Reading.the-variants as reading
+use Rattle.cutting.specs.Frames.{cutAnswer, cutIn}
+use Rattle.cutting.specs.declared.Framed.{Framed}
+use Rattle.cutting.specs.declared.Framed.the-variants as framed
+use Rattle.line.specs.Paper.{numberOf}
+use Rattle.line.specs.declared.Answer.{Answer}
+use Rattle.line.specs.declared.Answer.the-variants.{Malformed, NotFitting}
+use Rattle.texts.specs.declared.Made.{Made}
+
+-- done, and so much written; document 01 has no number for it
+abbrev pub done : ℕ → Made
+done n = record { number = 0; spare = 0; place = 0; value = 0; length = n }
+
+-- refused with this answer's number, and nothing written
+abbrev pub refusedWith : Answer → Made
+refusedWith a = record { number = numberOf a; spare = 0; place = 0; value = 0; length = 0 }
+
+unfoldable pub madeByCutting : Framed → Made
+madeByCutting (framed.Length n) = done n
+madeByCutting framed.Malformed = refusedWith Malformed
+madeByCutting framed.NotFitting = refusedWith NotFitting
+
+unfoldable pub madeByPutting : Put → Made
+madeByPutting (put.Done n) = done n
+madeByPutting put.Malformed = refusedWith Malformed
+madeByPutting put.NotFitting = refusedWith NotFitting
+
+unfoldable pub madeByReading : Reading → Made
+madeByReading (reading.Read n) = done n
+madeByReading reading.Malformed = refusedWith Malformed
+madeByReading reading.NotFitting = refusedWith NotFitting
+
+-- a message cut into frames of today's limit
+pub record CutFrames (text out : List ℕ) (r : Made) (out′ : List ℕ) : Type 0 where
+  pub result : r ≡ madeByCutting (cutAnswer frameLimit text out)
+  pub after : out′ ≡ cutIn frameLimit text out
+
+-- a text with its delimiters escaped
+pub record Escaped (text out : List ℕ) (r : Made) (out′ : List ℕ) : Type 0 where
+  pub result : r ≡ madeByPutting (escapeAnswer standard text out)
+  pub after : out′ ≡ copied out 0 (escaped standard text)
+
+-- a component with its escapes taken out
+pub record Unescaped (c out : List ℕ) (r : Made) (out′ : List ℕ) : Type 0 where
+  pub result : r ≡ madeByPutting (unescapeAnswer standard c out)
+  pub after : out′ ≡ unescapedOver standard c out
+
+-- a message read: types, offsets, lengths and owners of its records
+abbrev pub readingInto : List ℕ → List ℕ → List ℕ → List ℕ → List ℕ → Reading
+readingInto text ts os ls ws = readingOf standard text (length ts) (length os) (length ls) (length ws)
+
+pub record RecordsRead (text ts os ls ws : List ℕ) (r : Made) (ts′ os′ ls′ ws′ : List ℕ) : Type 0 where
+  pub result : r ≡ madeByReading (readingInto text ts os ls ws)
+  pub types : ts′ ≡ laid (readingInto text ts os ls ws) ts (typesOf (records text))
+  pub offsets : os′ ≡ laid (readingInto text ts os ls ws) os (offsetsOf 0 (records text))
+  pub lengths : ls′ ≡ laid (readingInto text ts os ls ws) ls (lengthsOf (records text))
+  pub owners : ws′ ≡ laid (readingInto text ts os ls ws) ws (ownersOf (records text))

@@ -1,0 +1,119 @@
+// Texts over plain memory: cut, read, escaped and unescaped, with the standard delimiters and today's frame limit.
+ghost use mathlib.Core.Path.{_≡_};
+ghost use Rattle.texts.specs.Texts.{done, refusedWith, madeByCutting, madeByPutting, madeByReading, CutFrames, Escaped, Unescaped, RecordsRead};
+use component::Put;
+use cutting::Framed;
+use kinds::Delimiters;
+use line::Answer;
+use owner::Reading;
+
+// What became of a text: 0 and how much was written (bytes, or records that were read), or 46 or 47 and 0.
+// The other fields are 0 in this version: as in an answer, no byte is left unnamed.
+#[repr(C)]
+pub struct Made {
+    pub number: u8,
+    pub spare: u8,
+    pub place: u16,
+    pub value: u32,
+    pub length: usize,
+}
+
+// Cuts a message into frames.
+pub fn cut(text: &[u8], out: &mut [u8]) -> Made
+    ensures { λ r. ⌜ CutFrames (now (text .entry)) (now (out .entry)) r (now (out .exit)) ⌝ }
+{
+    let framed = cutting::cut(memory::FRAME_LIMIT, text, out);
+    made_by_cutting(framed)
+}
+
+// Escapes the delimiters of a text.
+pub fn escape(text: &[u8], out: &mut [u8]) -> Made
+    ensures { λ r. ⌜ Escaped (now (text .entry)) (now (out .entry)) r (now (out .exit)) ⌝ }
+{
+    let put = component::escape(Delimiters::standard(), text, out);
+    made_by_putting(put)
+}
+
+// Takes the escapes out of a component.
+pub fn unescape(component: &[u8], out: &mut [u8]) -> Made
+    ensures { λ r. ⌜ Unescaped (now (component .entry)) (now (out .entry)) r (now (out .exit)) ⌝ }
+{
+    let put = component::unescape(Delimiters::standard(), component, out);
+    made_by_putting(put)
+}
+
+// Reads a message: each record's type (its letter), offset, length without CR, and owner (its number from 1, or 0).
+pub fn read(
+    text: &[u8],
+    types: &mut [u8],
+    offsets: &mut [u16],
+    lengths: &mut [u16],
+    owners: &mut [u16],
+) -> Made
+    ensures { λ r. ⌜ RecordsRead (now (text .entry)) (now (types .entry)) (now (offsets .entry)) (now (lengths .entry)) (now (owners .entry))
+        r (now (types .exit)) (now (offsets .exit)) (now (lengths .exit)) (now (owners .exit)) ⌝ }
+{
+    let reading = owner::read(
+        Delimiters::standard(),
+        text,
+        types,
+        offsets,
+        lengths,
+        owners,
+    );
+    made_by_reading(reading)
+}
+
+fn made_by_cutting(framed: Framed) -> Made
+    ensures { λ r. ⌜ r ≡ madeByCutting framed ⌝ }
+{
+    match framed {
+        Framed::Length(n) => done(n),
+        Framed::Malformed => refused_with(Answer::Malformed),
+        Framed::NotFitting => refused_with(Answer::NotFitting),
+    }
+}
+
+fn made_by_putting(put: Put) -> Made
+    ensures { λ r. ⌜ r ≡ madeByPutting put ⌝ }
+{
+    match put {
+        Put::Done(n) => done(n),
+        Put::Malformed => refused_with(Answer::Malformed),
+        Put::NotFitting => refused_with(Answer::NotFitting),
+    }
+}
+
+fn made_by_reading(reading: Reading) -> Made
+    ensures { λ r. ⌜ r ≡ madeByReading reading ⌝ }
+{
+    match reading {
+        Reading::Read(n) => done(n),
+        Reading::Malformed => refused_with(Answer::Malformed),
+        Reading::NotFitting => refused_with(Answer::NotFitting),
+    }
+}
+
+fn done(n: usize) -> Made
+    ensures { λ r. ⌜ r ≡ done n ⌝ }
+{
+    Made {
+        number: 0,
+        spare: 0,
+        place: 0,
+        value: 0,
+        length: n,
+    }
+}
+
+fn refused_with(answer: Answer) -> Made
+    ensures { λ r. ⌜ r ≡ refusedWith answer ⌝ }
+{
+    Made {
+        number: answer.number(),
+        spare: 0,
+        place: 0,
+        value: 0,
+        length: 0,
+    }
+}
