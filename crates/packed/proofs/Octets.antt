@@ -13,12 +13,12 @@ use lib.Seq.{drop-cons}
 use lib.Pow.{pow-pos, pow-mono, pow-add, shr-shr}
 use lib.Dec.{leb, ltb}
 use borrow.Author.Tests.{le-leb, lt-leb, lt-ltb, le-ltb, leb-true}
 use Rattle.memory.specs.Parts.{part, splice}
-use Rattle.memory.specs.Fields.{width, pack, unpack, octets, longestField, isField, fieldAt, holds, withField, FieldWritten}
-use Rattle.memory.specs.declared.Field.the-variants.{Value, Outside}
+use Rattle.packed.specs.Fields.{width, pack, unpack, octets, longestField, isField, fieldAt, holds, withField, FieldWritten}
+use Rattle.packed.specs.declared.Field.the-variants.{Value, Outside}
 use Rattle.memory.proofs.Parts.{part-add, part-splice, length-part, set-splice, splice-join-front, length-splice}
 use Rattle.memory.proofs.Tests.{and-right}
-use Rattle.memory.proofs.Packed.{pack-append, length-unpack, pack-unpack}
+use Rattle.packed.proofs.Packing.{pack-append, length-unpack, pack-unpack}
 
 pub width-octets : (n : ℕ) → width (octets n) ≡ n * 8
 width-octets zero = refl

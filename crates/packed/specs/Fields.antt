@@ -6,9 +6,9 @@ use mathlib.Core.Bool.{Bool, cond, _&&_}
 use mathlib.Core.List.{List, [], _∷_}
 use lib.ListN.{length, replicate}
 use lib.Dec.{leb, ltb}
-use Rattle.memory.specs.declared.Field.{Field}
-use Rattle.memory.specs.declared.Field.the-variants.{Value, Outside}
+use Rattle.packed.specs.declared.Field.{Field}
+use Rattle.packed.specs.declared.Field.the-variants.{Value, Outside}
 use Rattle.memory.specs.Parts.{part, splice}
 
 -- the bits of all fields together
 abbrev pub width : List ℕ → ℕ

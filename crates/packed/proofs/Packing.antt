@@ -8,7 +8,7 @@ use native.Mathlib.Omega.{arith}
 use lib.Arith.{digits-lt}
 use lib.Pow.{pow-add, pow-pos, high, low, mod-pow-add}
 use lib.ListN.{length}
-use Rattle.memory.specs.Fields.{width, pack, unpack}
+use Rattle.packed.specs.Fields.{width, pack, unpack}
 
 -- as many numbers as widths, each within its width
 abbrev pub Within : List ℕ → List ℕ → Type 0

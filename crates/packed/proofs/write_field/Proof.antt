@@ -1,4 +1,4 @@
--- `memory::write_field` meets its contract. The loop's invariant: the bytes from i on are written, and rest is what they leave of n.
+-- `packed::write_field` meets its contract. The loop's invariant: the bytes from i on are written, and rest is what they leave of n.
 -- Assumes nothing.
 use mathlib.Core.Path.{_≡_, refl, sym, _∙_}
 use mathlib.Core.List.{List}
@@ -8,12 +8,12 @@ use native.Mathlib.Omega.{arith}
 use borrow.Author.Tests.{leb-true, leb-false}
 use lib.ListN.{length, length-set}
 use denote.Ref.{now}
 use Rattle.memory.specs.Parts.{splice}
-use Rattle.memory.specs.Fields.{width, octets, unpack, longestField}
+use Rattle.packed.specs.Fields.{width, octets, unpack, longestField}
 use Rattle.memory.proofs.Parts.{splice-nil}
-use Rattle.memory.proofs.Octets.{write-more, rest-more, written-outside, written-large, written-yes}
-use Rattle.memory.proofs.write_field.Statement.{statement}
-use Rattle.memory.proofs.write_field.Tie as tie
+use Rattle.packed.proofs.Octets.{write-more, rest-more, written-outside, written-large, written-yes}
+use Rattle.packed.proofs.write_field.Statement.{statement}
+use Rattle.packed.proofs.write_field.Tie as tie
 
 record Written (area₀ : List ℕ) (at size n : ℕ) (area : List ℕ) (rest i : ℕ) : Type 0 where
   short : size ≤ longestField

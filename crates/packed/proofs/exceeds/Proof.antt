@@ -1,13 +1,13 @@
--- `memory::exceeds` meets its contract. The loop's invariant: i bytes are taken off n.
+-- `packed::exceeds` meets its contract. The loop's invariant: i bytes are taken off n.
 -- Assumes nothing.
 use mathlib.Core.Path.{_≡_, sym}
 use Prim.Native.Nat.{_-_, _/_, _^_, _≤_}
 use native.Mathlib.Nat.{div-one}
 use native.Mathlib.Omega.{arith}
-use Rattle.memory.specs.Fields.{width, octets}
-use Rattle.memory.proofs.Octets.{rest-more, something-left}
-use Rattle.memory.proofs.exceeds.Statement.{statement}
-use Rattle.memory.proofs.exceeds.Tie as tie
+use Rattle.packed.specs.Fields.{width, octets}
+use Rattle.packed.proofs.Octets.{rest-more, something-left}
+use Rattle.packed.proofs.exceeds.Statement.{statement}
+use Rattle.packed.proofs.exceeds.Tie as tie
 
 abbrev Inv-loop : tie.InvT-loop
 Inv-loop n size rest₀ i₀ rest i = (i ≤ size) × (rest ≡ n / 2 ^ width (octets i))

@@ -1,4 +1,4 @@
--- `memory::read_field` meets its contract. The loop's invariant: n is the number that the first i bytes of the field make.
+-- `packed::read_field` meets its contract. The loop's invariant: n is the number that the first i bytes of the field make.
 -- Assumes nothing.
 use mathlib.Core.Path.{_≡_, refl}
 use mathlib.Core.List.{List}
@@ -6,11 +6,11 @@ use Prim.Native.Nat.{ℕ, _+_, _-_, _^_, _≤_, _<_}
 use native.Mathlib.Omega.{arith}
 use lib.ListN.{length}
 use denote.Ref.{now}
 use Rattle.memory.specs.Parts.{part}
-use Rattle.memory.specs.Fields.{width, pack, octets, longestField, fieldAt}
-use Rattle.memory.proofs.Octets.{read-more, byte-more, room-for-byte, is-field, no-field}
-use Rattle.memory.proofs.read_field.Statement.{statement}
-use Rattle.memory.proofs.read_field.Tie as tie
+use Rattle.packed.specs.Fields.{width, pack, octets, longestField, fieldAt}
+use Rattle.packed.proofs.Octets.{read-more, byte-more, room-for-byte, is-field, no-field}
+use Rattle.packed.proofs.read_field.Statement.{statement}
+use Rattle.packed.proofs.read_field.Tie as tie
 
 record Read (area : List ℕ) (at size n i : ℕ) : Type 0 where
   short : size ≤ longestField
