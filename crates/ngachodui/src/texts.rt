@@ -2,8 +2,8 @@
 ghost use mathlib.Core.Path.{_≡_};
 ghost use Rattle.faults.specs.Faults.{isMessage};
 ghost use Rattle.ngachodui.specs.Texts.{done, refusedWith, madeByCutting, madeByPutting, madeByReading, CutFrames, Escaped, Unescaped, RecordsRead};
-use component::Put;
 use cutting::Framed;
+use escaping::Put;
 use kinds::Delimiters;
 use line::Answer;
 use owner::Reading;
@@ -33,7 +33,7 @@ pub extern "C" fn ngachodui_cut(text: &[u8], out: &mut [u8]) -> Made
 pub extern "C" fn ngachodui_escape(text: &[u8], out: &mut [u8]) -> Made
     ensures { λ r. ⌜ Escaped (now (text .entry)) (now (out .entry)) r (now (out .exit)) ⌝ }
 {
-    let put = component::escape(Delimiters::standard(), text, out);
+    let put = escaping::escape(Delimiters::standard(), text, out);
     made_by_putting(put)
 }
 
@@ -42,7 +42,7 @@ pub extern "C" fn ngachodui_escape(text: &[u8], out: &mut [u8]) -> Made
 pub extern "C" fn ngachodui_unescape(component: &[u8], out: &mut [u8]) -> Made
     ensures { λ r. ⌜ Unescaped (now (component .entry)) (now (out .entry)) r (now (out .exit)) ⌝ }
 {
-    let put = component::unescape(Delimiters::standard(), component, out);
+    let put = escaping::unescape(Delimiters::standard(), component, out);
     made_by_putting(put)
 }
 
