@@ -7,9 +7,6 @@ use Rattle.records.specs.Fields.{fieldOf}
 use Rattle.kinds.specs.declared.Delimiters.{Delimiters}
 use Rattle.component.specs.Component.{componentEnd}
 use Rattle.component.specs.ResultFields.{resultNumber}
-use Rattle.component.specs.Escape.{Escaping}
-use Rattle.component.specs.Unescape.{Unescaping}
-use Rattle.component.specs.declared.Put.{Put}
 use Rattle.component.specs.declared.ResultField.{ResultField}
 
 -- `component_end`
@@ -23,11 +20,3 @@ field-once d rec n a b = a ∙ sym b
 pub result-field-once : (d : Delimiters) (rec : List ℕ) (f : ResultField) {r q : List ℕ}
     → r ≡ fieldOf (d .field) (resultNumber f) rec → q ≡ fieldOf (d .field) (resultNumber f) rec → r ≡ q
 result-field-once d rec f a b = field-once d rec (resultNumber f) a b
-
--- `escape`
-pub escape-once : (d : Delimiters) (text out : List ℕ) {r q : Put} {x y : List ℕ} → Escaping d text out r x → Escaping d text out q y → (r ≡ q) × (x ≡ y)
-escape-once d text out a b = (a .answer ∙ sym (b .answer), a .after ∙ sym (b .after))
-
--- `unescape`
-pub unescape-once : (d : Delimiters) (c out : List ℕ) {r q : Put} {x y : List ℕ} → Unescaping d c out r x → Unescaping d c out q y → (r ≡ q) × (x ≡ y)
-unescape-once d c out a b = (a .answer ∙ sym (b .answer), a .after ∙ sym (b .after))

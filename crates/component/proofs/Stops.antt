@@ -9,7 +9,7 @@ use lib.Dec.{eqb}
 use lib.ListN.{length, getD, drop, drop-of-length-le}
 use lib.Seq.{drop-cons}
 use borrow.Author.Tests.{eq-eqb, ne-eqb}
-use Rattle.component.specs.Component.{isOneOf}
+use Rattle.memory.specs.Tests.{isOneOf}
 
 isOneOf-more : (ys : List ℕ) (x k : ℕ) → k < length ys → isOneOf (drop k ys) x ≡ eqb x (getD ys k 0) || isOneOf (drop (k + 1) ys) x
 isOneOf-more ys x k h = rw (add-one, drop-cons ys k 0)

@@ -2,17 +2,10 @@
 -- Assumes nothing.
 use Prim.Native.Nat.{ℕ, _+_}
 use mathlib.Core.List.{List, [], _∷_}
-use mathlib.Core.Bool.{Bool, false, _||_}
-use lib.Dec.{eqb}
 use lib.ListN.{drop}
-use Rattle.memory.specs.Tests.{find}
+use Rattle.memory.specs.Tests.{isOneOf, find}
 use Rattle.characters.specs.Control.{cr}
 use Rattle.kinds.specs.declared.Delimiters.{Delimiters}
-
--- b is one of these bytes
-abbrev pub isOneOf : List ℕ → ℕ → Bool
-isOneOf [] b = false
-isOneOf (x ∷ xs) b = eqb b x || isOneOf xs b
 
 -- a component ends at | \ ^ or CR; & goes on
 abbrev pub stopsOf : Delimiters → List ℕ

@@ -1,4 +1,2 @@
 pub mod Component
 pub mod ResultFields
-pub mod Escape
-pub mod Unescape

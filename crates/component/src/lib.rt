@@ -1,14 +1,9 @@
-// Fields and components of a record, and field text with escapes and without.
+// Fields and components of a record.
 ghost use mathlib.Core.Path.{_≡_};
 ghost use Rattle.records.specs.Fields.{fieldOf};
 ghost use Rattle.component.specs.Component.{componentEnd};
 ghost use Rattle.component.specs.ResultFields.{resultNumber};
-ghost use Rattle.component.specs.Escape.{Escaping};
-ghost use Rattle.component.specs.Unescape.{Unescaping};
 use kinds::Delimiters;
-
-mod escaping; // escaping.rt: delimiters into escapes
-mod unescaping; // unescaping.rt: escapes into delimiters
 
 // The fields of a result record (R): test, value, units, flag, status and completion time.
 pub enum ResultField {
@@ -18,19 +13,6 @@ pub enum ResultField {
     Flag,
     Status,
     Completion,
-}
-
-// What becomes of a text that is escaped or unescaped: it is put out, with this length; it has a wrong escape; the memory is too short.
-pub enum Put {
-    Done(usize),
-    Malformed,
-    NotFitting,
-}
-
-// The length of a component without its escapes, if they are right.
-enum Measured {
-    Of(usize),
-    Wrong,
 }
 
 // The end of the component that starts at `start`: the first | \ ^ or CR from there on, or the end of the text.
@@ -100,33 +82,5 @@ fn result_number(f: ResultField) -> usize
         ResultField::Flag => 7,
         ResultField::Status => 9,
         ResultField::Completion => 13,
-    }
-}
-
-// Escapes a text: | ^ \ & become &F& &S& &R& &E&.
-pub fn escape(d: Delimiters, text: &[u8], out: &mut [u8]) -> Put
-    ensures { λ r. ⌜ Escaping d (now (text .entry)) (now (out .entry)) r (now (out .exit)) ⌝ }
-{
-    if !escaping::fits(d, text, out.len()) {
-        return Put::NotFitting;
-    }
-    let n = escaping::write(d, text, out);
-    Put::Done(n)
-}
-
-// Takes the escapes out of a component.
-pub fn unescape(d: Delimiters, text: &[u8], out: &mut [u8]) -> Put
-    ensures { λ r. ⌜ Unescaping d (now (text .entry)) (now (out .entry)) r (now (out .exit)) ⌝ }
-{
-    let m = unescaping::measure(d, text);
-    match m {
-        Measured::Of(n) => {
-            if out.len() < n {
-                return Put::NotFitting;
-            }
-            unescaping::write(d, text, n, out);
-            Put::Done(n)
-        }
-        Measured::Wrong => Put::Malformed,
     }
 }

@@ -8,9 +8,9 @@ use native.Mathlib.Omega.{arith}
 use lib.ListN.{length, take, length-replicate}
 use Rattle.memory.specs.Sizes.{lines, messageLimit}
 use Rattle.memory.specs.Parts.{part}
-use Rattle.memory.specs.Fields.{width, pack, unpack, octets, longestField}
+use Rattle.packed.specs.Fields.{width, pack, unpack, octets, longestField}
 use Rattle.memory.proofs.Parts.{part-append-left}
-use Rattle.memory.proofs.Packed.{pack-below, unpack-pack, pack-unpack, length-unpack}
+use Rattle.packed.proofs.Packing.{pack-below, unpack-pack, pack-unpack, length-unpack}
 use Rattle.header.specs.Header.{headWidths, serialCount, leastHead, headSize, headNumber, header, fieldsOf, headOf}
 use Rattle.header.specs.Entry.{Bytes}
 

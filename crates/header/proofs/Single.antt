@@ -11,9 +11,9 @@ use lib.Seq.{length-take-le, take-add, take-length}
 use borrow.Author.Tests.{lt-leb}
 use Rattle.memory.specs.Sizes.{lines, messageLimit}
 use Rattle.memory.specs.Parts.{part, splice}
-use Rattle.memory.specs.Fields.{longestField, FieldWritten}
+use Rattle.packed.specs.Fields.{longestField, FieldWritten}
 use Rattle.memory.proofs.Parts.{length-part, part-append-left, part-append-right, part-start}
-use Rattle.memory.proofs.Octets.{written-fits}
+use Rattle.packed.proofs.Octets.{written-fits}
 use Rattle.header.specs.Header.{serialCount, leastHead, headSize, entrySize, headNumber, header, headOf}
 use Rattle.header.specs.Entry.{Entry, encode, size, starts, first, firstHead, Bytes}
 use Rattle.header.proofs.Heads.{head-size-low, head-size-high, head-number-below, head-header, head-append, length-header, line-below, serial-below, respelt}

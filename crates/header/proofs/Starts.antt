@@ -10,10 +10,10 @@ use lib.Dec.{leb, eqb}
 use borrow.Author.Tests.{leb-true, eqb-true, le-leb, lt-leb, eq-eqb}
 use Rattle.memory.specs.Sizes.{messageLimit}
 use Rattle.memory.specs.Parts.{part}
-use Rattle.memory.specs.Fields.{pack, unpack, octets, fieldAt}
-use Rattle.memory.specs.declared.Field.the-variants.{Value, Outside}
+use Rattle.packed.specs.Fields.{pack, unpack, octets, fieldAt}
+use Rattle.packed.specs.declared.Field.the-variants.{Value, Outside}
 use Rattle.memory.proofs.Tests.{and-left, and-right, is-false}
-use Rattle.memory.proofs.Octets.{field-value, field-outside}
+use Rattle.packed.proofs.Octets.{field-value, field-outside}
 use Rattle.header.specs.Header.{leastHead, entrySize, headWidths, fieldsOf, headOf}
 use Rattle.header.specs.Entry.{isText, isHead, starts, noHeader, wholeHead, firstHead}
 use Rattle.header.specs.declared.Header.{Header}

@@ -4,7 +4,7 @@ use Prim.Native.Nat.{ℕ, _+_}
 use mathlib.Core.List.{List, [], _∷_}
 use lib.ListN.{getD}
 use Rattle.memory.specs.Parts.{part}
-use Rattle.memory.specs.Fields.{pack, unpack, octets}
+use Rattle.packed.specs.Fields.{pack, unpack, octets}
 use Rattle.header.specs.declared.Header.{Header}
 
 -- the widths in bits of line, spare, text length and serial

@@ -2,7 +2,7 @@
 // Every function that another crate can call is total: it is given a text's length as a u32, so that no sum can overflow.
 ghost use mathlib.Core.Path.{_≡_};
 ghost use Prim.Native.Nat.{_+_, _≤_, _<_};
-ghost use Rattle.memory.specs.Fields.{unpack, longestField};
+ghost use Rattle.packed.specs.Fields.{unpack, longestField};
 ghost use Rattle.header.specs.Header.{headWidths, serialCount, headSize, entrySize, headNumber, fieldsOf};
 ghost use Rattle.header.specs.Entry.{wholeHead, firstHead};
 
@@ -86,9 +86,9 @@ fn whole(h: Header, room: usize) -> Header
 pub fn entry_at(s: &[u8]) -> Header
     ensures { λ r. ⌜ r ≡ firstHead (now (s .entry)) ⌝ }
 {
-    match memory::read_field(s, 0, LEAST_HEAD) {
-        memory::Field::Value(n) => whole(fields(n), s.len()),
-        memory::Field::Outside => Header {
+    match packed::read_field(s, 0, LEAST_HEAD) {
+        packed::Field::Value(n) => whole(fields(n), s.len()),
+        packed::Field::Outside => Header {
             line: 0,
             spare: 0,
             count: 0,

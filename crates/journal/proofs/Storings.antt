@@ -9,7 +9,7 @@ use lib.ListN.{length, getD, set}
 use Rattle.memory.specs.Sizes.{lines}
 use Rattle.memory.specs.Parts.{splice}
 use Rattle.memory.specs.Moves.{Copied}
-use Rattle.memory.specs.Fields.{FieldWritten}
+use Rattle.packed.specs.Fields.{FieldWritten}
 use Rattle.memory.proofs.Parts.{length-splice, splice-join}
 use Rattle.memory.proofs.Moves.{copied-fits}
 use Rattle.header.specs.Header.{serialCount, headSize, entrySize, headNumber, header}

@@ -17,7 +17,7 @@ pub fn append(ledger: crate::Ledger, line: usize, text: &[u8], journal: &mut [u8
     let mut serials = ledger.serials;
     let serial = serials[line];
     serials[line] = std::num::wrapping_add_u16(serial, 1);
-    memory::write_field(journal, at, head, header::number(line as u8, count, serial));
+    packed::write_field(journal, at, head, header::number(line as u8, count, serial));
     memory::copy_at(journal, at + head, text);
     crate::Ledger {
         in_use: at + size,

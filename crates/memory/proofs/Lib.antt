@@ -4,6 +4,4 @@ pub mod Table
 pub mod Parts
 pub mod Lines
 pub mod Moves
-pub mod Packed
-pub mod Octets
 pub mod OneOutcome

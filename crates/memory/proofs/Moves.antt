@@ -12,11 +12,17 @@ use lib.Seq.{take-suc, take-all, length-take-le}
 use borrow.Author.Tests.{le-leb, lt-leb}
 use Rattle.memory.specs.Parts.{part, splice}
 use Rattle.memory.specs.Moves.{copied, hasGap, later, closedUp, Copied, ClosedUp}
-use Rattle.memory.proofs.Parts.{length-part, part-start, part-part, part-add, part-behind, take-through, splice-from, splice-join, set-behind}
+use Rattle.memory.proofs.Parts.{length-part, part-start, part-lent, part-part, part-add, part-behind, take-through, splice-from, splice-join, set-behind}
 
 -- what was laid over the start of a buffer is there
 pub held : (b s : List ℕ) {b′ : List ℕ} → length s ≤ length b → b′ ≡ splice b 0 s → take (length s) b′ ≡ s
 held b s h e = rw e (rw zero-add at (take-through b 0 s (rw zero-add h)))
+
+-- the same of n bytes of d from `at` on, which were lent
+pub piece-held : (b d : List ℕ) (at n : ℕ) {b′ : List ℕ} → n ≤ length b → at + n ≤ length d → b′ ≡ splice b 0 (take (at + n - at) (drop at d)) → take n b′ ≡ part d at n
+piece-held b d at n h k e =
+    let long : length (part d at n) ≡ n = length-part d at n k in
+    rw long at (held b (part d at n) (rw long h) (e ∙ ap (splice b 0) (part-lent d at n)))
 
 -- one byte more of s is copied to `at`
 pub copy-more : (d : List ℕ) (at : ℕ) (s : List ℕ) (i : ℕ) → at + length s ≤ length d → i < length s

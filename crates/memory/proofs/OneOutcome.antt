@@ -5,9 +5,8 @@ use mathlib.Core.Bool.{Bool}
 use mathlib.Core.List.{List}
 use Prim.Native.Nat.{ℕ}
 use Rattle.memory.specs.Moves.{Copied, ClosedUp}
-use Rattle.memory.specs.Fields.{FieldWritten}
 
--- a contract that is one equation, as those of `read_field` and of most functions of the crates above
+-- a contract that is one equation, as those of most functions of the crates above
 pub one-value : {A : Type 0} (value : A) {r q : A} → r ≡ value → q ≡ value → r ≡ q
 one-value value a b = a ∙ sym b
 
@@ -18,7 +17,3 @@ copied-once d at s a b = (a .answer ∙ sym (b .answer), a .after ∙ sym (b .af
 -- `close_up`
 pub closed-up-once : (d : List ℕ) (at gap end : ℕ) {r q : Bool} {x y : List ℕ} → ClosedUp d at gap end r x → ClosedUp d at gap end q y → (r ≡ q) × (x ≡ y)
 closed-up-once d at gap end a b = (a .answer ∙ sym (b .answer), a .after ∙ sym (b .after))
-
--- `write_field`
-pub field-written-once : (d : List ℕ) (at size n : ℕ) {r q : Bool} {x y : List ℕ} → FieldWritten d at size n r x → FieldWritten d at size n q y → (r ≡ q) × (x ≡ y)
-field-written-once d at size n a b = (a .answer ∙ sym (b .answer), a .after ∙ sym (b .after))

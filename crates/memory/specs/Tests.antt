@@ -1,7 +1,7 @@
 -- Tests on bytes and on lists of bytes, and the choice of the first answer that applies.
 -- Assumes nothing.
 use Prim.Native.Nat.{ℕ, suc}
-use mathlib.Core.Bool.{Bool, cond, true, _&&_}
+use mathlib.Core.Bool.{Bool, cond, true, false, _&&_, _||_}
 use mathlib.Core.List.{List, [], _∷_}
 use lib.Dec.{leb, eqb}
 
@@ -16,6 +16,11 @@ between a e b = leb a b && leb b e
 -- b is the byte x
 abbrev pub is : ℕ → ℕ → Bool
 is x b = eqb b x
+
+-- b is one of these bytes
+abbrev pub isOneOf : List ℕ → ℕ → Bool
+isOneOf [] b = false
+isOneOf (x ∷ xs) b = eqb b x || isOneOf xs b
 
 -- every byte passes the test
 abbrev pub all : (ℕ → Bool) → List ℕ → Bool

@@ -31,15 +31,34 @@ fn lay(dst: &mut [u8], src: &[u8])
     }
 }
 
+// Lays src over the start of dst, by way of the buffer.
+fn carry_by(buffer: &mut [u8], dst: &mut [u8], src: &[u8])
+    requires { ⌜ (length (now src) ≤ length (now buffer)) × (length (now src) ≤ length (now dst)) ⌝ }
+    ensures { λ _. ⌜ now (dst .exit) ≡ splice (now (dst .entry)) 0 (now (src .entry)) ⌝ }
+{
+    let n = src.len();
+    lay(buffer, src);
+    lay(dst, &buffer[..n]);
+}
+
+// Moves n bytes behind the gap at `at` down by the gap, by way of the buffer.
+fn move_down_by(buffer: &mut [u8], area: &mut [u8], at: usize, gap: usize, n: usize)
+    requires { ⌜ (n ≤ length (now buffer)) × (at + gap + n ≤ length (now area)) ⌝ }
+    ensures { λ _. ⌜ now (area .exit) ≡ splice (now (area .entry)) at (part (now (area .entry)) (at + gap) n) ⌝ }
+{
+    let from = at + gap;
+    let end = from + n;
+    lay(buffer, &area[from..end]);
+    lay(&mut area[at..], &buffer[..n]);
+}
+
 // Lays a piece over the start of dst.
 pub fn carry(dst: &mut [u8], src: &[u8])
     requires { ⌜ (length (now src) ≤ journalSize) × (length (now src) ≤ length (now dst)) ⌝ }
     ensures { λ _. ⌜ now (dst .exit) ≡ splice (now (dst .entry)) 0 (now (src .entry)) ⌝ }
 {
-    let n = src.len();
     let mut buffer = [0u8; PIECE];
-    lay(&mut buffer, src);
-    lay(dst, &buffer[..n]);
+    carry_by(&mut buffer, dst, src);
 }
 
 // Moves the piece of n bytes behind the gap at `at` down by the gap.
@@ -47,9 +66,6 @@ pub fn move_down(area: &mut [u8], at: usize, gap: usize, n: usize)
     requires { ⌜ (n ≤ journalSize) × (at + gap + n ≤ length (now area)) ⌝ }
     ensures { λ _. ⌜ now (area .exit) ≡ splice (now (area .entry)) at (part (now (area .entry)) (at + gap) n) ⌝ }
 {
-    let from = at + gap;
-    let end = from + n;
     let mut buffer = [0u8; PIECE];
-    lay(&mut buffer, &area[from..end]);
-    lay(&mut area[at..], &buffer[..n]);
+    move_down_by(&mut buffer, area, at, gap, n);
 }

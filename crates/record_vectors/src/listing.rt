@@ -2,8 +2,8 @@
 ghost use Prim.Native.Nat.{_<_, _≤_};
 ghost use lib.ListN.{length};
 ghost use Rattle.records.specs.Records.{records};
-use component::Put;
 use component::ResultField;
+use escaping::Put;
 use faults::Checked;
 use faults::Fault;
 use kinds::Delimiters;
@@ -220,7 +220,7 @@ fn answer(r: Reading) {
 // A text escaped into memory of 16 bytes.
 fn escaped(text: &[u8]) {
     let mut out = [b'.'; 16];
-    let r = component::escape(Delimiters::standard(), text, &mut out);
+    let r = escaping::escape(Delimiters::standard(), text, &mut out);
     put(r);
     part(&out);
     end_of_line();
@@ -229,7 +229,7 @@ fn escaped(text: &[u8]) {
 // A component unescaped into memory of 8 bytes.
 fn unescaped(text: &[u8]) {
     let mut out = [b'.'; 8];
-    let r = component::unescape(Delimiters::standard(), text, &mut out);
+    let r = escaping::unescape(Delimiters::standard(), text, &mut out);
     put(r);
     part(&out);
     end_of_line();

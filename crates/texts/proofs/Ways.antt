@@ -7,9 +7,9 @@ use Rattle.memory.specs.Sizes.{frameLimit}
 use Rattle.kinds.specs.Delimiters.{standard}
 use Rattle.records.specs.Records.{records}
 use Rattle.kinds.specs.declared.Delimiters.{Delimiters}
-use Rattle.component.specs.Escape.{Escaping}
-use Rattle.component.specs.Unescape.{Unescaping}
-use Rattle.component.specs.declared.Put.{Put}
+use Rattle.escaping.specs.Escape.{Escaping}
+use Rattle.escaping.specs.Unescape.{Unescaping}
+use Rattle.escaping.specs.declared.Put.{Put}
 use Rattle.owner.specs.Owners.{typesOf, ownersOf}
 use Rattle.owner.specs.Reading.{offsetsOf, lengthsOf, laid, ReadAs}
 use Rattle.owner.specs.declared.Reading.{Reading}

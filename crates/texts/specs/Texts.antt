@@ -8,10 +8,10 @@ use Rattle.memory.specs.Sizes.{frameLimit}
 use Rattle.memory.specs.Moves.{copied}
 use Rattle.kinds.specs.Delimiters.{standard}
 use Rattle.records.specs.Records.{records}
-use Rattle.component.specs.Escape.{escaped, escapeAnswer}
-use Rattle.component.specs.Unescape.{unescapeAnswer, unescapedOver}
-use Rattle.component.specs.declared.Put.{Put}
-use Rattle.component.specs.declared.Put.the-variants as put
+use Rattle.escaping.specs.Escape.{escaped, escapeAnswer}
+use Rattle.escaping.specs.Unescape.{unescapeAnswer, unescapedOver}
+use Rattle.escaping.specs.declared.Put.{Put}
+use Rattle.escaping.specs.declared.Put.the-variants as put
 use Rattle.owner.specs.Owners.{typesOf, ownersOf}
 use Rattle.owner.specs.Reading.{offsetsOf, lengthsOf, readingOf, laid}
 use Rattle.owner.specs.declared.Reading.{Reading}

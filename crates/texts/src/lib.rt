@@ -1,8 +1,8 @@
 // Texts over plain memory: cut, read, escaped and unescaped, with the standard delimiters and today's frame limit.
 ghost use mathlib.Core.Path.{_≡_};
 ghost use Rattle.texts.specs.Texts.{done, refusedWith, madeByCutting, madeByPutting, madeByReading, CutFrames, Escaped, Unescaped, RecordsRead};
-use component::Put;
 use cutting::Framed;
+use escaping::Put;
 use kinds::Delimiters;
 use line::Answer;
 use owner::Reading;
@@ -30,7 +30,7 @@ pub fn cut(text: &[u8], out: &mut [u8]) -> Made
 pub fn escape(text: &[u8], out: &mut [u8]) -> Made
     ensures { λ r. ⌜ Escaped (now (text .entry)) (now (out .entry)) r (now (out .exit)) ⌝ }
 {
-    let put = component::escape(Delimiters::standard(), text, out);
+    let put = escaping::escape(Delimiters::standard(), text, out);
     made_by_putting(put)
 }
 
@@ -38,7 +38,7 @@ pub fn escape(text: &[u8], out: &mut [u8]) -> Made
 pub fn unescape(component: &[u8], out: &mut [u8]) -> Made
     ensures { λ r. ⌜ Unescaped (now (component .entry)) (now (out .entry)) r (now (out .exit)) ⌝ }
 {
-    let put = component::unescape(Delimiters::standard(), component, out);
+    let put = escaping::unescape(Delimiters::standard(), component, out);
     made_by_putting(put)
 }
 

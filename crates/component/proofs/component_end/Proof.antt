@@ -4,9 +4,9 @@ use borrow.Author.Needs.{needs}
 use Prim.Native.Nat.{_+_, _-_, _≤_}
 use mathlib.Core.Path.{_≡_, refl}
 use lib.ListN.{length, drop, getD}
-use Rattle.memory.specs.Tests.{find}
+use Rattle.memory.specs.Tests.{isOneOf, find}
 use Rattle.memory.proofs.Tests.{find-stop, find-next, find-done}
-use Rattle.component.specs.Component.{isOneOf, stopsOf}
+use Rattle.component.specs.Component.{stopsOf}
 use Rattle.component.proofs.Stops.{isOneOf-here, isOneOf-next, isOneOf-none}
 use Rattle.component.proofs.component_end.Statement.{statement}
 use Rattle.component.proofs.component_end.Tie as tie

@@ -24,6 +24,33 @@ record Moved (area₀ : List ℕ) (at gap end last : ℕ) (area : List ℕ) (i :
   same : area ≡ splice area₀ at (take (i - at) (later area₀ at gap end))
   long : length area ≡ length area₀
 
+-- a turn: the next n of the later bytes have moved down
+turn : (area₀ : List ℕ) (at gap end last : ℕ) (area : List ℕ) (i n : ℕ) {area′ : List ℕ} → Moved area₀ at gap end last area i → n ≤ last - i
+    → area′ ≡ splice area i (part area (i + gap) n) → Moved area₀ at gap end last area′ (i + n)
+turn area₀ at gap end last area i n v h moved =
+    let fits = v .fits in
+    let room = v .room in
+    let upto = v .upto in
+    let low = v .low in
+    let high = v .high in
+    let j : ℕ = i - at in
+    let here : i ≡ at + j = omega arith in
+    let next : i + n - at ≡ j + n = omega arith in
+    let all : length (later area₀ at gap end) ≡ end - (at + gap) = length-part area₀ (at + gap) (end - (at + gap)) (omega arith) in
+    let first : length (take (j + n) (later area₀ at gap end)) ≡ j + n = length-take-le (j + n) (later area₀ at gap end) (omega arith) in
+    let same = moved
+    ∙ ap (λ (m : ℕ). splice area m (part area (m + gap) n)) here
+    ∙ rw (← v .same) at (close-on area₀ at gap end j n fits (omega arith)) in
+    record {
+      fits = fits;
+      room = room;
+      upto = upto;
+      low = omega arith;
+      high = omega arith;
+      same = rw next same;
+      long = ap length same ∙ length-splice area₀ at (take (j + n) (later area₀ at gap end)) (omega arith);
+    }
+
 abbrev Inv-loop : tie.InvT-loop
 Inv-loop area₀ at gap end last i₀ area i = Moved area₀ at gap end last area i
 
@@ -62,26 +89,7 @@ loop-again c =
     let p = m .before .before in
     let l = p .before .before .loop in
     let a = start (p .before .before .before) .args in
-    let n : ℕ = p .piece .result in
-    let j : ℕ = l .i - a .at in
-    let here : l .i ≡ a .at + j = omega arith in
-    let next : l .i + n - a .at ≡ j + n = omega arith in
-    let all : length (later (now (a .area)) (a .at) (a .gap) (a .end)) ≡ a .end - (a .at + a .gap) =
-    length-part (now (a .area)) (a .at + a .gap) (a .end - (a .at + a .gap)) (omega arith) in
-    let first : length (take (j + n) (later (now (a .area)) (a .at) (a .gap) (a .end))) ≡ j + n =
-    length-take-le (j + n) (later (now (a .area)) (a .at) (a .gap) (a .end)) (omega arith) in
-    let same = m .move-down .ensures
-    ∙ ap (λ (m : ℕ). splice (l .area) m (part (l .area) (m + a .gap) n)) here
-    ∙ rw (← l .inv .same) at (close-on (now (a .area)) (a .at) (a .gap) (a .end) j n (omega arith) (omega arith)) in
-    record {
-      fits = omega arith;
-      room = omega arith;
-      upto = omega arith;
-      low = omega arith;
-      high = omega arith;
-      same = rw next same;
-      long = ap length same ∙ length-splice (now (a .area)) (a .at) (take (j + n) (later (now (a .area)) (a .at) (a .gap) (a .end))) (omega arith);
-    }
+    turn (now (a .area)) (a .at) (a .gap) (a .end) _ (l .area) (l .i) (p .piece .result) (l .inv) (p .piece .ensures .1) (m .move-down .ensures)
 
 returns-4 : tie.Need-returns-4 Inv-loop μ-loop
 returns-4 c =

@@ -1,11 +1,11 @@
 -- `memory::copy` meets its contract. The loop's invariant: the first `done` bytes of src are over the start of dst, and the rest is as it was.
 -- Assumes nothing.
 use mathlib.Core.Path.{_≡_, refl, sym, _∙_, ap}
-use mathlib.Core.List.{List}
+use mathlib.Core.List.{List, _++_}
 use Prim.Native.Nat.{ℕ, _+_, _-_, _≤_}
 use native.Mathlib.Nat.{zero-add}
 use native.Mathlib.Omega.{arith}
-use lib.ListN.{length, take, length-take, length-drop}
+use lib.ListN.{length, take, drop, length-take, length-drop}
 use lib.Seq.{take-length, length-take-le}
 use denote.Ref.{now}
 use Rattle.memory.specs.Parts.{part, splice}
@@ -19,6 +19,19 @@ record Done (dst₀ src dst : List ℕ) (done : ℕ) : Type 0 where
   within : done ≤ length src
   same : dst ≡ splice dst₀ 0 (take done src)
   long : length dst ≡ length dst₀
+
+-- a turn: the next n bytes of src are laid over the part of dst that was lent from `done` on, which is back in its place
+turn : (dst₀ src dst : List ℕ) (done n : ℕ) {b : List ℕ} → Done dst₀ src dst done → n ≤ length src - done
+    → b ≡ splice (take (length dst - done) (drop done dst)) 0 (take (done + n - done) (drop done src))
+    → Done dst₀ src (take done dst ++ (b ++ drop (length dst - done) (drop done dst))) (done + n)
+turn dst₀ src dst done n v h laid =
+    let end : done + n ≤ length src = omega (arith, v .within) in
+    let here : length (part src done n) ≡ n = length-part src done n end in
+    let first : length (take (done + n) src) ≡ done + n = length-take-le (done + n) src end in
+    let fits : length src ≤ length dst₀ = v .fits in
+    let more = rw (← v .same, zero-add) at (copy-on dst₀ 0 src done n (omega arith) end) in
+    let same = laid-back dst done (part src done n) _ _ (omega (arith, v .long)) refl (laid ∙ ap (splice _ 0) (part-lent src done n)) ∙ more in
+    record { fits = fits; within = end; same = same; long = ap length same ∙ length-splice dst₀ 0 (take (done + n) src) (omega arith) }
 
 abbrev Inv-loop : tie.InvT-loop
 Inv-loop dst₀ src done₀ dst done = Done dst₀ src dst done
@@ -46,20 +59,8 @@ loop-again c =
     let p = y .before .before .before in
     let l = p .before .before .loop in
     let a = start (p .before .before) .args in
-    let n : ℕ = p .piece .result in
-    let here : length (part (now (a .src)) (l .done) n) ≡ n = length-part (now (a .src)) (l .done) n (omega arith) in
-    let next = l .done + n in
-    let first : length (take next (now (a .src))) ≡ next = length-take-le next (now (a .src)) (omega arith) in
-    let more = rw (← l .inv .same, zero-add) at (copy-on (now (a .dst)) 0 (now (a .src)) (l .done) n (omega arith) (omega arith)) in
-    let same = laid-back (l .dst) (l .done) (part (now (a .src)) (l .done) n) _ _ (omega arith) refl
-    (y .carry .ensures ∙ ap (splice _ 0) (part-lent (now (a .src)) (l .done) n))
-    ∙ more in
-    record {
-      fits = omega arith;
-      within = omega arith;
-      same = same;
-      long = ap length same ∙ length-splice (now (a .dst)) 0 (take next (now (a .src))) (omega arith);
-    }
+    let moved = p .piece .ensures in
+    turn (now (a .dst)) (now (a .src)) (l .dst) (l .done) (p .piece .result) (l .inv) (moved .1) (y .carry .ensures)
 
 returns-2 : tie.Need-returns-2 Inv-loop μ-loop
 returns-2 c =

@@ -5,7 +5,8 @@ use Prim.Native.Nat.{_+_, _-_, _≤_}
 use native.Mathlib.Omega.{arith}
 use lib.ListN.{length, drop, length-drop}
 use Rattle.memory.proofs.Tests.{find-le}
-use Rattle.component.specs.Component.{isOneOf, stopsOf}
+use Rattle.memory.specs.Tests.{isOneOf}
+use Rattle.component.specs.Component.{stopsOf}
 use Rattle.record_vectors.proofs.listing.components.Statement.{statement}
 use Rattle.record_vectors.proofs.listing.components.Tie as tie
 use Rattle.record_vectors.proofs.listing.components.Reads as reads

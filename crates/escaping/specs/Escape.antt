@@ -1,0 +1,41 @@
+-- Text with its delimiters escaped.
+-- Assumes nothing.
+use Prim.Native.Nat.{ℕ}
+use mathlib.Core.Path.{_≡_}
+use mathlib.Core.List.{List, [], _∷_, _++_}
+use mathlib.Core.Bool.{cond}
+use lib.Dec.{eqb}
+use lib.ListN.{length}
+use Rattle.memory.specs.Tests.{is}
+use Rattle.memory.specs.Moves.{fitsAt, copied}
+use Rattle.kinds.specs.declared.Delimiters.{Delimiters}
+use Rattle.escaping.specs.declared.Put.{Put}
+use Rattle.escaping.specs.declared.Put.the-variants.{Done, Malformed, NotFitting}
+
+-- the letter that stands for a byte between two &: F for |, S for ^, R for \, E for &; 0 where the byte stands for itself
+unfoldable pub letterFor : Delimiters → ℕ → ℕ
+letterFor d b =
+    cond (is (d .field) b) 0x46
+    (cond (is (d .component) b) 0x53 (cond (is (d .repeat) b) 0x52 (cond (is (d .escape) b) 0x45 0)))
+
+unfoldable pub escapeOf : Delimiters → ℕ → List ℕ
+escapeOf d b = cond (eqb (letterFor d b) 0) (b ∷ []) (d .escape ∷ letterFor d b ∷ d .escape ∷ [])
+
+abbrev pub escaped : Delimiters → List ℕ → List ℕ
+escaped d [] = []
+escaped d (b ∷ bs) = escapeOf d b ++ escaped d bs
+
+-- the paper's number of a refusal; none where the text was put out
+abbrev pub paper : Put → List ℕ
+paper (Done n) = []
+paper Malformed = 46 ∷ []
+paper NotFitting = 47 ∷ []
+
+-- the answer to an escaping: its length, or 47
+unfoldable pub escapeAnswer : Delimiters → List ℕ → List ℕ → Put
+escapeAnswer d text out = cond (fitsAt out 0 (escaped d text)) (Done (length (escaped d text))) NotFitting
+
+-- what escaping says: the answer, and the memory after it: the escaped text at its start, the rest kept; unchanged on a refusal
+pub record Escaping (d : Delimiters) (text out : List ℕ) (r : Put) (out′ : List ℕ) : Type 0 where
+  pub answer : r ≡ escapeAnswer d text out
+  pub after : out′ ≡ copied out 0 (escaped d text)

@@ -1,0 +1,48 @@
+// Field text with escapes and without.
+ghost use Rattle.escaping.specs.Escape.{Escaping};
+ghost use Rattle.escaping.specs.Unescape.{Unescaping};
+use kinds::Delimiters;
+
+mod with_escapes; // with_escapes.rt: delimiters into escapes
+mod without_escapes; // without_escapes.rt: escapes into delimiters
+
+// What becomes of a text that is escaped or unescaped: it is put out, with this length; it has a wrong escape; the memory is too short.
+pub enum Put {
+    Done(usize),
+    Malformed,
+    NotFitting,
+}
+
+// The length of a component without its escapes, if they are right.
+enum Measured {
+    Of(usize),
+    Wrong,
+}
+
+// Escapes a text: | ^ \ & become &F& &S& &R& &E&.
+pub fn escape(d: Delimiters, text: &[u8], out: &mut [u8]) -> Put
+    ensures { λ r. ⌜ Escaping d (now (text .entry)) (now (out .entry)) r (now (out .exit)) ⌝ }
+{
+    if !with_escapes::fits(d, text, out.len()) {
+        return Put::NotFitting;
+    }
+    let n = with_escapes::write(d, text, out);
+    Put::Done(n)
+}
+
+// Takes the escapes out of a component.
+pub fn unescape(d: Delimiters, text: &[u8], out: &mut [u8]) -> Put
+    ensures { λ r. ⌜ Unescaping d (now (text .entry)) (now (out .entry)) r (now (out .exit)) ⌝ }
+{
+    let m = without_escapes::measure(d, text);
+    match m {
+        Measured::Of(n) => {
+            if out.len() < n {
+                return Put::NotFitting;
+            }
+            without_escapes::write(d, text, n, out);
+            Put::Done(n)
+        }
+        Measured::Wrong => Put::Malformed,
+    }
+}

@@ -1,0 +1,3 @@
+pub mod Packing
+pub mod Octets
+pub mod OneOutcome
