@@ -53,11 +53,16 @@ pub fn put(event: u64, line: u8, number: u8, taken: usize, out: &mut [u8], at: u
     end + 1
 }
 
-// Writes a number and a space, and says where they end.
+// Writes a number and a space, and says where they end. A number of one digit, as most lines and answers are, asks for nothing else.
 fn put_word(n: u64, out: &mut [u8], at: usize) -> usize
     requires { ⌜ at + length (wordText n) ≤ length (now out) ⌝ }
     ensures { λ r. ⌜ (r ≡ at + length (wordText n)) × (now (out .exit) ≡ splice (now (out .entry)) at (wordText n)) ⌝ }
 {
+    if n < 10 {
+        out[at] = b'0' + n as u8;
+        out[at + 1] = b' ';
+        return at + 2;
+    }
     let end = decimal::put(n, out, at);
     out[end] = b' ';
     end + 1
