@@ -18,13 +18,13 @@ use Rattle.line.specs.declared.Answer.the-variants.{NoLine, WrongSize, BeyondLi
 use Rattle.looking.specs.Views.{framesOf, textsOf, Ready}
 use Rattle.looking.specs.Lent.{rightLengths}
 use Rattle.looking.specs.Looks.{lookOf, lookAlone}
-use Rattle.looking.specs.Fitting.{Fitting, TextFits, writes}
+use Rattle.looking.specs.Fitting.{Fitting, TextFits, writes, Quiet}
 use Rattle.looking.specs.declared.Event.{Event}
 use Rattle.looking.specs.declared.Look.{Look}
 use Rattle.looking.specs.declared.Look.the-variants.{Done, Decides}
 use Rattle.looking.specs.declared.Verdict.the-variants.{Left}
 use Rattle.looking.proofs.Views.{own-parts}
-use Rattle.looking.proofs.Fits.{Quiet, LookFits, look-fits}
+use Rattle.looking.proofs.Fits.{LookFits, look-fits}
 
 -- the sizes, as facts
 pub lengths-facts : (j u f : ℕ) → rightLengths j u f ≡ true → (j ≡ journalSize) × (u ≡ unfinishedSize) × (f ≡ framesSize)

@@ -1,30 +1,15 @@
--- What a look comes to fits the line: its text lies in the frame and has room behind the joined text. And no look stores.
+-- What a look comes to fits the line: its text lies in the frame and has room behind the joined text. And no look decides.
 -- Assumes nothing.
 use mathlib.Core.List.{List}
 use Prim.Native.Nat.{ℕ}
 use Rattle.line.specs.declared.Line.{Line}
 use Rattle.looking.specs.Views.{Own}
 use Rattle.looking.specs.Looks.{lookOf}
-use Rattle.looking.specs.Fitting.{TextFits, Fitting}
+use Rattle.looking.specs.Fitting.{TextFits, Fitting, Quiet}
 use Rattle.looking.specs.declared.Kind.{Kind}
 use Rattle.looking.specs.declared.Look.{Look}
 use Rattle.looking.specs.declared.Look.the-variants.{Done, Decides}
-use Rattle.looking.specs.declared.Verdict.{Verdict}
-use Rattle.looking.specs.declared.Verdict.the-variants.{Left, Opens, Closes, Begins, Counts, Collects, Refuses, Accepts, Stores, Against}
 use Rattle.looking.proofs.Cases.{Cases, every-look}
-
--- a verdict that does not store
-abbrev pub Quiet : Verdict → Type 0
-Quiet (Left a) = Unit {0}
-Quiet Opens = Unit {0}
-Quiet (Closes a) = Unit {0}
-Quiet Begins = Unit {0}
-Quiet (Counts n) = Unit {0}
-Quiet Collects = Unit {0}
-Quiet (Refuses a) = Unit {0}
-Quiet (Accepts n) = Unit {0}
-Quiet (Stores n) = ⊥
-Quiet (Against a n) = Unit {0}
 
 -- what holds of a look
 abbrev pub LookFits : Look → Line → Type 0

@@ -36,3 +36,16 @@ writes (Refuses a) = true
 writes (Accepts n) = true
 writes (Stores n) = true
 writes (Against a n) = true
+
+-- a verdict that decides no message: what a look comes to
+abbrev pub Quiet : Verdict → Type 0
+Quiet (Left a) = Unit {0}
+Quiet Opens = Unit {0}
+Quiet (Closes a) = Unit {0}
+Quiet Begins = Unit {0}
+Quiet (Counts n) = Unit {0}
+Quiet Collects = Unit {0}
+Quiet (Refuses a) = Unit {0}
+Quiet (Accepts n) = Unit {0}
+Quiet (Stores n) = ⊥
+Quiet (Against a n) = ⊥

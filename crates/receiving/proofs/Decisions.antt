@@ -16,7 +16,8 @@ use Rattle.line.specs.Paper.{numberOf, isObjection}
 use Rattle.line.specs.declared.Answer.{Answer}
 use Rattle.receiving.specs.Verdicts.{objectionTo, roomVerdict, decisionOf}
 use Rattle.receiving.specs.Settled.{ledgerAfter, journalAfter}
-use Rattle.receiving.specs.Decided.{Decision}
+use Rattle.receiving.specs.Decided.{outcomeVerdict, Decision}
+use Rattle.receiving.specs.declared.deciding.Outcome.{Outcome}
 use Rattle.looking.specs.declared.Verdict.{Verdict}
 use Rattle.looking.specs.declared.Verdict.the-variants.{Against}
 
@@ -37,26 +38,25 @@ room-row Judgement.NoLine d i n text j = (refl, refl, refl)
 room-row Judgement.WrongSize d i n text j = (refl, refl, refl)
 room-row Judgement.Malformed d i n text j = (refl, refl, refl)
 
-module _ (d : Ledger) (i n : ℕ) (text j : List ℕ) where
-  is-objection : isMessage text ≡ false → decisionOf todaysShares d i n text j ≡ Against (objectionTo text) n
+module _ (d : Ledger) (i : ℕ) (text j : List ℕ) where
+  is-objection : (n : ℕ) → isMessage text ≡ false → decisionOf todaysShares d i n text j ≡ Against (objectionTo text) n
   unfolding decisionOf
-  is-objection e = rw e
+  is-objection n e = rw e
 
-  pub no-message : (a : Answer) → a ≡ objectionTo text → isMessage text ≡ false → Decision d i n text j (record { verdict = Against a n; ledger = d }) j
-  no-message a of e = record { verdict = rw (of, is-objection e); ledger = rw (is-objection e); journal = rw (is-objection e) }
+  pub no-message : (a : Answer) → a ≡ objectionTo text → isMessage text ≡ false → Decision d i text j (record { outcome = Outcome.Against a; ledger = d }) j
+  no-message a of e = record { verdict = λ n. rw (of, is-objection n e); ledger = λ n. rw (is-objection n e); journal = λ n. rw (is-objection n e) }
 
-  is-room : isMessage text ≡ true → decisionOf todaysShares d i n text j ≡ roomVerdict (judgeOf d todaysShares i (length text) j) n
+  is-room : (n : ℕ) → isMessage text ≡ true → decisionOf todaysShares d i n text j ≡ roomVerdict (judgeOf d todaysShares i (length text) j) n
   unfolding decisionOf
-  is-room e = rw e
+  is-room n e = rw e
 
-  pub by-store : (s : Storing) (v : Verdict) (j′ : List ℕ) → isMessage text ≡ true → Stored d todaysShares i text j s j′ → v ≡ roomVerdict (s .answer) n
-      → Decision d i n text j (record { verdict = v; ledger = s .ledger }) j′
+  pub by-store : (s : Storing) (o : Outcome) (j′ : List ℕ) → isMessage text ≡ true → Stored d todaysShares i text j s j′ → ((n : ℕ) → outcomeVerdict o n ≡ roomVerdict (s .answer) n)
+      → Decision d i text j (record { outcome = o; ledger = s .ledger }) j′
   unfolding storeOf
-  by-store s v j′ e st w =
+  by-store s o j′ e st w =
       let q = judgeOf d todaysShares i (length text) j in
-      let (answer, ledger, journal) = room-row q d i n text j in
       record {
-        verdict = w ∙ ap (λ (x : Storing). roomVerdict (x .answer) n) (st .result) ∙ ap (λ (x : Judgement). roomVerdict x n) answer ∙ sym (is-room e);
-        ledger = ap (λ (x : Storing). x .ledger) (st .result) ∙ ledger ∙ ap (λ (x : Verdict). ledgerAfter x d i (λ n. text)) (sym (is-room e));
-        journal = st .after ∙ journal ∙ ap (λ (x : Verdict). journalAfter x d i (λ n. text) j) (sym (is-room e));
+        verdict = λ n. w n ∙ ap (λ (x : Storing). roomVerdict (x .answer) n) (st .result) ∙ ap (λ (x : Judgement). roomVerdict x n) (room-row q d i n text j .0) ∙ sym (is-room n e);
+        ledger = λ n. ap (λ (x : Storing). x .ledger) (st .result) ∙ room-row q d i n text j .1 ∙ ap (λ (x : Verdict). ledgerAfter x d i (λ n. text)) (sym (is-room n e));
+        journal = λ n. st .after ∙ room-row q d i n text j .2 ∙ ap (λ (x : Verdict). journalAfter x d i (λ n. text) j) (sym (is-room n e));
       }

@@ -10,10 +10,9 @@ use Rattle.journal.specs.Verdicts.{judgeOf}
 use Rattle.journal.specs.declared.Ledger.{Ledger}
 use Rattle.journal.specs.declared.Verdict.{Verdict as Judgement}
 use Rattle.line.specs.declared.Line.{Line}
-use Rattle.looking.specs.Fitting.{TextFits, Fitting}
+use Rattle.looking.specs.Fitting.{TextFits, Fitting, Quiet}
 use Rattle.looking.specs.declared.Verdict.{Verdict}
 use Rattle.looking.specs.declared.Verdict.the-variants.{Left, Opens, Closes, Begins, Counts, Collects, Refuses, Accepts, Stores, Against}
-use Rattle.looking.proofs.Fits.{Quiet}
 use Rattle.receiving.specs.Verdicts.{objectionTo, roomVerdict, decisionOf}
 use Rattle.receiving.specs.Settled.{ledgerAfter, journalAfter}
 
@@ -27,7 +26,7 @@ quiet-keeps Collects d i text j q = (refl, refl)
 quiet-keeps (Refuses a) d i text j q = (refl, refl)
 quiet-keeps (Accepts n) d i text j q = (refl, refl)
 quiet-keeps (Stores n) d i text j q = absurd q
-quiet-keeps (Against a n) d i text j q = (refl, refl)
+quiet-keeps (Against a n) d i text j q = absurd q
 
 -- a decision fits as its text does
 room-fits : (l : Line) (q : Judgement) (n : ℕ) → TextFits l n → Fitting (roomVerdict q n) l

@@ -1,4 +1,4 @@
--- A verdict is known by its case.
+-- A verdict and an outcome are known by their case.
 -- Assumes nothing.
 use mathlib.Core.Path.{_≡_, sym, subst, ap, _∙_}
 use mathlib.Core.Bool.{true}
@@ -6,8 +6,10 @@ use mathlib.Core.List.{List}
 use Prim.Native.Nat.{ℕ}
 use Rattle.line.specs.declared.Line.{Line}
 use Rattle.looking.specs.Views.{Ready}
-use Rattle.looking.specs.Fitting.{Fitting, writes}
+use Rattle.looking.specs.Fitting.{Fitting, Quiet, writes}
 use Rattle.receiving.specs.Settled.{Settled}
+use Rattle.receiving.specs.Decided.{Closed}
+use Rattle.receiving.specs.declared.deciding.Outcome.{Outcome}
 use Rattle.looking.specs.declared.Kind.{Kind}
 use Rattle.looking.specs.declared.Verdict.{Verdict}
 
@@ -17,6 +19,12 @@ settled-as {v} {w} {k} {l} {i} {u} {f} {r} {u′} {f′} e s = subst (λ (x : Ve
 pub fitting-as : {v w : Verdict} (l : Line) → v ≡ w → Fitting v l → Fitting w l
 fitting-as {v} {w} l e s = subst (λ (x : Verdict). Fitting x l) e s
 
+pub quiet-as : {v w : Verdict} → v ≡ w → Quiet v → Quiet w
+quiet-as e s = subst Quiet e s
+
 -- what acting asks, where the row of its case writes
-pub ready-as : {v w : Verdict} {l : Line} {i : ℕ} {u f : List ℕ} → v ≡ w → writes w ≡ true → Fitting v l × (writes v ≡ true → Ready l i u f) → Ready l i u f
-ready-as e t p = p .1 (ap writes e ∙ t)
+pub ready-as : {v w : Verdict} {l : Line} {i : ℕ} {u f : List ℕ} → v ≡ w → writes w ≡ true → Fitting v l × Quiet v × (writes v ≡ true → Ready l i u f) → Ready l i u f
+ready-as e t p = p .2 (ap writes e ∙ t)
+
+pub closed-as : {o p : Outcome} {k : Kind} {l : Line} {i : ℕ} {f : List ℕ} {r : Line} {f′ : List ℕ} → o ≡ p → Closed p k l i f r f′ → Closed o k l i f r f′
+closed-as {o} {p} {k} {l} {i} {f} {r} {f′} e s = subst (λ (x : Outcome). Closed x k l i f r f′) (sym e) s

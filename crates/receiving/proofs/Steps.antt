@@ -5,7 +5,7 @@ use mathlib.Core.Bool.{Bool, true, false, cond, _&&_}
 use mathlib.Core.List.{List}
 use Prim.Native.Nat.{ℕ, _+_, _≤_, _<_}
 use native.Mathlib.Omega.{arith}
-use borrow.Author.Tests.{lt-ltb, le-ltb, le-leb, leb-true}
+use borrow.Author.Tests.{le-leb, leb-true, ltb-true}
 use lib.ListN.{length}
 use lib.Dec.{ltb, leb}
 use Rattle.memory.specs.Sizes.{lines, messageLimit}
@@ -20,16 +20,18 @@ use Rattle.line.specs.Line.{withinLimits}
 use Rattle.line.specs.declared.Line.{Line}
 use Rattle.line.specs.declared.Answer.{Answer}
 use Rattle.line.specs.declared.Answer.the-variants.{NoLine, WrongSize, BeyondLimits}
-use Rattle.looking.specs.Views.{framesOf, textsOf, joinedText}
+use Rattle.looking.specs.Views.{framesOf, textsOf, joinedText, Ready}
 use Rattle.looking.specs.Lent.{rightLengths, rightSizes}
 use Rattle.looking.specs.Looks.{lookOf, lookAlone}
 use Rattle.looking.specs.Answers.{answerOf}
 use Rattle.looking.specs.Fitting.{TextFits}
 use Rattle.receiving.specs.Verdicts.{objectionTo, roomVerdict, decisionOf, decided, ownWork, verdictOf}
 use Rattle.receiving.specs.Settled.{lineAfter, textsAfter, framesAfter, ledgerAfter, journalAfter, Settled}
-use Rattle.receiving.specs.Decided.{Decision}
+use Rattle.receiving.specs.declared.completing.Tested.{Tested}
+use Rattle.receiving.specs.declared.completing.Tested.the-variants.{Refused}
+use Rattle.receiving.specs.Decided.{outcomeVerdict, Completion, Closed}
 use Rattle.receiving.specs.Steps.{AfterStep, settle, stepOf, Leaves, memoryOf, Stepping}
-use Rattle.receiving.specs.Alone.{lineAlone, textsAlone, framesAlone, SteppingAlone, textFits, completed, completionOf, decideOf, Deciding, Completing}
+use Rattle.receiving.specs.Alone.{lineAlone, textsAlone, framesAlone, SteppingAlone, textFits, testOf, completed, completionOf, decideOf, Deciding, Completing}
 use Rattle.receiving.specs.declared.Alone.{Alone}
 use Rattle.receiving.specs.declared.deciding.Decided.{Decided}
 use Rattle.looking.specs.declared.Event.{Event}
@@ -38,8 +40,7 @@ use Rattle.looking.specs.declared.Look.the-variants.{Done, Decides}
 use Rattle.receiving.specs.declared.Stepped.{Stepped}
 use Rattle.looking.specs.declared.Verdict.{Verdict}
 use Rattle.looking.specs.declared.Verdict.the-variants.{Left, Against}
-use Rattle.looking.proofs.Fits.{Quiet}
-use Rattle.looking.proofs.Alone.{Acts, alone-acts}
+use Rattle.looking.proofs.Alone.{Acts, alone-acts, ready}
 use Rattle.receiving.proofs.Fits.{quiet-keeps}
 
 -- a decision stores the text of its own frame: what the line would have with another length does not matter
@@ -90,7 +91,7 @@ module _ (l : Line) (e : Event) (n : ℕ) (u f : List ℕ) where
 fits-test : (l : Line) (n : ℕ) → TextFits l n → textFits l n ≡ true
 fits-test l n t = rw (le-leb (n + 5) (l .collected) (t .0), le-leb (l .joined + n) messageLimit (t .1))
 
-pub test-fits : (l : Line) (n : ℕ) → textFits l n ≡ true → TextFits l n
+test-fits : (l : Line) (n : ℕ) → textFits l n ≡ true → TextFits l n
 test-fits l n h =
     let a = and-left (leb (n + 5) (l .collected)) (leb (l .joined + n) messageLimit) h in
     let b = and-right (leb (n + 5) (l .collected)) (leb (l .joined + n) messageLimit) h in
@@ -162,45 +163,64 @@ module _ (l : Line) (d : Ledger) (e : Event) (j u f : List ℕ) where
       let x : Deciding l d e n j u f r j′ u′ f′ = rw (← p, ← q) t in
       subst (λ (y : AfterStep). Leaves y r j′ u′ f′) (sym (step-decides n k)) x
 
+-- what has passed the tests: the line is ready and the text fits
+pub tested-ready : (l : Line) (e : Event) (n : ℕ) (j u f : List ℕ) → testOf l (e .line) n (length j) (length u) (length f) ≡ Tested.Ready → Ready l (e .line) u f × TextFits l n
+unfolding testOf
+tested-ready l e n j u f h = by-line (ltb (e .line) lines) refl h
+  where
+    by-limits : (b : Bool) → withinLimits l && textFits l n ≡ b → e .line < lines → rightLengths (length j) (length u) (length f) ≡ true → unless b (Refused BeyondLimits) Tested.Ready ≡ Tested.Ready → Ready l (e .line) u f × TextFits l n
+    by-limits true w p k h = (ready l e (length j) u f p k (and-left (withinLimits l) (textFits l n) w), test-fits l n (and-right (withinLimits l) (textFits l n) w))
+    by-limits false w p k h = let z : _≡_ {A = ℕ} 0 1 = cc in absurd (omega arith)
+
+    by-sizes : (b : Bool) → rightLengths (length j) (length u) (length f) ≡ b → e .line < lines → unless b (Refused WrongSize) (unless (withinLimits l && textFits l n) (Refused BeyondLimits) Tested.Ready) ≡ Tested.Ready → Ready l (e .line) u f × TextFits l n
+    by-sizes true k p h = by-limits (withinLimits l && textFits l n) refl p k h
+    by-sizes false k p h = let z : _≡_ {A = ℕ} 0 1 = cc in absurd (omega arith)
+
+    by-line : (b : Bool) → ltb (e .line) lines ≡ b → unless b (Refused NoLine) (unless (rightLengths (length j) (length u) (length f)) (Refused WrongSize) (unless (withinLimits l && textFits l n) (Refused BeyondLimits) Tested.Ready)) ≡ Tested.Ready → Ready l (e .line) u f × TextFits l n
+    by-line true p h = by-sizes (rightLengths (length j) (length u) (length f)) refl (ltb-true (e .line) lines p) h
+    by-line false p h = let z : _≡_ {A = ℕ} 0 1 = cc in absurd (omega arith)
+
 -- deciding: 40, 41, 42, then the decision
 module _ (l : Line) (d : Ledger) (e : Event) (n : ℕ) (j u f : List ℕ) where
+  abbrev byTest : Tested → Verdict
+  byTest Tested.Ready = completed todaysShares l d e n (memoryOf j u f)
+  byTest (Refused a) = Left a
+
   decide-by : (v : Verdict) {r : Stepped} {j′ u′ f′ : List ℕ} → completionOf todaysShares l d e n (memoryOf j u f) ≡ v → Leaves (settle v l d e (memoryOf j u f)) r j′ u′ f′ → Deciding l d e n j u f r j′ u′ f′
   unfolding decideOf
   decide-by v {r} {j′} {u′} {f′} h s = subst (λ (x : Verdict). Leaves (settle x l d e (memoryOf j u f)) r j′ u′ f′) (sym h) s
 
-  decide-left : (a : Answer) (r : Stepped) → completionOf todaysShares l d e n (memoryOf j u f) ≡ Left a → r ≡ record { line = l; ledger = d; answer = a } → Deciding l d e n j u f r j u f
-  decide-left a r h s = decide-by (Left a) h (record { result = s; journal = refl; unfinished = refl; frames = refl })
+  -- 40, 41 and 42 are the tests of the deciding
+  completion-tested : completionOf todaysShares l d e n (memoryOf j u f) ≡ byTest (testOf l (e .line) n (length j) (length u) (length f))
+  unfolding completionOf testOf
+  completion-tested = by-tests (ltb (e .line) lines) (rightSizes j u f) (withinLimits l && textFits l n)
+    where
+      by-tests : (a b c : Bool) → unless a (Left NoLine) (unless b (Left WrongSize) (unless c (Left BeyondLimits) (completed todaysShares l d e n (memoryOf j u f))))
+          ≡ byTest (unless a (Refused NoLine) (unless b (Refused WrongSize) (unless c (Refused BeyondLimits) Tested.Ready)))
+      by-tests true true true = refl
+      by-tests true true false = refl
+      by-tests true false c = refl
+      by-tests false b c = refl
+
+  pub decide-refused : (a : Answer) → testOf l (e .line) n (length j) (length u) (length f) ≡ Refused a → Deciding l d e n j u f (record { line = l; ledger = d; answer = a }) j u f
+  decide-refused a h = decide-by (Left a) (completion-tested ∙ ap byTest h) (record { result = refl; journal = refl; unfinished = refl; frames = refl })
+
+  pub decide-work : (r : Stepped) (j′ u′ f′ : List ℕ) → testOf l (e .line) n (length j) (length u) (length f) ≡ Tested.Ready → Completing l d e n j u f r j′ u′ f′ → Deciding l d e n j u f r j′ u′ f′
+  decide-work r j′ u′ f′ h s = decide-by (completed todaysShares l d e n (memoryOf j u f)) (completion-tested ∙ ap byTest h) s
 
   module _ (r : Stepped) where
-    pub decide-no-line : lines ≤ e .line → r ≡ record { line = l; ledger = d; answer = NoLine } → Deciding l d e n j u f r j u f
-    unfolding completionOf
-    decide-no-line h s = decide-left NoLine r (rw (le-ltb (e .line) lines h)) s
-
-    pub decide-size : e .line < lines → rightLengths (length j) (length u) (length f) ≡ false → r ≡ record { line = l; ledger = d; answer = WrongSize } → Deciding l d e n j u f r j u f
-    unfolding completionOf
-    decide-size h k s = decide-left WrongSize r (rw (lt-ltb (e .line) lines h, k)) s
-
-    pub decide-beyond : e .line < lines → rightLengths (length j) (length u) (length f) ≡ true → withinLimits l && textFits l n ≡ false → r ≡ record { line = l; ledger = d; answer = BeyondLimits }
-        → Deciding l d e n j u f r j u f
-    unfolding completionOf
-    decide-beyond h k w s = decide-left BeyondLimits r (rw (lt-ltb (e .line) lines h, k, w)) s
-
-    pub decide-work : (j′ u′ f′ : List ℕ) → e .line < lines → rightLengths (length j) (length u) (length f) ≡ true → withinLimits l && textFits l n ≡ true → Completing l d e n j u f r j′ u′ f′
-        → Deciding l d e n j u f r j′ u′ f′
-    unfolding completionOf
-    decide-work j′ u′ f′ h k w s = decide-by (completed todaysShares l d e n (memoryOf j u f)) (rw (lt-ltb (e .line) lines h, k, w)) s
-
     -- what the decision and its row leave
-    pub decision-settled : (c : Decided) (k : Line) (a : Answer) (j′ u′ f′ : List ℕ) → Decision d (e .line) n (joinedText l n (textsOf (e .line) u) (framesOf (e .line) f)) j c j′
-        → Settled (c .verdict) (e .kind) l (e .line) u f k u′ f′ → a ≡ answerOf (c .verdict) → r ≡ record { line = k; ledger = c .ledger; answer = a } → Completing l d e n j u f r j′ u′ f′
+    pub decision-settled : (c : Decided) (k : Line) (a : Answer) (j′ u′ f′ : List ℕ) → Completion l d (e .line) n j u f c j′ u′
+        → Closed (c .outcome) (e .kind) l (e .line) f k f′ → ((m : ℕ) → a ≡ answerOf (outcomeVerdict (c .outcome) m)) → r ≡ record { line = k; ledger = c .ledger; answer = a } → Completing l d e n j u f r j′ u′ f′
     decision-settled c k a j′ u′ f′ t s p q =
         let text : ℕ → List ℕ = λ m. joinedText l m (textsOf (e .line) u) (framesOf (e .line) f) in
         let v : Verdict = decisionOf todaysShares d (e .line) n (text n) j in
         let (ledger, journal) = decision-text todaysShares d (e .line) n text j in
-        let booked : c .ledger ≡ ledgerAfter v d (e .line) text = t .ledger ∙ ledger in
+        let is : outcomeVerdict (c .outcome) n ≡ v = t .decision .verdict n in
+        let booked : c .ledger ≡ ledgerAfter v d (e .line) text = t .decision .ledger n ∙ ledger in
         record {
-          result = q ∙ rw (s .line, p, booked) (ap (λ (x : Verdict). record { line = lineAfter x l; ledger = ledgerAfter v d (e .line) text; answer = answerOf x }) (t .verdict));
-          journal = t .journal ∙ journal;
-          unfinished = s .texts ∙ ap (λ (x : Verdict). textsAfter x l (e .line) u f) (t .verdict);
-          frames = s .frames ∙ ap (λ (x : Verdict). framesAfter x (e .kind) l (e .line) f) (t .verdict);
+          result = q ∙ rw (s .line n, p n, booked) (ap (λ (x : Verdict). record { line = lineAfter x l; ledger = ledgerAfter v d (e .line) text; answer = answerOf x }) is);
+          journal = t .decision .journal n ∙ journal;
+          unfinished = t .unfinished ∙ ap (λ (x : Verdict). textsAfter x l (e .line) u f) is;
+          frames = s .frames n ∙ ap (λ (x : Verdict). framesAfter x (e .kind) l (e .line) f) is;
         }

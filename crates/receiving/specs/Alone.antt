@@ -13,7 +13,7 @@ use Rattle.line.specs.Line.{withinLimits}
 use Rattle.line.specs.declared.Line.{Line}
 use Rattle.line.specs.declared.Answer.the-variants.{NoLine, WrongSize, BeyondLimits}
 use Rattle.looking.specs.Views.{framesOf, textsOf, joinedText}
-use Rattle.looking.specs.Lent.{rightSizes}
+use Rattle.looking.specs.Lent.{rightLengths, rightSizes}
 use Rattle.looking.specs.Looks.{lookAlone}
 use Rattle.looking.specs.declared.Event.{Event}
 use Rattle.looking.specs.declared.Kind.{Kind}
@@ -26,6 +26,8 @@ use Rattle.receiving.specs.Settled.{lineAfter, framesAfter, textsAfter}
 use Rattle.receiving.specs.Steps.{Memory, memoryOf, AfterStep, settle, Leaves}
 use Rattle.receiving.specs.declared.Alone.{Alone}
 use Rattle.receiving.specs.declared.Stepped.{Stepped}
+use Rattle.receiving.specs.declared.completing.Tested.{Tested}
+use Rattle.receiving.specs.declared.completing.Tested.the-variants.{Refused}
 
 -- what a look leaves: the row of its verdict, or everything as it was where a message is complete
 abbrev pub lineAlone : Look → Line → Line
@@ -53,6 +55,14 @@ SteppingAlone l e journal u f r u′ f′ = LeavesAlone (lookAlone l e journal u
 -- n bytes of a frame's text lie in what the line has collected of it, and fit behind its joined text
 abbrev pub textFits : Line → ℕ → Bool
 textFits l n = leb (n + 5) (l .collected) && leb (l .joined + n) messageLimit
+
+-- 40, 41 and 42 of an event that is to complete a message; more bytes than the line has or has room for are beyond its limits
+unfoldable pub testOf : Line → ℕ → ℕ → ℕ → ℕ → ℕ → Tested
+testOf l i n journal unfinished frames =
+    unless (ltb i lines) (Refused NoLine)
+    (unless (rightLengths journal unfinished frames) (Refused WrongSize)
+    (unless (withinLimits l && textFits l n) (Refused BeyondLimits)
+    Tested.Ready))
 
 -- the decision on the text that the line has with n bytes of its frame
 abbrev pub completed : List ℕ → Line → Ledger → Event → ℕ → Memory → Verdict

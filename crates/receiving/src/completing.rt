@@ -4,11 +4,12 @@ ghost use mathlib.Core.Bool.{true};
 ghost use Rattle.line.specs.Line.{withinLimits};
 ghost use Rattle.looking.specs.Views.{Ready};
 ghost use Rattle.looking.specs.Fitting.{TextFits};
-ghost use Rattle.receiving.specs.Alone.{textFits, Completing};
+ghost use Rattle.receiving.specs.Alone.{textFits, testOf, Completing};
 use super::Stepped;
 use super::deciding;
 use super::settling;
 use journal::Ledger;
+use line::Answer;
 use line::Line;
 use looking::Event;
 
@@ -28,10 +29,10 @@ pub fn by_decision(
     let i = e.line as usize;
     let kind = e.kind;
     let decided = deciding::complete(line, ledger, i, n, journal, unfinished, frames);
-    let v = decided.verdict;
+    let outcome = decided.outcome;
     let booked = decided.ledger;
-    let after = settling::settle(line, i, kind, v, unfinished, frames);
-    let answer = v.answer();
+    let after = settling::close(line, i, kind, outcome, frames);
+    let answer = outcome.answer();
     Stepped {
         line: after,
         ledger: booked,
@@ -39,8 +40,39 @@ pub fn by_decision(
     }
 }
 
+// What 40, 41 and 42 say of an event that is to complete a message.
+pub enum Tested {
+    Ready,
+    Refused(Answer),
+}
+
+pub fn test(
+    line: Line,
+    i: usize,
+    n: usize,
+    journal: usize,
+    unfinished: usize,
+    frames: usize,
+) -> Tested
+    ensures { λ r. ⌜ r ≡ testOf line i n journal unfinished frames ⌝ }
+{
+    if memory::LINES <= i {
+        return Tested::Refused(Answer::NoLine);
+    }
+    if !looking::are_right(journal, unfinished, frames) {
+        return Tested::Refused(Answer::WrongSize);
+    }
+    if !line.is_within_limits() {
+        return Tested::Refused(Answer::BeyondLimits);
+    }
+    if !fits(line, n) {
+        return Tested::Refused(Answer::BeyondLimits);
+    }
+    Tested::Ready
+}
+
 // Whether n bytes of a frame's text lie in what the line has collected, and fit behind its joined text.
-pub fn fits(line: Line, n: usize) -> bool
+fn fits(line: Line, n: usize) -> bool
     requires { ⌜ withinLimits line ≡ true ⌝ }
     ensures { λ r. ⌜ r ≡ textFits line n ⌝ }
 {

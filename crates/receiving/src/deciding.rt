@@ -1,54 +1,77 @@
 // A message that is complete: the records, then the journal.
-ghost use Prim.Native.Nat.{_<_, _≤_};
+ghost use Prim.Native.Nat.{ℕ, _+_, _<_, _≤_};
+ghost use lib.ListN.{length};
 ghost use mathlib.Core.Path.{_≡_};
 ghost use Rattle.memory.specs.Sizes.{lines};
-ghost use Rattle.looking.specs.Views.{Ready, framesOf, textsOf, joinedText};
+ghost use Rattle.looking.specs.Views.{Ready};
 ghost use Rattle.looking.specs.Fitting.{TextFits};
+ghost use Rattle.looking.specs.Answers.{answerOf};
 ghost use Rattle.receiving.specs.Verdicts.{objectionTo, roomVerdict};
-ghost use Rattle.receiving.specs.Decided.{Decision};
+ghost use Rattle.receiving.specs.Decided.{outcomeVerdict, putBack, Decision, Completion};
+use super::settling;
 use journal::Ledger;
 use line::Answer;
 use line::Line;
-use looking::Verdict;
+
+// What a decision comes to: the message is stored or decided against, or everything is left as it was.
+pub enum Outcome {
+    Stored,
+    Against(Answer),
+    Left(Answer),
+}
 
 pub struct Decided {
-    pub verdict: Verdict,
+    pub outcome: Outcome,
     pub ledger: Ledger,
 }
 
-// Joins the two pieces of the line's text, and decides.
+// Joins the line's text where it lies, and decides. What it was written over is put back where everything is to be left.
 pub fn complete(
     line: Line,
     ledger: Ledger,
     i: usize,
     n: usize,
     journal: &mut [u8],
-    unfinished: &[u8],
+    unfinished: &mut [u8],
     frames: &[u8],
 ) -> Decided
     requires { ⌜ Ready line i (now unfinished) (now frames) × TextFits line n ⌝ }
-    ensures { λ r. ⌜ Decision ledger i n (joinedText line n (textsOf i (now (unfinished .entry))) (framesOf i (now (frames .entry)))) (now (journal .entry)) r (now (journal .exit)) ⌝ }
+    ensures { λ r. ⌜ Completion line ledger i n (now (journal .entry)) (now (unfinished .entry)) (now (frames .entry)) r (now (journal .exit)) (now (unfinished .exit)) ⌝ }
 {
-    let joined = line.joined as usize;
-    let text = i * memory::MESSAGE_LIMIT;
-    let text_end = text + joined;
-    let start = i * memory::FRAME_PART + 1;
-    let stop = start + n;
-    let mut whole = [0u8; memory::MESSAGE_LIMIT];
-    memory::copy(&mut whole, &unfinished[text..text_end]);
-    memory::copy_at(&mut whole, joined, &frames[start..stop]);
-    let size = joined + n;
-    decide(ledger, i, n, &whole[..size], journal)
+    let start = i * memory::MESSAGE_LIMIT;
+    let at = start + line.joined as usize;
+    let end = at + n;
+    let mut old = [0u8; memory::FRAME_PART];
+    memory::copy(&mut old, &unfinished[at..end]);
+    settling::write_text(line, i, n, unfinished, frames);
+    let decided = decide(ledger, i, &unfinished[start..end], journal);
+    let outcome = decided.outcome;
+    put_back(outcome, at, &old[..n], unfinished);
+    decided
 }
 
-// The storing judges and stores in one: nothing else is written before its verdict is known.
-fn decide(ledger: Ledger, i: usize, n: usize, text: &[u8], journal: &mut [u8]) -> Decided
+// The old bytes stand in their place again where everything is left.
+fn put_back(outcome: Outcome, at: usize, old: &[u8], unfinished: &mut [u8])
+    requires { ⌜ at + length (now old) ≤ length (now unfinished) ⌝ }
+    ensures { λ _. ⌜ now (unfinished .exit) ≡ putBack outcome at (now (old .entry)) (now (unfinished .entry)) ⌝ }
+{
+    match outcome {
+        Outcome::Stored => {}
+        Outcome::Against(_) => {}
+        Outcome::Left(_) => {
+            memory::copy_at(unfinished, at, old);
+        }
+    }
+}
+
+// The storing judges and stores in one.
+fn decide(ledger: Ledger, i: usize, text: &[u8], journal: &mut [u8]) -> Decided
     requires { ⌜ i < lines ⌝ }
-    ensures { λ r. ⌜ Decision ledger i n (now (text .entry)) (now (journal .entry)) r (now (journal .exit)) ⌝ }
+    ensures { λ r. ⌜ Decision ledger i (now (text .entry)) (now (journal .entry)) r (now (journal .exit)) ⌝ }
 {
     if !message::is_message(text) {
         return Decided {
-            verdict: Verdict::Against(objection(text), n),
+            outcome: Outcome::Against(objection(text)),
             ledger,
         };
     }
@@ -56,7 +79,7 @@ fn decide(ledger: Ledger, i: usize, n: usize, text: &[u8], journal: &mut [u8]) -
     let after = stored.ledger;
     let answer = stored.answer;
     Decided {
-        verdict: by_room(answer, n),
+        outcome: by_room(answer),
         ledger: after,
     }
 }
@@ -69,15 +92,28 @@ fn objection(text: &[u8]) -> Answer
 }
 
 // What the journal's answer comes to.
-fn by_room(answer: journal::Verdict, n: usize) -> Verdict
-    ensures { λ r. ⌜ r ≡ roomVerdict answer n ⌝ }
+fn by_room(answer: journal::Verdict) -> Outcome
+    ensures { λ r. ⌜ ((n : ℕ) → outcomeVerdict r n ≡ roomVerdict answer n) ⌝ }
 {
     match answer {
-        journal::Verdict::Fits => Verdict::Stores(n),
-        journal::Verdict::NoRoom => Verdict::Against(Answer::NoRoom, n),
-        journal::Verdict::Broken => Verdict::Left(Answer::Broken),
-        journal::Verdict::NoLine => Verdict::Left(Answer::NoLine),
-        journal::Verdict::WrongSize => Verdict::Left(Answer::WrongSize),
-        journal::Verdict::Malformed => Verdict::Against(Answer::NoMessage, n),
+        journal::Verdict::Fits => Outcome::Stored,
+        journal::Verdict::NoRoom => Outcome::Against(Answer::NoRoom),
+        journal::Verdict::Broken => Outcome::Left(Answer::Broken),
+        journal::Verdict::NoLine => Outcome::Left(Answer::NoLine),
+        journal::Verdict::WrongSize => Outcome::Left(Answer::WrongSize),
+        journal::Verdict::Malformed => Outcome::Against(Answer::NoMessage),
+    }
+}
+
+impl Outcome {
+    // The answer that an outcome gives.
+    pub fn answer(self) -> Answer
+        ensures { λ r. ⌜ ((n : ℕ) → r ≡ answerOf (outcomeVerdict self n)) ⌝ }
+    {
+        match self {
+            Outcome::Stored => Answer::Stored,
+            Outcome::Against(a) => a,
+            Outcome::Left(a) => a,
+        }
     }
 }

@@ -1,6 +1,7 @@
 // One event on one line in two parts, each look and then act: the line alone, and the deciding of a complete message.
 ghost use mathlib.Core.Path.{_≡_};
 ghost use Rattle.receiving.specs.Alone.{SteppingAlone, Deciding};
+use completing::Tested;
 use journal::Ledger;
 use line::Answer;
 use line::Line;
@@ -9,7 +10,7 @@ use looking::Look;
 
 mod completing; // completing.rt: a complete message decided, and what is left after that
 mod deciding; // deciding.rt: its decision
-mod settling; // settling.rt: what is left after a verdict
+mod settling; // settling.rt: what a look and a decision leave
 
 // The line's record and the ledger after an event, with its answer.
 pub struct Stepped {
@@ -58,28 +59,13 @@ pub fn decide(
 ) -> Stepped
     ensures { λ r. ⌜ Deciding line ledger e n (now (journal .entry)) (now (unfinished .entry)) (now (frames .entry)) r (now (journal .exit)) (now (unfinished .exit)) (now (frames .exit)) ⌝ }
 {
-    if memory::LINES <= e.line as usize {
-        return left(line, ledger, Answer::NoLine);
-    }
-    if !looking::are_right(journal.len(), unfinished.len(), frames.len()) {
-        return left(line, ledger, Answer::WrongSize);
-    }
-    if !line.is_within_limits() {
-        return left(line, ledger, Answer::BeyondLimits);
-    }
-    if !completing::fits(line, n) {
-        return left(line, ledger, Answer::BeyondLimits);
-    }
-    completing::by_decision(line, ledger, e, n, journal, unfinished, frames)
-}
-
-// Nothing changed.
-fn left(line: Line, ledger: Ledger, answer: Answer) -> Stepped
-    ensures { λ r. ⌜ r ≡ record { line = line; ledger = ledger; answer = answer } ⌝ }
-{
-    Stepped {
-        line,
-        ledger,
-        answer,
+    let i = e.line as usize;
+    match completing::test(line, i, n, journal.len(), unfinished.len(), frames.len()) {
+        Tested::Ready => completing::by_decision(line, ledger, e, n, journal, unfinished, frames),
+        Tested::Refused(answer) => Stepped {
+            line,
+            ledger,
+            answer,
+        },
     }
 }

@@ -1,17 +1,21 @@
-// What is left after a verdict, row by row.
+// What is left after a look and after a decision, row by row.
 ghost use mathlib.Core.Path.{_≡_};
 ghost use mathlib.Core.Bool.{true};
-ghost use Prim.Native.Nat.{_<_};
+ghost use Prim.Native.Nat.{_+_, _<_};
 ghost use lib.ListN.{length};
 ghost use Rattle.memory.specs.Sizes.{lines, framesSize};
-ghost use Rattle.line.specs.Line.{withinLimits};
+ghost use Rattle.line.specs.Line.{withinLimits, collectedLine, waitingLine};
 ghost use Rattle.looking.specs.Views.{Ready};
-ghost use Rattle.looking.specs.Fitting.{TextFits, Fitting, writes};
+ghost use Rattle.looking.specs.Fitting.{TextFits, Fitting, Quiet, writes};
+ghost use Rattle.looking.specs.declared.Verdict.the-variants.{Accepts};
 ghost use Rattle.receiving.specs.Settled.{withByte, withText, Settled};
+ghost use Rattle.receiving.specs.Decided.{Closed};
+use super::deciding::Outcome;
 use line::Line;
 use looking::Kind;
 use looking::Verdict;
 
+// What a look leaves.
 pub fn settle(
     line: Line,
     i: usize,
@@ -20,7 +24,7 @@ pub fn settle(
     unfinished: &mut [u8],
     frames: &mut [u8],
 ) -> Line
-    requires { ⌜ Fitting v line × (writes v ≡ true → Ready line i (now unfinished) (now frames)) ⌝ }
+    requires { ⌜ Fitting v line × Quiet v × (writes v ≡ true → Ready line i (now unfinished) (now frames)) ⌝ }
     ensures { λ r. ⌜ Settled v kind line i (now (unfinished .entry)) (now (frames .entry)) r (now (unfinished .exit)) (now (frames .exit)) ⌝ }
 {
     match v {
@@ -29,29 +33,61 @@ pub fn settle(
         Verdict::Closes(_) => line.closed(),
         Verdict::Begins => line.begun(),
         Verdict::Counts(n) => line.with_seconds(n),
-        Verdict::Collects => {
-            add_byte(line, i, kind, frames);
-            line.with_collected(line.collected + 1)
-        }
-        Verdict::Refuses(_) => {
-            add_byte(line, i, kind, frames);
-            line.waiting()
-        }
-        Verdict::Accepts(n) => {
-            write_text(line, i, n, unfinished, frames);
-            add_byte(line, i, kind, frames);
-            line.accepted((line.joined as usize + n) as u16)
-        }
-        Verdict::Stores(n) => {
-            write_text(line, i, n, unfinished, frames);
+        Verdict::Collects => collect(line, i, kind, frames),
+        Verdict::Refuses(_) => refuse(line, i, kind, frames),
+        Verdict::Accepts(n) => accept(line, i, kind, n, unfinished, frames),
+        Verdict::Stores(_) => line, // no look comes to these two: `close` has their rows
+        Verdict::Against(_, _) => line,
+    }
+}
+
+fn collect(line: Line, i: usize, kind: Kind, frames: &mut [u8]) -> Line
+    requires { ⌜ (i < lines) × (withinLimits line ≡ true) × (length (now frames) ≡ framesSize) ⌝ }
+    ensures { λ r. ⌜ (r ≡ collectedLine line (line .collected + 1)) × (now (frames .exit) ≡ withByte kind line i (now (frames .entry))) ⌝ }
+{
+    add_byte(line, i, kind, frames);
+    line.with_collected(line.collected + 1)
+}
+
+fn refuse(line: Line, i: usize, kind: Kind, frames: &mut [u8]) -> Line
+    requires { ⌜ (i < lines) × (withinLimits line ≡ true) × (length (now frames) ≡ framesSize) ⌝ }
+    ensures { λ r. ⌜ (r ≡ waitingLine line) × (now (frames .exit) ≡ withByte kind line i (now (frames .entry))) ⌝ }
+{
+    add_byte(line, i, kind, frames);
+    line.waiting()
+}
+
+fn accept(
+    line: Line,
+    i: usize,
+    kind: Kind,
+    n: usize,
+    unfinished: &mut [u8],
+    frames: &mut [u8],
+) -> Line
+    requires { ⌜ Ready line i (now unfinished) (now frames) × TextFits line n ⌝ }
+    ensures { λ r. ⌜ Settled (Accepts n) kind line i (now (unfinished .entry)) (now (frames .entry)) r (now (unfinished .exit)) (now (frames .exit)) ⌝ }
+{
+    write_text(line, i, n, unfinished, frames);
+    add_byte(line, i, kind, frames);
+    line.accepted((line.joined as usize + n) as u16)
+}
+
+// What a decision leaves beside the text, which is written already.
+pub fn close(line: Line, i: usize, kind: Kind, outcome: Outcome, frames: &mut [u8]) -> Line
+    requires { ⌜ (i < lines) × (withinLimits line ≡ true) × (length (now frames) ≡ framesSize) ⌝ }
+    ensures { λ r. ⌜ Closed outcome kind line i (now (frames .entry)) r (now (frames .exit)) ⌝ }
+{
+    match outcome {
+        Outcome::Stored => {
             add_byte(line, i, kind, frames);
             line.accepted(0)
         }
-        Verdict::Against(_, n) => {
-            write_text(line, i, n, unfinished, frames);
+        Outcome::Against(_) => {
             add_byte(line, i, kind, frames);
             line.against()
         }
+        Outcome::Left(_) => line,
     }
 }
 
@@ -70,7 +106,7 @@ fn add_byte(line: Line, i: usize, kind: Kind, frames: &mut [u8])
 }
 
 // The frame's text behind the joined text: the part from there on is lent to the copier.
-fn write_text(line: Line, i: usize, n: usize, unfinished: &mut [u8], frames: &[u8])
+pub fn write_text(line: Line, i: usize, n: usize, unfinished: &mut [u8], frames: &[u8])
     requires { ⌜ Ready line i (now unfinished) (now frames) × TextFits line n ⌝ }
     ensures { λ _. ⌜ now (unfinished .exit) ≡ withText line i n (now (unfinished .entry)) (now (frames .entry)) ⌝ }
 {

@@ -25,7 +25,7 @@ settle-requires c κs =
     let looked = told .before .before in
     let a = entry looked .args in
     let act = subst (λ (k : Look). Acts k (a .line) (a .e .line) (now (a .unfinished)) (now (a .frames))) (told .look .given .1) (acts looked) in
-    (act .0, act .2)
+    act
 
 returns : tie.Need-returns
 returns c =

@@ -12,7 +12,7 @@ returns : tie.Need-returns
 returns c =
     let t = c .before .before in
     let a = t .before .before .before .args in
-    no-message (a .ledger) (a .i) (a .n) (now (a .text)) (now (a .journal)) _ (c .objection .ensures) (sym (t .is-message .ensures) ∙ not-true _ (c .before .if1 .taken))
+    no-message (a .ledger) (a .i) (now (a .text)) (now (a .journal)) _ (c .objection .ensures) (sym (t .is-message .ensures) ∙ not-true _ (c .before .if1 .taken))
 
 returns-2 : tie.Need-returns-2
 returns-2 c =
@@ -20,8 +20,7 @@ returns-2 c =
     let h = s .before .before in
     let t = h .before .before in
     let a = t .before .before .before .args in
-    by-store (a .ledger) (a .i) (a .n) (now (a .text)) (now (a .journal)) _ _ _ (sym (t .is-message .ensures) ∙ not-false _ (h .before .if1 .left)) (rw (h .shares .ensures) at (s .store .ensures))
-    (c .by-room .ensures)
+    by-store (a .ledger) (a .i) (now (a .text)) (now (a .journal)) _ _ _ (sym (t .is-message .ensures) ∙ not-false _ (h .before .if1 .left)) (rw (h .shares .ensures) at (s .store .ensures)) (c .by-room .ensures)
 
 pub decide-spec : {M : Type 1} → statement M
 decide-spec =
