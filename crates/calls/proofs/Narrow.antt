@@ -34,7 +34,7 @@ use Rattle.receiving.specs.Steps.{Memory}
 use Rattle.receiving.specs.Alone.{textFits, completed, completionOf, decideOf}
 use Rattle.looking.specs.declared.Event.{Event}
 use Rattle.looking.specs.declared.Verdict.the-variants.{Left, Against}
-use Rattle.line.specs.declared.Answer.the-variants.{NoLine, WrongSize, BeyondLimits}
+use Rattle.answers.specs.declared.Answer.the-variants.{NoLine, WrongSize, BeyondLimits}
 
 -- d's bytes in use fit into 32 bits
 abbrev pub Narrow : Ledger → Type 0

@@ -13,8 +13,8 @@ use Rattle.memory.proofs.Tests.{and-left, and-right, clash}
 use Rattle.characters.specs.Control.{lf, stx}
 use Rattle.room.specs.Room.{todaysShares}
 use Rattle.line.specs.Line.{mostCollected}
-use Rattle.line.specs.declared.Answer.{Answer}
-use Rattle.line.specs.declared.Answer.the-variants.{Nothing, NoLine, WrongSize, BeyondLimits}
+use Rattle.answers.specs.declared.Answer.{Answer}
+use Rattle.answers.specs.declared.Answer.the-variants.{Nothing, NoLine, WrongSize, BeyondLimits}
 use Rattle.line.specs.declared.Line.{Line}
 use Rattle.looking.specs.Views.{frameStart}
 use Rattle.looking.specs.Looks.{byteLook, insideLook, waitingLook}

@@ -10,8 +10,8 @@ use Rattle.memory.specs.Tests.{unless}
 use Rattle.room.specs.Room.{todaysShares}
 use Rattle.journal.specs.Removal.{AfterTaking, takeOf}
 use Rattle.line.specs.declared.Line.{Line}
-use Rattle.line.specs.declared.Answer.{Answer}
-use Rattle.line.specs.declared.Answer.the-variants.{NoLine, WrongSize, BeyondLimits}
+use Rattle.answers.specs.declared.Answer.{Answer}
+use Rattle.answers.specs.declared.Answer.the-variants.{NoLine, WrongSize, BeyondLimits}
 use Rattle.looking.specs.Lent.{rightSizes}
 use Rattle.receiving.specs.Steps.{Memory, memoryOf, AfterStep, stepOf}
 use Rattle.receiving.specs.Alone.{decideOf}

@@ -13,7 +13,7 @@ ghost use Rattle.memory.specs.Sizes.{lines};
 ghost use Rattle.calls.specs.Plain.{withinNumbers};
 ghost use Rattle.calls.specs.Layout.{layout};
 ghost use Rattle.calls.specs.Calls.{Calling, Stepping, Deciding, Taken, Fresh};
-use line::Answer;
+use answers::Answer;
 use line::Line;
 use looking::Event;
 use looking::Kind;

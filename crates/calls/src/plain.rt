@@ -12,10 +12,10 @@ use characters::LF;
 use characters::STX;
 use journal::Ledger;
 use journal::Took;
-use line::Answer;
+use answers::Answer;
 use line::Last;
 use line::Line;
-use line::Reply;
+use answers::Reply;
 use line::State;
 use looking::Kind;
 

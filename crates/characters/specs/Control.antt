@@ -1,4 +1,4 @@
--- The control bytes of E1381 that stand in a frame.
+-- The control bytes of E1381 that analyzers send: those that stand in a frame, and ENQ and EOT, which begin and end a transfer.
 -- Assumes nothing.
 use Prim.Native.Nat.{ℕ}
 
@@ -7,6 +7,12 @@ stx = 0x02
 
 abbrev pub etx : ℕ
 etx = 0x03
+
+abbrev pub eot : ℕ
+eot = 0x04
+
+abbrev pub enq : ℕ
+enq = 0x05
 
 abbrev pub lf : ℕ
 lf = 0x0a

@@ -1,4 +1,4 @@
-// The bytes of E1381 and E1394: the control bytes of a frame, and which bytes a text may have.
+// The bytes of E1381 and E1394: the control bytes, and which bytes a text may have.
 ghost use mathlib.Core.Path.{_≡_};
 ghost use mathlib.Core.Bool.{not};
 ghost use lib.ListN.{getD};
@@ -10,6 +10,10 @@ mod plain; // plain.rt: texts of plain bytes
 pub const STX: u8 = 0x02;
 
 pub const ETX: u8 = 0x03;
+
+pub const EOT: u8 = 0x04;
+
+pub const ENQ: u8 = 0x05;
 
 pub const LF: u8 = 0x0a;
 

@@ -8,8 +8,8 @@ use lib.ListN.{set}
 use Rattle.memory.specs.Sizes.{lines}
 use Rattle.journal.specs.Removal.{TakenFrom}
 use Rattle.journal.specs.declared.Taking.{Taking as Took}
-use Rattle.line.specs.declared.Answer.{Answer}
-use Rattle.line.specs.declared.Answer.the-variants.{NoLine}
+use Rattle.answers.specs.declared.Answer.{Answer}
+use Rattle.answers.specs.declared.Answer.the-variants.{NoLine}
 use Rattle.looking.specs.declared.Event.{Event}
 use Rattle.receiving.specs.Steps.{Stepping}
 use Rattle.receiving.specs.declared.Stepped.{Stepped}

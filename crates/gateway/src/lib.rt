@@ -3,7 +3,7 @@ ghost use mathlib.Core.Path.{_≡_};
 ghost use Rattle.gateway.specs.Events.{freshGateway, Handling, Taking, tookAnswer};
 use journal::Ledger;
 use journal::Took;
-use line::Answer;
+use answers::Answer;
 use line::Line;
 use looking::Event;
 

@@ -12,8 +12,8 @@ use Rattle.memory.specs.Tests.{unless}
 use Rattle.journal.specs.declared.Ledger.{Ledger}
 use Rattle.line.specs.Line.{withinLimits}
 use Rattle.line.specs.declared.Line.{Line}
-use Rattle.line.specs.declared.Answer.{Answer}
-use Rattle.line.specs.declared.Answer.the-variants.{NoLine, WrongSize, BeyondLimits}
+use Rattle.answers.specs.declared.Answer.{Answer}
+use Rattle.answers.specs.declared.Answer.the-variants.{NoLine, WrongSize, BeyondLimits}
 use Rattle.looking.specs.Views.{framesOf, textsOf, joinedText, Ready}
 use Rattle.looking.specs.Looks.{lookOf}
 use Rattle.receiving.specs.Verdicts.{decided, ownWork, workOf, verdictOf}

@@ -16,8 +16,8 @@ use Rattle.journal.specs.Storage.{grown, appended}
 use Rattle.journal.specs.declared.Ledger.{Ledger}
 use Rattle.line.specs.Line.{withinLimits, waitingLine}
 use Rattle.line.specs.declared.Line.{Line}
-use Rattle.line.specs.declared.Answer.{Answer}
-use Rattle.line.specs.declared.Answer.the-variants.{Nothing, Stored, NoLine}
+use Rattle.answers.specs.declared.Answer.{Answer}
+use Rattle.answers.specs.declared.Answer.the-variants.{Nothing, Stored, NoLine}
 use Rattle.line.proofs.Limits.{Within, within-facts, within-of, opened-within, closed-within, begun-within, collected-within, counted-within, waiting-within, accepted-within, refusing-within}
 use Rattle.looking.specs.Views.{framesOf, textsOf, joinedText}
 use Rattle.looking.specs.Looks.{lookOf}

@@ -8,7 +8,7 @@ use Rattle.memory.specs.Parts.{splice}
 use Rattle.journal.specs.Storage.{grown, appended}
 use Rattle.journal.specs.declared.Ledger.{Ledger}
 use Rattle.line.specs.declared.Line.{Line}
-use Rattle.line.specs.declared.Answer.{Answer}
+use Rattle.answers.specs.declared.Answer.{Answer}
 use Rattle.looking.specs.Views.{framesOf, textsOf, frameText}
 use Rattle.receiving.specs.Settled.{withByte, withText, framesAfter, textsAfter, ledgerAfter, journalAfter}
 use Rattle.looking.specs.Fitting.{TextFits, Fitting}

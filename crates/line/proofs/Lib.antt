@@ -1,4 +1,3 @@
-pub mod Paper
 pub mod Limits
 pub mod Closed
 pub mod Turns

@@ -1,4 +1,3 @@
 pub mod Line
 pub mod Seconds
 pub mod Turn
-pub mod Paper

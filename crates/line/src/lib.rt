@@ -1,17 +1,8 @@
-// The record of a serial line, what an event makes of it by value, and the answers of document 01.
+// The record of a serial line, and what an event makes of it by value.
 ghost use mathlib.Core.Path.{_≡_};
 ghost use Rattle.line.specs.Line.{freshLine, openedLine, closedLine, withinLimits, begunLine, collectedLine, countedLine, waitingLine, acceptedLine, refusingLine};
 ghost use Rattle.line.specs.Seconds.{passedOf};
 ghost use Rattle.line.specs.Turn.{isLast, turnOf};
-ghost use Rattle.line.specs.Paper.{numberOf, replyOf};
-
-pub const ENQ: u8 = 0x05;
-
-pub const EOT: u8 = 0x04;
-
-pub const ACK: u8 = 0x06;
-
-pub const NAK: u8 = 0x15;
 
 // Between transfers, between frames, or inside a frame.
 pub enum State {
@@ -35,45 +26,6 @@ pub struct Line {
     pub next: u8,
     pub last: Last,
     pub refusing: bool,
-}
-
-// The answers of document 01's table, in its order; `number` gives each its number.
-pub enum Answer {
-    Nothing,
-    Opened,
-    Accepted,
-    Repeated,
-    Stored,
-    Ended,
-    Dropped,
-    TimedOut,
-    Taken(usize, u16),
-    Busy,
-    Unended,
-    Torn,
-    WrongCheck,
-    BadText,
-    BadNumber,
-    Refusing,
-    OutOfTurn,
-    TooLong,
-    NoCr,
-    NoMessage,
-    NoRoom,
-    NoLine,
-    WrongSize,
-    BeyondLimits,
-    Broken,
-    NothingWaiting,
-    BufferShort,
-    Malformed,
-    NotFitting,
-}
-
-// The byte sent back to the analyzer, if any.
-pub enum Reply {
-    Silence,
-    Byte(u8),
 }
 
 // What a line's seconds come to: a count below 30, or the time has run out.
@@ -290,69 +242,4 @@ fn is_number(last: Last, number: u8) -> bool
         Last::NoneYet => false,
         Last::Number(n) => n == number,
     }
-}
-
-impl Answer {
-    // The answer's number in document 01's table.
-    pub fn number(self) -> u8
-        ensures { λ r. ⌜ r ≡ numberOf self ⌝ }
-    {
-        match self {
-            Answer::Nothing => 0,
-            Answer::Opened => 1,
-            Answer::Accepted => 2,
-            Answer::Repeated => 3,
-            Answer::Stored => 4,
-            Answer::Ended => 5,
-            Answer::Dropped => 6,
-            Answer::TimedOut => 7,
-            Answer::Taken(_, _) => 8,
-            Answer::Busy => 20,
-            Answer::Unended => 21,
-            Answer::Torn => 22,
-            Answer::WrongCheck => 23,
-            Answer::BadText => 24,
-            Answer::BadNumber => 25,
-            Answer::Refusing => 26,
-            Answer::OutOfTurn => 27,
-            Answer::TooLong => 28,
-            Answer::NoCr => 29,
-            Answer::NoMessage => 30,
-            Answer::NoRoom => 31,
-            Answer::NoLine => 40,
-            Answer::WrongSize => 41,
-            Answer::BeyondLimits => 42,
-            Answer::Broken => 43,
-            Answer::NothingWaiting => 44,
-            Answer::BufferShort => 45,
-            Answer::Malformed => 46,
-            Answer::NotFitting => 47,
-        }
-    }
-
-    // The byte that the table sends back.
-    pub fn reply(self) -> Reply
-        ensures { λ r. ⌜ r ≡ replyOf (numberOf self) ⌝ }
-    {
-        reply_to(self.number())
-    }
-}
-
-// The byte that the table sends back with a number.
-pub fn reply_to(number: u8) -> Reply
-    ensures { λ r. ⌜ r ≡ replyOf number ⌝ }
-{
-    if number < 1 {
-        return Reply::Silence;
-    }
-    if number <= 4 {
-        return Reply::Byte(ACK);
-    }
-    if number < 20 {
-        return Reply::Silence;
-    }
-    if number <= 31 {
-        return Reply::Byte(NAK);
-    }
-    Reply::Silence
 }

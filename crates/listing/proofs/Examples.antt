@@ -4,7 +4,7 @@ use mathlib.Core.Path.{_≡_, refl}
 use mathlib.Core.List.{List, [], _∷_, _++_, map}
 use Prim.Native.Nat.{ℕ}
 use Rattle.digits.specs.Check.{hexDigit, digitsOf}
-use Rattle.line.specs.Paper.{replyOf}
+use Rattle.answers.specs.Paper.{replyOf}
 use Rattle.looking.specs.declared.Kind.the-variants.{Byte, Seconds}
 use Rattle.decimal.specs.Decimal.{digitsIn, decimalOf}
 use Rattle.listing.specs.Items.{hexValue, amountOf, eventOn, byteItem, secondsItem, takingItem, operandOf, isLaidOut, itemOf}

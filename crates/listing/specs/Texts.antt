@@ -9,9 +9,9 @@ use Rattle.memory.specs.Moves.{fitsAt, copied}
 use Rattle.memory.specs.Tests.{is}
 use Rattle.digits.specs.Check.{digitsOf}
 use Rattle.digits.specs.declared.Digits.{Digits}
-use Rattle.line.specs.Paper.{replyOf}
-use Rattle.line.specs.declared.Reply.{Reply}
-use Rattle.line.specs.declared.Reply.the-variants.{Silence, Byte}
+use Rattle.answers.specs.Paper.{replyOf}
+use Rattle.answers.specs.declared.Reply.{Reply}
+use Rattle.answers.specs.declared.Reply.the-variants.{Silence, Byte}
 use Rattle.decimal.specs.Decimal.{decimalOf}
 use Rattle.listing.specs.declared.Written.{Written}
 use Rattle.listing.specs.declared.Written.the-variants.{To, NotFitting}

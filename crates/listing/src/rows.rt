@@ -6,7 +6,7 @@ ghost use lib.ListN.{length};
 ghost use Rattle.memory.specs.Parts.{splice};
 ghost use Rattle.listing.specs.Texts.{wordText, lastText, noDigits, replyDigits, rowText};
 use digits::Digits;
-use line::Reply;
+use answers::Reply;
 
 // The answer to a taking that took an entry: its row shows the entry's length.
 const TAKEN: u8 = 8;
@@ -86,7 +86,7 @@ fn put_last(number: u8, taken: usize, out: &mut [u8], at: usize) -> usize
 fn reply_digits(number: u8) -> Digits
     ensures { λ r. ⌜ r ≡ replyDigits number ⌝ }
 {
-    let reply = line::reply_to(number);
+    let reply = answers::reply_to(number);
     match reply {
         Reply::Silence => dashes(),
         Reply::Byte(b) => digits::check_digits(b),

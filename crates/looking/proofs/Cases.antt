@@ -20,9 +20,9 @@ use Rattle.records.specs.Records.{endsWithCr, endsWithL}
 use Rattle.line.specs.Line.{mostCollected, mostSeconds}
 use Rattle.line.specs.Seconds.{passedOf}
 use Rattle.line.specs.Turn.{turnOf}
-use Rattle.line.specs.Paper.{enq, eot}
+use Rattle.characters.specs.Control.{enq, eot}
 use Rattle.line.specs.declared.Line.{Line}
-use Rattle.line.specs.declared.Answer.the-variants.{Nothing, Repeated, Ended, Dropped, TimedOut, Busy, Unended, Torn, WrongCheck, BadText, BadNumber, Refusing, OutOfTurn, TooLong, NoCr}
+use Rattle.answers.specs.declared.Answer.the-variants.{Nothing, Repeated, Ended, Dropped, TimedOut, Busy, Unended, Torn, WrongCheck, BadText, BadNumber, Refusing, OutOfTurn, TooLong, NoCr}
 use Rattle.line.specs.declared.State.{State}
 use Rattle.line.specs.declared.State.the-variants.{Neutral, Waiting, Inside}
 use Rattle.line.specs.declared.Passed.the-variants.{Counted, RanOut}

@@ -7,7 +7,7 @@ use Rattle.line.specs.Seconds.{passedOf}
 use Rattle.line.specs.declared.Line.{Line}
 use Rattle.line.specs.declared.State.{State}
 use Rattle.line.specs.declared.State.the-variants.{Neutral, Waiting, Inside}
-use Rattle.line.specs.declared.Answer.the-variants.{Nothing}
+use Rattle.answers.specs.declared.Answer.the-variants.{Nothing}
 use Rattle.looking.specs.Looks.{neutralLook, waitingLook, insideLook, byState, byteLook, passedLook, secondsLook}
 use Rattle.looking.specs.declared.Look.the-variants.{Done}
 use Rattle.looking.specs.declared.Verdict.the-variants.{Left}

@@ -17,7 +17,7 @@ use Rattle.records.specs.Records.{endsWithCr, endsWithL}
 use Rattle.line.specs.Line.{mostCollected, withinLimits}
 use Rattle.line.specs.Seconds.{passedOf}
 use Rattle.line.specs.Turn.{turnOf}
-use Rattle.line.specs.Paper.{enq, eot}
+use Rattle.characters.specs.Control.{enq, eot}
 use Rattle.line.specs.declared.Line.{Line}
 use Rattle.line.specs.declared.State.{State}
 use Rattle.line.specs.declared.State.the-variants.{Neutral, Waiting, Inside}
@@ -25,7 +25,7 @@ use Rattle.line.specs.declared.Passed.{Passed}
 use Rattle.line.specs.declared.Passed.the-variants.{Counted, RanOut}
 use Rattle.line.specs.declared.Turn.{Turn}
 use Rattle.line.specs.declared.Turn.the-variants.{Refused, Again, Missed, Overlong, InTurn}
-use Rattle.line.specs.declared.Answer.the-variants.{Nothing, Repeated, Ended, Dropped, TimedOut, Busy, Unended, Torn, WrongCheck, BadText, BadNumber, Refusing, OutOfTurn, TooLong, NoCr, NoLine, WrongSize, BeyondLimits}
+use Rattle.answers.specs.declared.Answer.the-variants.{Nothing, Repeated, Ended, Dropped, TimedOut, Busy, Unended, Torn, WrongCheck, BadText, BadNumber, Refusing, OutOfTurn, TooLong, NoCr, NoLine, WrongSize, BeyondLimits}
 use Rattle.looking.specs.Views.{frameBytes, joinedText, framesOf, textsOf}
 use Rattle.looking.specs.Lent.{rightLengths}
 use Rattle.looking.specs.declared.Event.{Event}

@@ -9,7 +9,7 @@ use super::Look;
 use super::Verdict;
 use frame::End;
 use frame::Shape;
-use line::Answer;
+use answers::Answer;
 use line::Line;
 use line::Turn;
 use records::Ending;

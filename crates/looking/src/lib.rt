@@ -3,7 +3,7 @@ ghost use mathlib.Core.Path.{_≡_};
 ghost use Rattle.looking.specs.Lent.{rightLengths};
 ghost use Rattle.looking.specs.Looks.{lookAlone};
 ghost use Rattle.looking.specs.Answers.{answerOf};
-use line::Answer;
+use answers::Answer;
 use line::Line;
 
 mod judging; // judging.rt: the frame that a byte ends

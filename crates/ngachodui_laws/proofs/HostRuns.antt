@@ -9,10 +9,10 @@ use Rattle.memory.specs.Sizes.{lines}
 use Rattle.memory.specs.Tests.{unless}
 use Rattle.memory.proofs.Tests.{clash}
 use Rattle.room.specs.Room.{todaysShares}
-use Rattle.line.specs.Paper.{numberOf, valuesOf}
-use Rattle.line.specs.declared.Answer.{Answer}
-use Rattle.line.specs.declared.Answer.the-variants.{NoLine}
-use Rattle.line.proofs.Paper.{every-answer}
+use Rattle.answers.specs.Paper.{numberOf, valuesOf}
+use Rattle.answers.specs.declared.Answer.{Answer}
+use Rattle.answers.specs.declared.Answer.the-variants.{NoLine}
+use Rattle.answers.proofs.Paper.{every-answer}
 use Rattle.receiving.specs.Verdicts.{verdictOf}
 use Rattle.receiving.specs.Steps.{Memory, stepOf}
 use Rattle.gateway.specs.Events.{lineAt, putBack, freshGateway, eventOf}

@@ -15,9 +15,9 @@ use Rattle.room.specs.Room.{todaysShares}
 use Rattle.journal.specs.Removal.{AfterTaking, takeOf as takeEntry}
 use Rattle.journal.specs.declared.Took.{Took}
 use Rattle.line.specs.Line.{mostCollected}
-use Rattle.line.specs.Paper.{replyOf}
-use Rattle.line.specs.declared.Answer.{Answer}
-use Rattle.line.specs.declared.Answer.the-variants.{WrongSize}
+use Rattle.answers.specs.Paper.{replyOf}
+use Rattle.answers.specs.declared.Answer.{Answer}
+use Rattle.answers.specs.declared.Answer.the-variants.{WrongSize}
 use Rattle.looking.specs.Lent.{rightSizes}
 use Rattle.receiving.specs.Verdicts.{verdictOf}
 use Rattle.receiving.specs.Steps.{Memory, memoryOf, AfterStep, stepOf}

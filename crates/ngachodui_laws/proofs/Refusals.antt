@@ -12,10 +12,10 @@ use Rattle.memory.specs.Tests.{unless}
 use Rattle.memory.proofs.Tests.{clash}
 use Rattle.room.specs.Room.{todaysShares}
 use Rattle.journal.specs.Removal.{takeOf as takeEntry}
-use Rattle.line.specs.Paper.{numberOf}
-use Rattle.line.specs.declared.Answer.{Answer}
-use Rattle.line.specs.declared.Answer.the-variants.{Nothing, NoLine, WrongSize, BeyondLimits}
-use Rattle.line.proofs.Paper.{every-answer}
+use Rattle.answers.specs.Paper.{numberOf}
+use Rattle.answers.specs.declared.Answer.{Answer}
+use Rattle.answers.specs.declared.Answer.the-variants.{Nothing, NoLine, WrongSize, BeyondLimits}
+use Rattle.answers.proofs.Paper.{every-answer}
 use Rattle.looking.specs.Lent.{rightSizes}
 use Rattle.receiving.specs.Verdicts.{verdictOf}
 use Rattle.receiving.specs.Steps.{Memory, AfterStep, stepOf}

@@ -8,8 +8,8 @@ use lib.Dec.{eqb}
 use lib.ListN.{length}
 use Rattle.memory.specs.Sizes.{lines}
 use Rattle.memory.specs.Tests.{between}
-use Rattle.line.specs.Paper.{numberOf, valuesOf, replyOf}
-use Rattle.line.specs.declared.Answer.{Answer}
+use Rattle.answers.specs.Paper.{numberOf, valuesOf, replyOf}
+use Rattle.answers.specs.declared.Answer.{Answer}
 use Rattle.line.specs.declared.Line.{Line}
 use Rattle.gateway.specs.Events.{AfterEvent, AfterTake}
 use Rattle.gateway.specs.declared.Gateway.{Gateway}

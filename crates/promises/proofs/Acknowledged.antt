@@ -8,9 +8,9 @@ use mathlib.Core.Option.{none, some}
 use Prim.Native.Nat.{ℕ, _<_}
 use Rattle.memory.specs.Sizes.{lines}
 use Rattle.memory.proofs.Tests.{clash}
-use Rattle.line.specs.Paper.{ack, replyOf}
-use Rattle.line.specs.declared.Reply.the-variants.{Byte}
-use Rattle.line.proofs.Paper.{objection-plain}
+use Rattle.answers.specs.Paper.{ack, replyOf}
+use Rattle.answers.specs.declared.Reply.the-variants.{Byte}
+use Rattle.answers.proofs.Paper.{objection-plain}
 use Rattle.receiving.specs.Steps.{Memory}
 use Rattle.looking.specs.declared.Kind.{Kind}
 use Rattle.serial.specs.Serial.{final, Every}

@@ -14,11 +14,11 @@ use Rattle.room.specs.Room.{todaysShares}
 use Rattle.journal_laws.specs.Runs.{State as Store}
 use Rattle.journal.specs.declared.Verdict.the-variants.{Fits, NoRoom as Full}
 use Rattle.journal_laws.proofs.Cases.{held-judged}
-use Rattle.line.specs.Paper.{numberOf, isObjection}
+use Rattle.answers.specs.Paper.{numberOf, isObjection}
 use Rattle.line.specs.declared.Line.{Line}
-use Rattle.line.specs.declared.Answer.{Answer}
-use Rattle.line.specs.declared.Answer.the-variants.{NoRoom}
-use Rattle.line.proofs.Paper.{every-answer}
+use Rattle.answers.specs.declared.Answer.{Answer}
+use Rattle.answers.specs.declared.Answer.the-variants.{NoRoom}
+use Rattle.answers.proofs.Paper.{every-answer}
 use Rattle.looking.specs.Views.{joinedText}
 use Rattle.looking.specs.Looks.{lookOf}
 use Rattle.receiving.specs.Verdicts.{objectionTo, roomVerdict, decisionOf, decided, ownWork}

@@ -26,7 +26,7 @@ use Rattle.line.specs.Line.{acceptedLine}
 use Rattle.line.specs.Turn.{isLast}
 use Rattle.line.specs.declared.Line.{Line}
 use Rattle.line.specs.declared.State.the-variants.{Waiting}
-use Rattle.line.specs.declared.Answer.the-variants.{Accepted}
+use Rattle.answers.specs.declared.Answer.the-variants.{Accepted}
 use Rattle.journal_laws.specs.Runs.{State as Store}
 use Rattle.looking.specs.Looks.{endLook}
 use Rattle.looking.specs.declared.Look.the-variants.{Done}

@@ -27,7 +27,7 @@ use Rattle.line.specs.Line.{mostCollected}
 use Rattle.line.specs.Turn.{isLast, turnOf}
 use Rattle.line.specs.declared.Line.{Line}
 use Rattle.line.specs.declared.State.the-variants.{Waiting, Inside}
-use Rattle.line.specs.declared.Answer.the-variants.{Nothing}
+use Rattle.answers.specs.declared.Answer.the-variants.{Nothing}
 use Rattle.room.specs.Room.{todaysShares}
 use Rattle.journal_laws.specs.Runs.{State as Store}
 use Rattle.looking.specs.Looks.{waitingLook, insideLook, byteLook, frameLook, endLook, lookOf}

@@ -19,9 +19,10 @@ use Rattle.header.specs.Entry.{Entry}
 use Rattle.room.specs.Room.{todaysShares, claims}
 use Rattle.journal_laws.specs.Held.{Held}
 use Rattle.journal.specs.declared.Ledger.{Ledger}
-use Rattle.line.specs.Paper.{enq, valuesOf, replyOf}
-use Rattle.line.specs.declared.Answer.{Answer}
-use Rattle.line.specs.declared.Answer.the-variants.{Nothing, Taken}
+use Rattle.characters.specs.Control.{enq}
+use Rattle.answers.specs.Paper.{valuesOf, replyOf}
+use Rattle.answers.specs.declared.Answer.{Answer}
+use Rattle.answers.specs.declared.Answer.the-variants.{Nothing, Taken}
 use Rattle.receiving.specs.Steps.{Memory, memoryOf}
 use Rattle.looking.specs.declared.Kind.the-variants.{Byte}
 use Rattle.serial.specs.Serial.{taking, final}

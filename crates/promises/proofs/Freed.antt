@@ -24,9 +24,9 @@ use Rattle.journal_laws.proofs.Cases.{Gives, Keeps, take-cases}
 use Rattle.journal.proofs.Oldest.{total-oldest}
 use Rattle.room.proofs.Totals.{raised-own, raised-other, lowered-own, lowered-other, claims-le, claims-lowered, claims-raised-le}
 use Rattle.journal.proofs.Wholes.{whole-facts}
-use Rattle.line.specs.Paper.{valuesOf}
-use Rattle.line.specs.declared.Answer.{Answer}
-use Rattle.line.specs.declared.Answer.the-variants.{Taken as Answer8}
+use Rattle.answers.specs.Paper.{valuesOf}
+use Rattle.answers.specs.declared.Answer.{Answer}
+use Rattle.answers.specs.declared.Answer.the-variants.{Taken as Answer8}
 use Rattle.receiving.specs.Steps.{Memory}
 use Rattle.gateway.specs.Events.{tookAnswer, takeOf}
 use Rattle.looking.specs.declared.Kind.{Kind}

@@ -22,7 +22,7 @@ use Rattle.journal.specs.declared.Took.the-variants.{Taken, NothingWaiting, Buf
 use Rattle.journal.specs.declared.Verdict.the-variants.{Fits}
 use Rattle.journal_laws.proofs.Cases.{store-fits}
 use Rattle.journal_laws.proofs.Queue.{fresh-runs}
-use Rattle.line.proofs.Paper.{objection-plain}
+use Rattle.answers.proofs.Paper.{objection-plain}
 use Rattle.receiving.specs.Steps.{Memory}
 use Rattle.gateway.specs.Events.{tookAnswer, takeOf}
 use Rattle.looking.specs.declared.Kind.{Kind}

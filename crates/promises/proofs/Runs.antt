@@ -20,8 +20,8 @@ use Rattle.journal.specs.declared.Took.{Took}
 use Rattle.journal.specs.declared.Took.the-variants.{Taken, NothingWaiting, BufferShort, Broken, NoLine, WrongSize}
 use Rattle.journal_laws.proofs.Cases.{Gives, Keeps, take-cases}
 use Rattle.room.proofs.Totals.{claims-own-share}
-use Rattle.line.specs.Paper.{numberOf}
-use Rattle.line.proofs.Paper.{objection-plain}
+use Rattle.answers.specs.Paper.{numberOf}
+use Rattle.answers.proofs.Paper.{objection-plain}
 use Rattle.receiving.specs.Steps.{Memory}
 use Rattle.gateway.specs.Events.{tookAnswer, takeOf}
 use Rattle.looking.specs.declared.Kind.{Kind}

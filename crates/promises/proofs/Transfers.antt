@@ -16,9 +16,9 @@ use Rattle.faults.proofs.Messages.{message-some, message-short}
 use Rattle.cutting.specs.Pieces.{Piece, piecesOf}
 use Rattle.cutting.specs.Frames.{firstNumber, framesFrom, cutOf}
 use Rattle.line.specs.Line.{freshLine, openedLine, closedLine}
-use Rattle.line.specs.Paper.{enq, eot}
+use Rattle.characters.specs.Control.{enq, eot}
 use Rattle.line.specs.declared.Line.{Line}
-use Rattle.line.specs.declared.Answer.the-variants.{Opened, Ended}
+use Rattle.answers.specs.declared.Answer.the-variants.{Opened, Ended}
 use Rattle.line.proofs.Closed.{closed-fresh}
 use Rattle.header.specs.Header.{entrySize}
 use Rattle.header.specs.Entry.{Entry}

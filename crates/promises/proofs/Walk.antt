@@ -20,8 +20,8 @@ use Rattle.cutting.specs.Frames.{framesFrom}
 use Rattle.cutting.proofs.Steps.{turn, firstPiece}
 use Rattle.records.proofs.Scans.{tailAt, rest-part}
 use Rattle.line.specs.declared.Line.{Line}
-use Rattle.line.specs.declared.Answer.{Answer}
-use Rattle.line.specs.declared.Answer.the-variants.{Nothing, Accepted, Stored}
+use Rattle.answers.specs.declared.Answer.{Answer}
+use Rattle.answers.specs.declared.Answer.the-variants.{Nothing, Accepted, Stored}
 use Rattle.room.specs.Room.{todaysShares}
 use Rattle.journal.specs.Verdicts.{judgeOf}
 use Rattle.journal_laws.specs.Runs.{State as Store}

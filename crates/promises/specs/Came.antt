@@ -9,7 +9,7 @@ use lib.ListN.{length}
 use Rattle.faults.specs.Faults.{isMessage}
 use Rattle.journal.specs.Storage.{grown, appended}
 use Rattle.journal_laws.specs.Runs.{State as Store}
-use Rattle.line.specs.Paper.{isObjection}
+use Rattle.answers.specs.Paper.{isObjection}
 use Rattle.looking.specs.declared.Kind.{Kind}
 use Rattle.promises.specs.Machine.{State, Told, step, decides, partsOf, storeOf, onEvent, came}
 use Rattle.promises.specs.Runs.{answered, isFault, offered, hasSpace}

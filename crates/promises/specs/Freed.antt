@@ -5,7 +5,7 @@ use mathlib.Core.Path.{_≡_}
 use mathlib.Core.Logic.{_≢_}
 use mathlib.Core.List.{List, []}
 use Rattle.memory.specs.Sizes.{lines}
-use Rattle.line.specs.declared.Answer.the-variants.{Taken}
+use Rattle.answers.specs.declared.Answer.the-variants.{Taken}
 use Rattle.serial.specs.Serial.{taking, final}
 use Rattle.promises.specs.Machine.{State, GatewayItem, step}
 use Rattle.promises.specs.Queue.{allStored}

@@ -14,7 +14,7 @@ use Rattle.journal_laws.specs.Held.{Held}
 use Rattle.journal_laws.specs.Runs.{State as Store}
 use Rattle.line.specs.Line.{withinLimits}
 use Rattle.line.specs.declared.Line.{Line}
-use Rattle.line.specs.declared.Answer.{Answer}
+use Rattle.answers.specs.declared.Answer.{Answer}
 use Rattle.looking.specs.Views.{framesOf, textsOf, joinedText}
 use Rattle.receiving.specs.Verdicts.{ownWork}
 use Rattle.looking.specs.Answers.{answerOf}

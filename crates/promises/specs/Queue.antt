@@ -12,7 +12,7 @@ use Rattle.header.specs.Entry.{Entry}
 use Rattle.room.specs.Room.{todaysShares}
 use Rattle.journal_laws.specs.Held.{Held}
 use Rattle.journal_laws.specs.Runs.{Numbered, numbered, waiting}
-use Rattle.line.specs.Paper.{valuesOf}
+use Rattle.answers.specs.Paper.{valuesOf}
 use Rattle.receiving.specs.Steps.{Memory}
 use Rattle.looking.specs.declared.Kind.{Kind}
 use Rattle.serial.specs.Serial.{event, taking, final}

@@ -11,9 +11,9 @@ use Rattle.memory.specs.Sizes.{journalSize, unfinishedSize, framesSize}
 use Rattle.memory.specs.Tests.{between}
 use Rattle.header.specs.Header.{entrySize}
 use Rattle.room.specs.Room.{share, todaysShares, fits, raised}
-use Rattle.line.specs.Paper.{ack, numberOf, replyOf}
-use Rattle.line.specs.declared.Reply.{Reply}
-use Rattle.line.specs.declared.Reply.the-variants.{Silence, Byte}
+use Rattle.answers.specs.Paper.{ack, numberOf, replyOf}
+use Rattle.answers.specs.declared.Reply.{Reply}
+use Rattle.answers.specs.declared.Reply.the-variants.{Silence, Byte}
 use Rattle.looking.specs.Views.{framesOf, textsOf, joinedText}
 use Rattle.looking.specs.Looks.{lookOf}
 use Rattle.receiving.specs.Steps.{Memory}

@@ -14,9 +14,9 @@ use Rattle.faults.specs.Faults.{isMessage}
 use Rattle.cutting.specs.Pieces.{Piece, piecesOf}
 use Rattle.cutting.specs.Frames.{firstNumber, framesFrom, cutOf}
 use Rattle.line.specs.Line.{freshLine, withinLimits}
-use Rattle.line.specs.Paper.{enq, eot}
-use Rattle.line.specs.declared.Answer.{Answer}
-use Rattle.line.specs.declared.Answer.the-variants.{Nothing, Opened, Accepted, Stored, Ended, Taken}
+use Rattle.characters.specs.Control.{enq, eot}
+use Rattle.answers.specs.declared.Answer.{Answer}
+use Rattle.answers.specs.declared.Answer.the-variants.{Nothing, Opened, Accepted, Stored, Ended, Taken}
 use Rattle.header.specs.Header.{serialCount, entrySize}
 use Rattle.header.specs.Entry.{Entry}
 use Rattle.journal.specs.Chain.{chain}

@@ -12,8 +12,8 @@ use Rattle.journal.specs.declared.Ledger.{Ledger}
 use Rattle.journal.specs.declared.Verdict.{Verdict as Judgement}
 use Rattle.line.specs.Line.{withinLimits}
 use Rattle.line.specs.declared.Line.{Line}
-use Rattle.line.specs.declared.Answer.{Answer}
-use Rattle.line.specs.declared.Answer.the-variants.{NoMessage, NoRoom, NoLine, WrongSize, BeyondLimits, Broken}
+use Rattle.answers.specs.declared.Answer.{Answer}
+use Rattle.answers.specs.declared.Answer.the-variants.{NoMessage, NoRoom, NoLine, WrongSize, BeyondLimits, Broken}
 use Rattle.looking.specs.Views.{framesOf, textsOf, joinedText}
 use Rattle.looking.specs.Looks.{lookOf}
 use Rattle.looking.specs.Lent.{rightSizes}

@@ -9,7 +9,7 @@ use super::Stepped;
 use super::deciding;
 use super::settling;
 use journal::Ledger;
-use line::Answer;
+use answers::Answer;
 use line::Line;
 use looking::Event;
 

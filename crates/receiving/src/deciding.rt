@@ -10,7 +10,7 @@ ghost use Rattle.receiving.specs.Verdicts.{objectionTo, roomVerdict};
 ghost use Rattle.receiving.specs.Decided.{outcomeVerdict, putBack, Decision, Completion};
 use super::settling;
 use journal::Ledger;
-use line::Answer;
+use answers::Answer;
 use line::Line;
 
 // What a decision comes to: the message is stored or decided against, or everything is left as it was.

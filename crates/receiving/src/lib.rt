@@ -3,7 +3,7 @@ ghost use mathlib.Core.Path.{_≡_};
 ghost use Rattle.receiving.specs.Alone.{SteppingAlone, Deciding};
 use completing::Tested;
 use journal::Ledger;
-use line::Answer;
+use answers::Answer;
 use line::Line;
 use looking::Event;
 use looking::Look;

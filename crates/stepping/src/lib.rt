@@ -2,7 +2,7 @@
 ghost use mathlib.Core.Path.{_≡_};
 ghost use Rattle.receiving.specs.Steps.{Stepping};
 use journal::Ledger;
-use line::Answer;
+use answers::Answer;
 use line::Line;
 use looking::Event;
 use looking::Look;

@@ -19,9 +19,9 @@ use Rattle.owner.specs.declared.Reading.the-variants as reading
 use Rattle.cutting.specs.Frames.{cutAnswer, cutIn}
 use Rattle.cutting.specs.declared.Framed.{Framed}
 use Rattle.cutting.specs.declared.Framed.the-variants as framed
-use Rattle.line.specs.Paper.{numberOf}
-use Rattle.line.specs.declared.Answer.{Answer}
-use Rattle.line.specs.declared.Answer.the-variants.{Malformed, NotFitting}
+use Rattle.answers.specs.Paper.{numberOf}
+use Rattle.answers.specs.declared.Answer.{Answer}
+use Rattle.answers.specs.declared.Answer.the-variants.{Malformed, NotFitting}
 use Rattle.texts.specs.declared.Made.{Made}
 
 -- done, and so much written; document 01 has no number for it

@@ -4,7 +4,7 @@ ghost use Rattle.texts.specs.Texts.{done, refusedWith, madeByCutting, ma
 use cutting::Framed;
 use escaping::Put;
 use kinds::Delimiters;
-use line::Answer;
+use answers::Answer;
 use owner::Reading;
 
 // What became of a text: 0 and how much was written (bytes, or records that were read), or 46 or 47 and 0.

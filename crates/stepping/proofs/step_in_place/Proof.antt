@@ -45,7 +45,7 @@ use Rattle.line.specs.declared.Line.{Line}
 use Rattle.journal.specs.declared.Ledger.{Ledger}
 use Rattle.looking.specs.declared.Event.{Event}
 use Rattle.receiving.specs.declared.Stepped.{Stepped}
-use Rattle.line.specs.declared.Answer.{Answer}
+use Rattle.answers.specs.declared.Answer.{Answer}
 use Rattle.line.proofs.Line as Line
 use Rattle.line.proofs.Line.Laws as Line′
 use Rattle.journal.proofs.Ledger as Ledger
@@ -54,8 +54,8 @@ use Rattle.looking.proofs.Event as Event
 use Rattle.looking.proofs.Event.Laws as Event′
 use Rattle.receiving.proofs.Stepped as Stepped
 use Rattle.receiving.proofs.Stepped.Laws as Stepped′
-use Rattle.line.proofs.Answer as Answer
-use Rattle.line.proofs.Answer.Laws as Answer′
+use Rattle.answers.proofs.Answer as Answer
+use Rattle.answers.proofs.Answer.Laws as Answer′
 use Rattle.receiving.specs.Steps.{Stepping}
 use Rattle.stepping.proofs.step as callee
 use Rattle.stepping.proofs.step.Symbol as callee-def

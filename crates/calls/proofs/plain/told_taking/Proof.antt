@@ -3,7 +3,7 @@
 use borrow.Author.Needs.{needs}
 use mathlib.Core.Path.{_≡_, sym, ap, _∙_}
 use Rattle.journal.specs.declared.Took.{Took}
-use Rattle.line.specs.declared.Answer.{Answer}
+use Rattle.answers.specs.declared.Answer.{Answer}
 use Rattle.gateway.specs.Events.{tookAnswer}
 use Rattle.calls.specs.declared.Answered.{Answered}
 use Rattle.calls.specs.Plain.{told, toldTaking}

@@ -1,9 +1,9 @@
--- `line::reply_to` meets its contract.
+-- `answers::reply_to` meets its contract.
 -- Assumes nothing.
 use Rattle.memory.proofs.Told.{told}
-use Rattle.line.specs.Paper.{replyOf}
-use Rattle.line.proofs.reply_to.Statement.{statement}
-use Rattle.line.proofs.reply_to.Tie as tie
+use Rattle.answers.specs.Paper.{replyOf}
+use Rattle.answers.proofs.reply_to.Statement.{statement}
+use Rattle.answers.proofs.reply_to.Tie as tie
 
 returns : tie.Need-returns
 unfolding replyOf

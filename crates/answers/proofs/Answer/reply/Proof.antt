@@ -1,10 +1,10 @@
--- `line::Answer::reply` meets its contract.
+-- `answers::Answer::reply` meets its contract.
 -- Assumes nothing.
 use mathlib.Core.Path.{ap, _∙_}
 use borrow.Author.Needs.{needs}
-use Rattle.line.specs.Paper.{replyOf}
-use Rattle.line.proofs.Answer.reply.Statement.{statement}
-use Rattle.line.proofs.Answer.reply.Tie as tie
+use Rattle.answers.specs.Paper.{replyOf}
+use Rattle.answers.proofs.Answer.reply.Statement.{statement}
+use Rattle.answers.proofs.Answer.reply.Tie as tie
 
 returns : tie.Need-returns
 returns c = c .reply-to .ensures ∙ ap replyOf (c .before .number .ensures)

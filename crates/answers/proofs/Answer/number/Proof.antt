@@ -1,10 +1,10 @@
--- `line::Answer::number` meets its contract: each arm is told its case.
+-- `answers::Answer::number` meets its contract: each arm is told its case.
 -- Assumes nothing.
 use mathlib.Core.Path.{sym, ap}
 use borrow.Author.Needs.{needs}
-use Rattle.line.specs.Paper.{numberOf}
-use Rattle.line.proofs.Answer.number.Statement.{statement}
-use Rattle.line.proofs.Answer.number.Tie as tie
+use Rattle.answers.specs.Paper.{numberOf}
+use Rattle.answers.proofs.Answer.number.Statement.{statement}
+use Rattle.answers.proofs.Answer.number.Tie as tie
 
 pub number-spec : {M : Type 1} → statement M
 number-spec =

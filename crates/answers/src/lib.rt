@@ -1,0 +1,111 @@
+// The answers of document 01, their numbers, and the byte that is sent back with each.
+ghost use mathlib.Core.Path.{_≡_};
+ghost use Rattle.answers.specs.Paper.{numberOf, replyOf};
+
+pub const ACK: u8 = 0x06;
+
+pub const NAK: u8 = 0x15;
+
+// The answers of document 01's table, in its order; `number` gives each its number.
+pub enum Answer {
+    Nothing,
+    Opened,
+    Accepted,
+    Repeated,
+    Stored,
+    Ended,
+    Dropped,
+    TimedOut,
+    Taken(usize, u16),
+    Busy,
+    Unended,
+    Torn,
+    WrongCheck,
+    BadText,
+    BadNumber,
+    Refusing,
+    OutOfTurn,
+    TooLong,
+    NoCr,
+    NoMessage,
+    NoRoom,
+    NoLine,
+    WrongSize,
+    BeyondLimits,
+    Broken,
+    NothingWaiting,
+    BufferShort,
+    Malformed,
+    NotFitting,
+}
+
+// The byte sent back to the analyzer, if any.
+pub enum Reply {
+    Silence,
+    Byte(u8),
+}
+
+impl Answer {
+    // The answer's number in document 01's table.
+    pub fn number(self) -> u8
+        ensures { λ r. ⌜ r ≡ numberOf self ⌝ }
+    {
+        match self {
+            Answer::Nothing => 0,
+            Answer::Opened => 1,
+            Answer::Accepted => 2,
+            Answer::Repeated => 3,
+            Answer::Stored => 4,
+            Answer::Ended => 5,
+            Answer::Dropped => 6,
+            Answer::TimedOut => 7,
+            Answer::Taken(_, _) => 8,
+            Answer::Busy => 20,
+            Answer::Unended => 21,
+            Answer::Torn => 22,
+            Answer::WrongCheck => 23,
+            Answer::BadText => 24,
+            Answer::BadNumber => 25,
+            Answer::Refusing => 26,
+            Answer::OutOfTurn => 27,
+            Answer::TooLong => 28,
+            Answer::NoCr => 29,
+            Answer::NoMessage => 30,
+            Answer::NoRoom => 31,
+            Answer::NoLine => 40,
+            Answer::WrongSize => 41,
+            Answer::BeyondLimits => 42,
+            Answer::Broken => 43,
+            Answer::NothingWaiting => 44,
+            Answer::BufferShort => 45,
+            Answer::Malformed => 46,
+            Answer::NotFitting => 47,
+        }
+    }
+
+    // The byte that the table sends back.
+    pub fn reply(self) -> Reply
+        ensures { λ r. ⌜ r ≡ replyOf (numberOf self) ⌝ }
+    {
+        reply_to(self.number())
+    }
+}
+
+// The byte that the table sends back with a number.
+pub fn reply_to(number: u8) -> Reply
+    ensures { λ r. ⌜ r ≡ replyOf number ⌝ }
+{
+    if number < 1 {
+        return Reply::Silence;
+    }
+    if number <= 4 {
+        return Reply::Byte(ACK);
+    }
+    if number < 20 {
+        return Reply::Silence;
+    }
+    if number <= 31 {
+        return Reply::Byte(NAK);
+    }
+    Reply::Silence
+}
