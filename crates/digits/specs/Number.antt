@@ -10,7 +10,7 @@ mostNumber = 7
 
 -- the number after n
 unfoldable pub nextNumber : ℕ → ℕ
-nextNumber n = (n + 1) % 8
+nextNumber n = (n + 1) % (mostNumber + 1)
 
 -- a number as the digit that stands in a frame, whether a byte is such a digit, and the number that it stands for
 abbrev pub digitFor : ℕ → ℕ

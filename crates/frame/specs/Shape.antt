@@ -25,6 +25,13 @@ aroundText = 7
 abbrev pub leastCollected : ℕ
 leastCollected = aroundText - 1
 
+-- of these, those that are there before the LF comes; and those behind what the check counts: two check digits, CR, LF
+abbrev pub aroundCollected : ℕ
+aroundCollected = leastCollected - 1
+
+abbrev pub behindCounted : ℕ
+behindCounted = 4
+
 -- the k-th byte from the end
 abbrev pub fromEnd : List ℕ → ℕ → ℕ
 fromEnd bs k = getD bs (length bs - k) 0
@@ -37,7 +44,7 @@ abbrev pub textIn : List ℕ → List ℕ
 textIn bs = part bs 1 (length bs - leastCollected)
 
 abbrev pub countedIn : List ℕ → List ℕ
-countedIn bs = take (length bs - 4) bs
+countedIn bs = take (length bs - behindCounted) bs
 
 -- ETB or ETX
 abbrev pub isEnd : ℕ → Bool

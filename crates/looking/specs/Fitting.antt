@@ -1,8 +1,10 @@
 -- What acting asks of a verdict: its text lies in the frame and has room, and its counts stay within the limits.
 -- Assumes nothing.
 use Prim.Native.Nat.{ℕ, _+_, _≤_, _<_}
-use mathlib.Core.Bool.{Bool, true, false}
+use mathlib.Core.Bool.{Bool, true, false, _&&_}
+use lib.Dec.{leb}
 use Rattle.memory.specs.Sizes.{messageLimit}
+use Rattle.frame.specs.Shape.{aroundCollected}
 use Rattle.line.specs.Line.{mostCollected, mostSeconds}
 use Rattle.line.specs.declared.Line.{Line}
 use Rattle.looking.specs.declared.Verdict.{Verdict}
@@ -10,7 +12,11 @@ use Rattle.looking.specs.declared.Verdict.the-variants.{Left, Opens, Clo
 
 -- the n bytes of a frame's text lie in what is collected of it, and fit behind the joined text
 abbrev pub TextFits : Line → ℕ → Type 0
-TextFits l n = (n + 5 ≤ l .collected) × (l .joined + n ≤ messageLimit)
+TextFits l n = (n + aroundCollected ≤ l .collected) × (l .joined + n ≤ messageLimit)
+
+-- the same as a test
+abbrev pub textFits : Line → ℕ → Bool
+textFits l n = leb (n + aroundCollected) (l .collected) && leb (l .joined + n) messageLimit
 
 abbrev pub Fitting : Verdict → Line → Type 0
 Fitting (Left a) l = Unit {0}

@@ -2,6 +2,7 @@
 ghost use mathlib.Core.Path.{_≡_};
 ghost use mathlib.Core.List.{_++_};
 ghost use Prim.Native.Nat.{_+_, _≤_};
+ghost use Rattle.frame.specs.Shape.{aroundCollected};
 ghost use Rattle.line.specs.Turn.{turnOf};
 ghost use Rattle.looking.specs.Views.{Ready, framesOf, textsOf, joinedText};
 ghost use Rattle.looking.specs.Looks.{frameLook, turnLook, endLook};
@@ -22,13 +23,20 @@ pub fn look_frame(line: Line, i: usize, b: u8, unfinished: &[u8], frames: &[u8])
     let start = i * memory::FRAME_PART;
     let end = start + line.collected as usize;
     match frame::shape_of(memory::FRAME_LIMIT, &frames[start..end], b) {
-        Shape::Unended => Look::Done(Verdict::Refuses(Answer::Unended)),
-        Shape::Torn => Look::Done(Verdict::Refuses(Answer::Torn)),
-        Shape::WrongCheck => Look::Done(Verdict::Refuses(Answer::WrongCheck)),
-        Shape::BadText => Look::Done(Verdict::Refuses(Answer::BadText)),
-        Shape::BadNumber => Look::Done(Verdict::Refuses(Answer::BadNumber)),
+        Shape::Unended => refused(Answer::Unended),
+        Shape::Torn => refused(Answer::Torn),
+        Shape::WrongCheck => refused(Answer::WrongCheck),
+        Shape::BadText => refused(Answer::BadText),
+        Shape::BadNumber => refused(Answer::BadNumber),
         Shape::Whole(number, end, n) => look_turn(line, i, number, end, n, unfinished, frames),
     }
+}
+
+// A frame refused with this answer.
+fn refused(answer: Answer) -> Look
+    ensures { λ r. ⌜ r ≡ Look.Done (Verdict.Refuses answer) ⌝ }
+{
+    Look::Done(Verdict::Refuses(answer))
 }
 
 // A whole frame: how it stands to the line, then what the line's text would be.
@@ -41,7 +49,7 @@ fn look_turn(
     unfinished: &[u8],
     frames: &[u8],
 ) -> Look
-    requires { ⌜ Ready line i (now unfinished) (now frames) × (n + 5 ≤ line .collected) ⌝ }
+    requires { ⌜ Ready line i (now unfinished) (now frames) × (n + aroundCollected ≤ line .collected) ⌝ }
     ensures { λ r. ⌜ r ≡ turnLook (turnOf line number n) end n (joinedText line n (textsOf i (now (unfinished .entry))) (framesOf i (now (frames .entry)))) ⌝ }
 {
     match line.in_turn(number, n) {

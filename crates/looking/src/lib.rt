@@ -67,16 +67,23 @@ pub fn look_alone(line: Line, e: Event, journal: usize, unfinished: &[u8], frame
 {
     let i = e.line as usize;
     if memory::LINES <= i {
-        return Look::Done(Verdict::Left(Answer::NoLine));
+        return left(Answer::NoLine);
     }
     if !are_right(journal, unfinished.len(), frames.len()) {
-        return Look::Done(Verdict::Left(Answer::WrongSize));
+        return left(Answer::WrongSize);
     }
     if !line.is_within_limits() {
-        return Look::Done(Verdict::Left(Answer::BeyondLimits));
+        return left(Answer::BeyondLimits);
     }
     let kind = e.kind;
     states::look(line, i, kind, unfinished, frames)
+}
+
+// Everything left as it is, with this answer.
+fn left(answer: Answer) -> Look
+    ensures { λ r. ⌜ r ≡ Look.Done (Verdict.Left answer) ⌝ }
+{
+    Look::Done(Verdict::Left(answer))
 }
 
 // Whether the three memories have their sizes.

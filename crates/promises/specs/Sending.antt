@@ -9,7 +9,7 @@ use mathlib.Core.Option.{some}
 use lib.ListN.{length, getD, replicate}
 use Rattle.memory.specs.Sizes.{lines, frameLimit, journalSize, unfinishedSize, framesSize}
 use Rattle.memory.specs.Parts.{splice}
-use Rattle.frame.specs.Shape.{aroundText}
+use Rattle.frame.specs.Shape.{aroundText, leastCollected}
 use Rattle.faults.specs.Faults.{isMessage}
 use Rattle.cutting.specs.Pieces.{Piece, piecesOf}
 use Rattle.cutting.specs.Frames.{firstNumber, framesFrom, cutOf}
@@ -51,7 +51,7 @@ lastAnswer (p ∷ ps) = Accepted
 
 abbrev pub replies : List Piece → List Told
 replies [] = []
-replies (p ∷ ps) = replicate (length (p .bytes) + 6) (told Nothing []) ++ (told (lastAnswer ps) [] ∷ replies ps)
+replies (p ∷ ps) = replicate (length (p .bytes) + leastCollected) (told Nothing []) ++ (told (lastAnswer ps) [] ∷ replies ps)
 
 -- a limit of frames that leaves room for a byte of text and is within the line's own
 pub record Usable (limit : ℕ) : Type 0 where

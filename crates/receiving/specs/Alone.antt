@@ -52,10 +52,6 @@ pub record LeavesAlone (k : Look) (l : Line) (e : Event) (u f : List ℕ) (r : A
 abbrev pub SteppingAlone : Line → Event → ℕ → List ℕ → List ℕ → Alone → List ℕ → List ℕ → Type 0
 SteppingAlone l e journal u f r u′ f′ = LeavesAlone (lookAlone l e journal u f) l e u f r u′ f′
 
--- n bytes of a frame's text lie in what the line has collected of it, and fit behind its joined text
-abbrev pub textFits : Line → ℕ → Bool
-textFits l n = leb (n + 5) (l .collected) && leb (l .joined + n) messageLimit
-
 -- 40, 41 and 42 of an event that is to complete a message; more bytes than the line has or has room for are beyond its limits
 unfoldable pub testOf : Line → ℕ → ℕ → ℕ → ℕ → ℕ → Tested
 testOf l i n journal unfinished frames =

@@ -25,18 +25,25 @@ within : (c : tie.Else3) → withinLimits (entry (c .before .before .before .bef
 within c = sym (c .before .is-within-limits .ensures) ∙ not-false _ (c .if3 .left)
 
 returns : tie.Need-returns
-returns c = let a = c .before .before .before .before .args in sym (look-no-line (a .line) (a .e) (a .journal) (now (a .unfinished)) (now (a .frames)) (omega arith))
+returns c =
+    let a = c .before .before .before .before .before .args in
+    c .left .ensures
+    ∙ sym (look-no-line (a .line) (a .e) (a .journal) (now (a .unfinished)) (now (a .frames)) (omega arith))
 
 returns-2 : tie.Need-returns-2
 returns-2 c =
-    let a = entry (c .before .before) .args in
-    sym (look-size (a .line) (a .e) (a .journal) (now (a .unfinished)) (now (a .frames)) (omega arith) (sym (c .before .are-right .ensures) ∙ not-true _ (c .if2 .taken)))
+    let tested = c .before in
+    let a = entry (tested .before .before) .args in
+    c .left2 .ensures
+    ∙ sym (look-size (a .line) (a .e) (a .journal) (now (a .unfinished)) (now (a .frames)) (omega arith) (sym (tested .before .are-right .ensures) ∙ not-true _ (tested .if2 .taken)))
 
 returns-3 : tie.Need-returns-3
 returns-3 c =
-    let past = c .before .before in
+    let tested = c .before in
+    let past = tested .before .before in
     let a = entry (past .before .before) .args in
-    sym (look-beyond (a .line) (a .e) (a .journal) (now (a .unfinished)) (now (a .frames)) (omega arith) (sizes past) (sym (c .before .is-within-limits .ensures) ∙ not-true _ (c .if3 .taken)))
+    c .left3 .ensures
+    ∙ sym (look-beyond (a .line) (a .e) (a .journal) (now (a .unfinished)) (now (a .frames)) (omega arith) (sizes past) (sym (tested .before .is-within-limits .ensures) ∙ not-true _ (tested .if3 .taken)))
 
 look-requires : tie.Need-look-requires
 look-requires c κs =
@@ -56,9 +63,12 @@ look-alone-spec =
     tie.close
     (tie.spec
     (λ c. search needs)
+    (λ c κs. search needs)
     returns
     (λ c κs. search needs)
+    (λ c κs. search needs)
     returns-2
+    (λ c κs. search needs)
     (λ c κs. search needs)
     returns-3
     look-requires

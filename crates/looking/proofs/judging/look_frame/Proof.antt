@@ -17,10 +17,14 @@ use Rattle.looking.proofs.Views.{length-frame, own-parts, lent-collecte
 use Rattle.looking.proofs.judging.look_frame.Statement.{statement}
 use Rattle.looking.proofs.judging.look_frame.Tie as tie
 
+-- where the function was entered, from behind its call of `frame`
+abbrev entry : tie.After-shape-of → tie.Start
+entry c = c .before .before .before .before .before
+
 -- the shape is that of the frame's bytes
-shape : (c : tie.After-shape-of) → c .shape-of .result ≡ shapeOf frameLimit (frameBytes (c .before .before .before .before .before .args .line) (c .before .before .before .before .before .args .b) (framesOf (c .before .before .before .before .before .args .i) (now (c .before .before .before .before .before .args .frames))))
+shape : (c : tie.After-shape-of) → let a = entry c .args in c .shape-of .result ≡ shapeOf frameLimit (frameBytes (a .line) (a .b) (framesOf (a .i) (now (a .frames))))
 shape c =
-    let start = c .before .before .before .before .before in
+    let start = entry c in
     let a = start .args in
     c .shape-of .ensures ∙ ap (λ bs. shapeOf frameLimit (bs ++ (a .b ∷ []))) (part-lent (now (a .frames)) (frameStart (a .i)) (a .line .collected) ∙ lent-collected (a .line) (a .i) (now (a .unfinished)) (now (a .frames)) (start .pre))
 
@@ -28,30 +32,34 @@ part-shape-of-end : tie.Need-part-shape-of-end
 part-shape-of-end c = omega (arith, within-facts (c .before .before .before .args .line) (c .before .before .before .pre .within), c .before .before .before .pre)
 
 look-turn-requires : tie.Need-look-turn-requires
-look-turn-requires c κs = let a = c .before .before .before .before .before .before .before .before .args in
-    let is = sym (shape (c .before .before .before)) ∙ c .before .number .given .1 in
+look-turn-requires c κs =
+    let shaped = c .before .before .before in
+    let start = entry shaped in
+    let a = start .args in
+    let is = sym (shape shaped) ∙ c .before .number .given .1 in
     let size = accepted-size frameLimit (frameBytes (a .line) (a .b) (framesOf (a .i) (now (a .frames)))) _ _ _ is in
-    (c .before .before .before .before .before .before .before .before .pre, omega (arith, size, length-frame (a .line) (a .b) _ _ (own-parts (a .line) (a .i) (now (a .unfinished)) (now (a .frames)) (c .before .before .before .before .before .before .before .before .pre))))
+    let long = length-frame (a .line) (a .b) _ _ (own-parts (a .line) (a .i) (now (a .unfinished)) (now (a .frames)) (start .pre)) in
+    (start .pre, omega (arith, size, long))
 
 returns : tie.Need-returns
 unfolding frameLook
-returns c = rw (sym (shape (c .before .before)) ∙ c .enum-told .given .1)
+returns c = rw (sym (shape (c .before .before .before)) ∙ c .before .enum-told .given .1) (c .refused .ensures)
 
 returns-2 : tie.Need-returns-2
 unfolding frameLook
-returns-2 c = rw (sym (shape (c .before .before)) ∙ c .enum-told2 .given .1)
+returns-2 c = rw (sym (shape (c .before .before .before)) ∙ c .before .enum-told2 .given .1) (c .refused2 .ensures)
 
 returns-3 : tie.Need-returns-3
 unfolding frameLook
-returns-3 c = rw (sym (shape (c .before .before)) ∙ c .enum-told3 .given .1)
+returns-3 c = rw (sym (shape (c .before .before .before)) ∙ c .before .enum-told3 .given .1) (c .refused3 .ensures)
 
 returns-4 : tie.Need-returns-4
 unfolding frameLook
-returns-4 c = rw (sym (shape (c .before .before)) ∙ c .enum-told4 .given .1)
+returns-4 c = rw (sym (shape (c .before .before .before)) ∙ c .before .enum-told4 .given .1) (c .refused4 .ensures)
 
 returns-5 : tie.Need-returns-5
 unfolding frameLook
-returns-5 c = rw (sym (shape (c .before .before)) ∙ c .enum-told5 .given .1)
+returns-5 c = rw (sym (shape (c .before .before .before)) ∙ c .before .enum-told5 .given .1) (c .refused5 .ensures)
 
 returns-6 : tie.Need-returns-6
 unfolding frameLook
@@ -69,10 +77,15 @@ look-frame-spec =
     part-shape-of-end
     (λ c κs. search needs)
     (λ c. search needs)
+    (λ c κs. search needs)
     (λ c. search needs)
+    (λ c κs. search needs)
     (λ c. search needs)
+    (λ c κs. search needs)
     (λ c. search needs)
+    (λ c κs. search needs)
     (λ c. search needs)
+    (λ c κs. search needs)
     (λ c. search needs)
     look-turn-requires
     returns
