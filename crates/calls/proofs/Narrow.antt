@@ -31,9 +31,10 @@ use Rattle.receiving.specs.Verdicts.{objectionTo, roomVerdict, decisionOf}
 use Rattle.looking.specs.Lent.{rightSizes}
 use Rattle.receiving.specs.Settled.{ledgerAfter}
 use Rattle.receiving.specs.Steps.{Memory}
-use Rattle.receiving.specs.Alone.{textFits, completed, completionOf, decideOf}
+use Rattle.receiving.specs.Alone.{completed, completionOf, decideOf}
 use Rattle.looking.specs.declared.Event.{Event}
 use Rattle.looking.specs.declared.Verdict.the-variants.{Left, Against}
+use Rattle.looking.specs.Fitting.{textFits}
 use Rattle.answers.specs.declared.Answer.the-variants.{NoLine, WrongSize, BeyondLimits}
 
 -- d's bytes in use fit into 32 bits

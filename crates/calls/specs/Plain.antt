@@ -24,7 +24,7 @@ use Rattle.answers.specs.declared.Answer.the-variants.{Taken}
 use Rattle.journal.specs.declared.Took.{Took}
 use Rattle.looking.specs.declared.Kind.{Kind}
 use Rattle.looking.specs.declared.Kind.the-variants.{Byte, Seconds}
-use Rattle.gateway.specs.Events.{tookAnswer}
+use Rattle.taking.specs.Taking.{tookAnswer}
 use Rattle.calls.specs.declared.Answered.{Answered}
 
 -- each line has so many numbers, and they start here

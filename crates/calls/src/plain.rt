@@ -8,14 +8,14 @@ ghost use Rattle.line.specs.Line.{mostCollected};
 ghost use Rattle.looking.specs.Views.{frameStart};
 ghost use Rattle.calls.specs.Plain.{numberAt, oneMore, quick, begins, insideAt, stateOf, stateNumber, lastOf, lastNumber, flag, withinNumbers, onlyCollects, lineOf, withLine, usedFrom, serialsFrom, ledgerOf, withSerial, withUsed, replyByte, told as Plain·told, toldTaking};
 use super::Answered;
+use answers::Answer;
+use answers::Reply;
 use characters::LF;
 use characters::STX;
 use journal::Ledger;
 use journal::Took;
-use answers::Answer;
 use line::Last;
 use line::Line;
-use answers::Reply;
 use line::State;
 use looking::Kind;
 
@@ -329,10 +329,10 @@ pub fn told_taking(took: Took) -> Answered
             digits: 0,
             length,
         },
-        Took::NothingWaiting => told(gateway::answer_to(took)),
-        Took::BufferShort => told(gateway::answer_to(took)),
-        Took::Broken => told(gateway::answer_to(took)),
-        Took::NoLine => told(gateway::answer_to(took)),
-        Took::WrongSize => told(gateway::answer_to(took)),
+        Took::NothingWaiting => told(taking::answer_to(took)),
+        Took::BufferShort => told(taking::answer_to(took)),
+        Took::Broken => told(taking::answer_to(took)),
+        Took::NoLine => told(taking::answer_to(took)),
+        Took::WrongSize => told(taking::answer_to(took)),
     }
 }

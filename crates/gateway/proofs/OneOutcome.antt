@@ -1,4 +1,4 @@
--- Any two outcomes that a contract of this crate allows are equal. Where the contract is one equation (`Gateway::fresh`, `answer_to`), memory's `one-value` says it.
+-- Any two outcomes that a contract of this crate allows are equal. Where the contract is one equation (`Gateway::fresh`), memory's `one-value` says it.
 -- Assumes nothing.
 use mathlib.Core.Path.{_≡_, sym, _∙_}
 use mathlib.Core.List.{List}

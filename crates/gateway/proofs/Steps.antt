@@ -13,7 +13,8 @@ use Rattle.answers.specs.declared.Answer.the-variants.{NoLine}
 use Rattle.looking.specs.declared.Event.{Event}
 use Rattle.receiving.specs.Steps.{Stepping}
 use Rattle.receiving.specs.declared.Stepped.{Stepped}
-use Rattle.gateway.specs.Events.{lineAt, eventOf, Handling, tookAnswer, takeOf, Taking}
+use Rattle.gateway.specs.Events.{lineAt, eventOf, Handling, takeOf, Taking}
+use Rattle.taking.specs.Taking.{tookAnswer}
 use Rattle.gateway.specs.declared.Gateway.{Gateway}
 
 module _ (g : Gateway) (e : Event) (j u f : List ℕ) where

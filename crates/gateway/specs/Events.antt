@@ -11,13 +11,13 @@ use Rattle.memory.specs.Tests.{unless}
 use Rattle.journal.specs.Chain.{freshLedger}
 use Rattle.room.specs.Room.{todaysShares}
 use Rattle.journal.specs.Removal.{takeOf as takeEntry}
-use Rattle.journal.specs.declared.Took.{Took}
+use Rattle.taking.specs.Taking.{tookAnswer}
 use Rattle.line.specs.Line.{freshLine}
 use Rattle.line.specs.declared.Line.{Line}
 use Rattle.line.specs.declared.State.the-variants.{Neutral}
 use Rattle.line.specs.declared.Last.the-variants.{NoneYet}
 use Rattle.answers.specs.declared.Answer.{Answer}
-use Rattle.answers.specs.declared.Answer.the-variants.{Taken, NoLine, WrongSize, Broken, NothingWaiting, BufferShort}
+use Rattle.answers.specs.declared.Answer.the-variants.{NoLine}
 use Rattle.looking.specs.declared.Event.{Event}
 use Rattle.receiving.specs.Steps.{Memory, memoryOf, AfterStep, stepOf}
 use Rattle.gateway.specs.declared.Gateway.{Gateway}
@@ -60,15 +60,6 @@ pub record Handling (g : Gateway) (e : Event) (j u f : List ℕ) (r : Handled) (
   pub journal : j′ ≡ eventOf todaysShares g e (memoryOf j u f) .memory .journal
   pub unfinished : u′ ≡ eventOf todaysShares g e (memoryOf j u f) .memory .unfinished
   pub frames : f′ ≡ eventOf todaysShares g e (memoryOf j u f) .memory .frames
-
--- the answer to a taking
-abbrev pub tookAnswer : Took → Answer
-tookAnswer (Took.Taken n serial) = Taken n serial
-tookAnswer Took.NothingWaiting = NothingWaiting
-tookAnswer Took.BufferShort = BufferShort
-tookAnswer Took.Broken = Broken
-tookAnswer Took.NoLine = NoLine
-tookAnswer Took.WrongSize = WrongSize
 
 pub record AfterTake : Type 0 where
   pub handled : Handled

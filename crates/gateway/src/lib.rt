@@ -1,9 +1,8 @@
 // Events and takings on eight lines.
 ghost use mathlib.Core.Path.{_≡_};
-ghost use Rattle.gateway.specs.Events.{freshGateway, Handling, Taking, tookAnswer};
-use journal::Ledger;
-use journal::Took;
+ghost use Rattle.gateway.specs.Events.{freshGateway, Handling, Taking};
 use answers::Answer;
+use journal::Ledger;
 use line::Line;
 use looking::Event;
 
@@ -74,20 +73,6 @@ pub fn take(g: Gateway, line: u8, journal: &mut [u8], buffer: &mut [u8]) -> Hand
     next.ledger = booked;
     Handled {
         gateway: next,
-        answer: answer_to(took),
-    }
-}
-
-// The answer to a taking.
-pub fn answer_to(took: Took) -> Answer
-    ensures { λ r. ⌜ r ≡ tookAnswer took ⌝ }
-{
-    match took {
-        Took::Taken(n, serial) => Answer::Taken(n, serial),
-        Took::NothingWaiting => Answer::NothingWaiting,
-        Took::BufferShort => Answer::BufferShort,
-        Took::Broken => Answer::Broken,
-        Took::NoLine => Answer::NoLine,
-        Took::WrongSize => Answer::WrongSize,
+        answer: taking::answer_to(took),
     }
 }

@@ -17,7 +17,8 @@ use Rattle.journal.specs.Removal.{AfterTaking, afterTaking, takeAt, takeOldest,
 use Rattle.journal.specs.declared.Ledger.{Ledger}
 use Rattle.journal.specs.declared.Took.{Took}
 use Rattle.journal.specs.declared.Took.the-variants.{Taken, NothingWaiting, BufferShort, Broken, NoLine, WrongSize}
-use Rattle.gateway.specs.Events.{tookAnswer, AfterTake, takeOf}
+use Rattle.gateway.specs.Events.{AfterTake, takeOf}
+use Rattle.taking.specs.Taking.{tookAnswer}
 use Rattle.gateway.specs.declared.Gateway.{Gateway}
 use Rattle.gateway_laws.specs.Classes.{classOf, quiet, taking}
 

@@ -5,8 +5,8 @@ ghost use lib.Dec.{leb};
 ghost use lib.ListN.{length};
 ghost use Rattle.memory.specs.Parts.{splice};
 ghost use Rattle.listing.specs.Texts.{wordText, lastText, noDigits, replyDigits, rowText};
-use digits::Digits;
 use answers::Reply;
+use digits::Digits;
 
 // The answer to a taking that took an entry: its row shows the entry's length.
 const TAKEN: u8 = 8;

@@ -8,9 +8,9 @@ ghost use Rattle.looking.specs.Views.{Ready, framesOf, textsOf, joinedTe
 ghost use Rattle.looking.specs.Looks.{frameLook, turnLook, endLook};
 use super::Look;
 use super::Verdict;
+use answers::Answer;
 use frame::End;
 use frame::Shape;
-use answers::Answer;
 use line::Line;
 use line::Turn;
 use records::Ending;

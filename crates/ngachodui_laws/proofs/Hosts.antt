@@ -21,7 +21,8 @@ use Rattle.answers.specs.declared.Answer.the-variants.{WrongSize}
 use Rattle.looking.specs.Lent.{rightSizes}
 use Rattle.receiving.specs.Verdicts.{verdictOf}
 use Rattle.receiving.specs.Steps.{Memory, memoryOf, AfterStep, stepOf}
-use Rattle.gateway.specs.Events.{AfterEvent, freshGateway, eventOf, takeOf, tookAnswer, putBack as putLine}
+use Rattle.gateway.specs.Events.{AfterEvent, freshGateway, eventOf, takeOf, putBack as putLine}
+use Rattle.taking.specs.Taking.{tookAnswer}
 use Rattle.looking.specs.declared.Event.{Event}
 use Rattle.gateway_laws.proofs.Laws.{unchanged, left-unchanged, limits-kept}
 use Rattle.calls.specs.Plain.{lineOf, ledgerOf, withinNumbers, withUsed, told, toldTaking, freshNumbers}

@@ -28,7 +28,8 @@ use Rattle.answers.specs.Paper.{valuesOf}
 use Rattle.answers.specs.declared.Answer.{Answer}
 use Rattle.answers.specs.declared.Answer.the-variants.{Taken as Answer8}
 use Rattle.receiving.specs.Steps.{Memory}
-use Rattle.gateway.specs.Events.{tookAnswer, takeOf}
+use Rattle.gateway.specs.Events.{takeOf}
+use Rattle.taking.specs.Taking.{tookAnswer}
 use Rattle.looking.specs.declared.Kind.{Kind}
 use Rattle.serial.specs.Serial.{taking, final, Every}
 use Rattle.promises.specs.Machine.{State, GatewayItem, came, step, Sound, May}

@@ -20,7 +20,8 @@ use Rattle.journal_laws.proofs.Cases.{take-gives}
 use Rattle.journal_laws.proofs.Queue.{only-append, texts-append, only-from, taken-own, runs as journal-runs}
 use Rattle.line.specs.Line.{freshLine}
 use Rattle.answers.specs.declared.Answer.the-variants.{Taken}
-use Rattle.gateway.specs.Events.{lineAt, tookAnswer, takeOf}
+use Rattle.gateway.specs.Events.{lineAt, takeOf}
+use Rattle.taking.specs.Taking.{tookAnswer}
 use Rattle.serial.specs.Serial.{taking, final, Every}
 use Rattle.promises.specs.Machine.{State, told, GatewayItem, step, storeOf, Sound, May}
 use Rattle.promises.specs.Queue.{allTaken}

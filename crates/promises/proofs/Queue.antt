@@ -24,7 +24,8 @@ use Rattle.journal_laws.proofs.Cases.{store-fits}
 use Rattle.journal_laws.proofs.Queue.{fresh-runs}
 use Rattle.answers.proofs.Paper.{objection-plain}
 use Rattle.receiving.specs.Steps.{Memory}
-use Rattle.gateway.specs.Events.{tookAnswer, takeOf}
+use Rattle.gateway.specs.Events.{takeOf}
+use Rattle.taking.specs.Taking.{tookAnswer}
 use Rattle.looking.specs.declared.Kind.{Kind}
 use Rattle.serial.specs.Serial.{event, taking, final, Every}
 use Rattle.promises.specs.Machine.{State, told, GatewayItem, came, step, storeOf, Sound, May}

@@ -23,7 +23,8 @@ use Rattle.room.proofs.Totals.{claims-own-share}
 use Rattle.answers.specs.Paper.{numberOf}
 use Rattle.answers.proofs.Paper.{objection-plain}
 use Rattle.receiving.specs.Steps.{Memory}
-use Rattle.gateway.specs.Events.{tookAnswer, takeOf}
+use Rattle.gateway.specs.Events.{takeOf}
+use Rattle.taking.specs.Taking.{tookAnswer}
 use Rattle.looking.specs.declared.Kind.{Kind}
 use Rattle.serial.specs.Serial.{event, taking, annotate, final, Every}
 use Rattle.promises.specs.Machine.{State, GatewayItem, came, step, Sound, May}

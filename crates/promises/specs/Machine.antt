@@ -20,7 +20,8 @@ use Rattle.receiving.specs.Verdicts.{ownWork}
 use Rattle.looking.specs.Answers.{answerOf}
 use Rattle.receiving.specs.Settled.{lineAfter, ledgerAfter, journalAfter}
 use Rattle.receiving.specs.Steps.{Memory, memoryOf}
-use Rattle.gateway.specs.Events.{AfterEvent, AfterTake, lineAt, eventOf, takeOf, tookAnswer}
+use Rattle.gateway.specs.Events.{AfterEvent, AfterTake, lineAt, eventOf, takeOf}
+use Rattle.taking.specs.Taking.{tookAnswer}
 use Rattle.looking.specs.declared.Event.{Event}
 use Rattle.gateway.specs.declared.Gateway.{Gateway}
 use Rattle.looking.specs.declared.Kind.{Kind}

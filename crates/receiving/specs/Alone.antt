@@ -1,11 +1,11 @@
 -- An event on its line alone, and the deciding that it leaves where it completes a message: the step in two parts.
 -- Assumes nothing.
-use Prim.Native.Nat.{ℕ, _+_}
+use Prim.Native.Nat.{ℕ}
 use mathlib.Core.Path.{_≡_}
-use mathlib.Core.Bool.{Bool, _&&_}
+use mathlib.Core.Bool.{_&&_}
 use mathlib.Core.List.{List}
-use lib.Dec.{ltb, leb}
-use Rattle.memory.specs.Sizes.{lines, messageLimit}
+use lib.Dec.{ltb}
+use Rattle.memory.specs.Sizes.{lines}
 use Rattle.memory.specs.Tests.{unless}
 use Rattle.room.specs.Room.{todaysShares}
 use Rattle.journal.specs.declared.Ledger.{Ledger}
@@ -13,6 +13,7 @@ use Rattle.line.specs.Line.{withinLimits}
 use Rattle.line.specs.declared.Line.{Line}
 use Rattle.answers.specs.declared.Answer.the-variants.{NoLine, WrongSize, BeyondLimits}
 use Rattle.looking.specs.Views.{framesOf, textsOf, joinedText}
+use Rattle.looking.specs.Fitting.{textFits}
 use Rattle.looking.specs.Lent.{rightLengths, rightSizes}
 use Rattle.looking.specs.Looks.{lookAlone}
 use Rattle.looking.specs.declared.Event.{Event}

@@ -3,13 +3,13 @@ ghost use mathlib.Core.Path.{_≡_};
 ghost use mathlib.Core.Bool.{true};
 ghost use Rattle.line.specs.Line.{withinLimits};
 ghost use Rattle.looking.specs.Views.{Ready};
-ghost use Rattle.looking.specs.Fitting.{TextFits};
-ghost use Rattle.receiving.specs.Alone.{textFits, testOf, Completing};
+ghost use Rattle.looking.specs.Fitting.{TextFits, textFits};
+ghost use Rattle.receiving.specs.Alone.{testOf, Completing};
 use super::Stepped;
 use super::deciding;
 use super::settling;
-use journal::Ledger;
 use answers::Answer;
+use journal::Ledger;
 use line::Line;
 use looking::Event;
 

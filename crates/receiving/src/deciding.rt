@@ -9,8 +9,8 @@ ghost use Rattle.looking.specs.Answers.{answerOf};
 ghost use Rattle.receiving.specs.Verdicts.{objectionTo, roomVerdict};
 ghost use Rattle.receiving.specs.Decided.{outcomeVerdict, putBack, Decision, Completion};
 use super::settling;
-use journal::Ledger;
 use answers::Answer;
+use journal::Ledger;
 use line::Line;
 
 // What a decision comes to: the message is stored or decided against, or everything is left as it was.

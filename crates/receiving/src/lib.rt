@@ -1,9 +1,9 @@
 // One event on one line in two parts, each look and then act: the line alone, and the deciding of a complete message.
 ghost use mathlib.Core.Path.{_≡_};
 ghost use Rattle.receiving.specs.Alone.{SteppingAlone, Deciding};
+use answers::Answer;
 use completing::Tested;
 use journal::Ledger;
-use answers::Answer;
 use line::Line;
 use looking::Event;
 use looking::Look;

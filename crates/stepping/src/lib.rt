@@ -1,8 +1,8 @@
 // One event on one line, whole: by value, and where the line's record and the ledger lie.
 ghost use mathlib.Core.Path.{_≡_};
 ghost use Rattle.receiving.specs.Steps.{Stepping};
-use journal::Ledger;
 use answers::Answer;
+use journal::Ledger;
 use line::Line;
 use looking::Event;
 use looking::Look;

@@ -1,10 +1,10 @@
 // Texts over plain memory: cut, read, escaped and unescaped, with the standard delimiters and today's frame limit.
 ghost use mathlib.Core.Path.{_≡_};
 ghost use Rattle.texts.specs.Texts.{done, refusedWith, madeByCutting, madeByPutting, madeByReading, CutFrames, Escaped, Unescaped, RecordsRead};
+use answers::Answer;
 use cutting::Framed;
 use escaping::Put;
 use kinds::Delimiters;
-use answers::Answer;
 use owner::Reading;
 
 // What became of a text: 0 and how much was written (bytes, or records that were read), or 46 or 47 and 0.

@@ -4,7 +4,7 @@ use borrow.Author.Needs.{needs}
 use mathlib.Core.Path.{_≡_, sym, ap, _∙_}
 use Rattle.journal.specs.declared.Took.{Took}
 use Rattle.answers.specs.declared.Answer.{Answer}
-use Rattle.gateway.specs.Events.{tookAnswer}
+use Rattle.taking.specs.Taking.{tookAnswer}
 use Rattle.calls.specs.declared.Answered.{Answered}
 use Rattle.calls.specs.Plain.{told, toldTaking}
 use Rattle.calls.proofs.plain.told_taking.Statement.{statement}

@@ -1,10 +1,10 @@
--- `gateway::answer_to` meets its contract.
+-- `taking::answer_to` meets its contract.
 -- Assumes nothing.
 use borrow.Author.Needs.{needs}
 use mathlib.Core.Path.{sym, ap}
-use Rattle.gateway.specs.Events.{tookAnswer}
-use Rattle.gateway.proofs.answer_to.Statement.{statement}
-use Rattle.gateway.proofs.answer_to.Tie as tie
+use Rattle.taking.specs.Taking.{tookAnswer}
+use Rattle.taking.proofs.answer_to.Statement.{statement}
+use Rattle.taking.proofs.answer_to.Tie as tie
 
 returns : tie.Need-returns
 returns c = sym (ap tookAnswer (c .before .took .given .1))
