@@ -113,12 +113,12 @@ paper-injective a b n v =
     cc same
 
 -- an objection gets NAK; it is not 4, which stores, nor 31, which is for want of room, nor 41 to 43, which tell of memory, a record or a journal
-pub record Plain (n : ℕ) : Type 0 where
+pub record Objects (n : ℕ) : Type 0 where
   pub refused : replyOf n ≡ Byte nak
   pub not-4 : eqb n 4 ≡ false
   pub not-31 : eqb n 31 ≡ false
   pub no-fault : between 41 43 n ≡ false
 
-pub objection-plain : (n : ℕ) → isObjection n ≡ true → Plain n
+pub objection-objects : (n : ℕ) → isObjection n ≡ true → Objects n
 unfolding replyOf
-objection-plain n e = subst Plain (sym (eqb-true n 30 e)) (record { refused = refl; not-4 = refl; not-31 = refl; no-fault = refl })
+objection-objects n e = subst Objects (sym (eqb-true n 30 e)) (record { refused = refl; not-4 = refl; not-31 = refl; no-fault = refl })

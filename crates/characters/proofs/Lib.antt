@@ -1,3 +1,3 @@
 pub mod Marks
-pub mod PlainBytes
+pub mod PrintableBytes
 pub mod Laws

@@ -1,3 +1,3 @@
 pub mod Control
 pub mod Allowed
-pub mod Plain
+pub mod Printable

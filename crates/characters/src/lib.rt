@@ -5,7 +5,7 @@ ghost use lib.ListN.{getD};
 ghost use Rattle.memory.specs.Tests.{is, all};
 ghost use Rattle.characters.specs.Allowed.{allowed, ordinary, plus, dash, classTable};
 
-mod plain; // plain.rt: texts of plain bytes
+mod printable; // printable.rt: texts of printable bytes
 
 pub const STX: u8 = 0x02;
 
@@ -63,11 +63,11 @@ pub fn is_ordinary(classes: &[u8; 256], b: u8) -> bool
     classes[b as usize] == b'+'
 }
 
-// Whether E1394 allows every byte of the text. Plain bytes are, and looked for first, as the table is slower.
+// Whether E1394 allows every byte of the text. Printable bytes are, and looked for first, as the table is slower.
 pub fn all_allowed(text: &[u8]) -> bool
     ensures { λ r. ⌜ r ≡ all allowed (now (text .entry)) ⌝ }
 {
-    if plain::is_plain(text) {
+    if printable::is_printable(text) {
         return true;
     }
     let table = classes();

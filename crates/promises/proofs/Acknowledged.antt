@@ -10,7 +10,7 @@ use Rattle.memory.specs.Sizes.{lines}
 use Rattle.memory.proofs.Tests.{clash}
 use Rattle.answers.specs.Paper.{ack, replyOf}
 use Rattle.answers.specs.declared.Reply.the-variants.{Byte}
-use Rattle.answers.proofs.Paper.{objection-plain}
+use Rattle.answers.proofs.Paper.{objection-objects}
 use Rattle.receiving.specs.Steps.{Memory}
 use Rattle.looking.specs.declared.Kind.{Kind}
 use Rattle.serial.specs.Serial.{final, Every}
@@ -34,7 +34,7 @@ came-acknowledged s i k (quiet x) c e =
     clash cc
 came-acknowledged s i k (stored t m room x) c e = x .number
 came-acknowledged s i k (crowded t m room x) c e = not-acknowledged (answered (answer s i k)) (ap (λ (n : ℕ). isAck (replyOf n)) (x .number) ∙ crowded-nak) e
-came-acknowledged s i k (against t m x) c e = not-acknowledged (answered (answer s i k)) (ap isAck (objection-plain (answered (answer s i k)) (x .number) .refused)) e
+came-acknowledged s i k (against t m x) c e = not-acknowledged (answered (answer s i k)) (ap isAck (objection-objects (answered (answer s i k)) (x .number) .refused)) e
 
 -- and only 4 changes the store
 came-kept : (s : State) (i : ℕ) (k : Kind) → Came s i k → answered (answer s i k) ≢ 4 → store s i k ≡ storeOf s

@@ -21,7 +21,7 @@ use Rattle.journal.specs.declared.Took.the-variants.{Taken, NothingWaiting, Buf
 use Rattle.journal_laws.proofs.Cases.{Gives, Keeps, take-cases}
 use Rattle.room.proofs.Totals.{claims-own-share}
 use Rattle.answers.specs.Paper.{numberOf}
-use Rattle.answers.proofs.Paper.{objection-plain}
+use Rattle.answers.proofs.Paper.{objection-objects}
 use Rattle.receiving.specs.Steps.{Memory}
 use Rattle.gateway.specs.Events.{takeOf}
 use Rattle.taking.specs.Taking.{tookAnswer}
@@ -40,20 +40,20 @@ came-faultless : (s : State) (i : ℕ) (k : Kind) → Came s i k → isFault (an
 came-faultless s i k (quiet x) = x .no-fault
 came-faultless s i k (stored t m room x) = ap isFault (x .number)
 came-faultless s i k (crowded t m room x) = ap isFault (x .number)
-came-faultless s i k (against t m x) = objection-plain (answered (answer s i k)) (x .number) .no-fault
+came-faultless s i k (against t m x) = objection-objects (answered (answer s i k)) (x .number) .no-fault
 
 -- 31 in one case, and 4 in one
 came-crowded : (s : State) (i : ℕ) (k : Kind) → Came s i k → answered (answer s i k) ≡ 31 → NoSpace s i k
 came-crowded s i k (quiet x) e = never-both (eqb (answered (answer s i k)) 31) (eq-eqb (answered (answer s i k)) 31 e) (undecided-other (answer s i k) (x .undecided) .1)
 came-crowded s i k (stored t m room x) e = absurd (omega (arith, x .number, e))
 came-crowded s i k (crowded t m room x) e = record { text = t; complete = x .complete; such = room }
-came-crowded s i k (against t m x) e = never-both (eqb (answered (answer s i k)) 31) (eq-eqb (answered (answer s i k)) 31 e) (objection-plain (answered (answer s i k)) (x .number) .not-31)
+came-crowded s i k (against t m x) e = never-both (eqb (answered (answer s i k)) 31) (eq-eqb (answered (answer s i k)) 31 e) (objection-objects (answered (answer s i k)) (x .number) .not-31)
 
 came-stored : (s : State) (i : ℕ) (k : Kind) → Came s i k → answered (answer s i k) ≡ 4 → Space s i k
 came-stored s i k (quiet x) e = never-both (eqb (answered (answer s i k)) 4) (eq-eqb (answered (answer s i k)) 4 e) (undecided-other (answer s i k) (x .undecided) .0)
 came-stored s i k (stored t m room x) e = record { text = t; complete = x .complete; such = room }
 came-stored s i k (crowded t m room x) e = absurd (omega (arith, x .number, e))
-came-stored s i k (against t m x) e = never-both (eqb (answered (answer s i k)) 4) (eq-eqb (answered (answer s i k)) 4 e) (objection-plain (answered (answer s i k)) (x .number) .not-4)
+came-stored s i k (against t m x) e = never-both (eqb (answered (answer s i k)) 4) (eq-eqb (answered (answer s i k)) 4 e) (objection-objects (answered (answer s i k)) (x .number) .not-4)
 
 module _ (s : State) (w : Sound s) (i : ℕ) (k : Kind) (h : i < lines) where
   -- 31 is given only to a message for which there is no room, and 4 only to one for which there is

@@ -9,7 +9,7 @@ use denote.Ref.{now}
 use Rattle.memory.specs.Tests.{all}
 use Rattle.memory.proofs.Tests.{all-stop, all-next, all-done}
 use Rattle.characters.specs.Allowed.{allowed}
-use Rattle.characters.proofs.PlainBytes.{all-plain}
+use Rattle.characters.proofs.PrintableBytes.{all-printable}
 use Rattle.characters.proofs.all_allowed.Statement.{statement}
 use Rattle.characters.proofs.all_allowed.Tie as tie
 
@@ -21,7 +21,7 @@ abbrev μ-loop : tie.MeasureT-loop
 
 returns : tie.Need-returns Inv-loop μ-loop
 returns c =
-    sym (all-plain (now (c .before .before .before .args .text)) (sym (c .before .is-plain .ensures) ∙ c .if1 .taken))
+    sym (all-printable (now (c .before .before .before .args .text)) (sym (c .before .is-printable .ensures) ∙ c .if1 .taken))
 
 loop-holds : tie.Need-loop-holds Inv-loop μ-loop
 loop-holds c = (omega arith, refl)

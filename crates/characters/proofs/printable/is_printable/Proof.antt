@@ -1,4 +1,4 @@
--- `characters::plain::is_plain` meets its contract: of the bytes passed, none lies farther past the space than a plain one exactly if all are plain.
+-- `characters::printable::is_printable` meets its contract: of the bytes passed, none lies farther past the space than a printable one exactly if all are printable.
 -- Assumes nothing.
 use mathlib.Core.Path.{_≡_, refl, sym, _∙_}
 use Prim.Native.Nat.{_-_, _≤_}
@@ -9,13 +9,13 @@ use lib.Seq.{take-length}
 use borrow.Author.Needs.{needs}
 use denote.Ref.{now}
 use Rattle.memory.specs.Tests.{all}
-use Rattle.characters.specs.Plain.{plain}
-use Rattle.characters.proofs.PlainBytes.{leb-max, all-more}
-use Rattle.characters.proofs.plain.is_plain.Statement.{statement}
-use Rattle.characters.proofs.plain.is_plain.Tie as tie
+use Rattle.characters.specs.Printable.{printable}
+use Rattle.characters.proofs.PrintableBytes.{leb-max, all-more}
+use Rattle.characters.proofs.printable.is_printable.Statement.{statement}
+use Rattle.characters.proofs.printable.is_printable.Tie as tie
 
 abbrev Inv-loop : tie.InvT-loop
-Inv-loop text most₀ i₀ most i = (i ≤ length text) × (leb most 0x5e ≡ all plain (take i text))
+Inv-loop text most₀ i₀ most i = (i ≤ length text) × (leb most 0x5e ≡ all printable (take i text))
 
 abbrev μ-loop : tie.MeasureT-loop
 μ-loop text most₀ i₀ most i = length text - i
@@ -29,7 +29,7 @@ loop-again c =
     let l = c .before .before .before .before .loop in (
       omega arith,
       rw (c .larger .ensures, leb-max (l .most) (c .before .past-space .result) 0x5e, l .inv .1, c .before .past-space .ensures)
-          (sym (all-more plain text (l .i) (omega arith))),
+          (sym (all-more printable text (l .i) (omega arith))),
     )
 
 returns : tie.Need-returns Inv-loop μ-loop
@@ -39,8 +39,8 @@ returns c =
     let e : l .i ≡ length text = omega arith in
     l .inv .1 ∙ rw (e, take-length)
 
-pub is-plain-spec : {M : Type 1} → statement M
-is-plain-spec =
+pub is-printable-spec : {M : Type 1} → statement M
+is-printable-spec =
     tie.close
     (tie.spec
     Inv-loop

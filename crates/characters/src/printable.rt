@@ -1,17 +1,17 @@
-// Texts of plain bytes, as most are: told without the table, in a loop with no way out of it, which takes many bytes at a time.
+// Texts of printable bytes, as most are: told without the table, in a loop with no way out of it, which takes many bytes at a time.
 ghost use mathlib.Core.Path.{_≡_};
 ghost use Prim.Native.Nat.{max};
 ghost use lib.Dec.{leb};
 ghost use Rattle.memory.specs.Tests.{all};
-ghost use Rattle.characters.specs.Plain.{plain};
+ghost use Rattle.characters.specs.Printable.{printable};
 use super::CR;
 
-// How far a plain byte can lie past the space: '~' does.
+// How far a printable byte can lie past the space: '~' does.
 const FARTHEST: u8 = 0x5e;
 
 // Whether every byte of the text is CR or from ' ' to '~'.
-pub fn is_plain(text: &[u8]) -> bool
-    ensures { λ r. ⌜ r ≡ all plain (now (text .entry)) ⌝ }
+pub fn is_printable(text: &[u8]) -> bool
+    ensures { λ r. ⌜ r ≡ all printable (now (text .entry)) ⌝ }
 {
     let mut most: u8 = 0;
     let mut i = 0;
@@ -24,7 +24,7 @@ pub fn is_plain(text: &[u8]) -> bool
 
 // How far b lies past the space, modulo 256; CR is taken for a space.
 fn past_space(b: u8) -> u8
-    ensures { λ r. ⌜ leb r 0x5e ≡ plain b ⌝ }
+    ensures { λ r. ⌜ leb r 0x5e ≡ printable b ⌝ }
 {
     if b == CR {
         return 0;

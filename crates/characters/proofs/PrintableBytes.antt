@@ -1,4 +1,4 @@
--- Plain bytes are allowed, and how they are told: none lies farther past the space than '~'.
+-- Printable bytes are allowed, and how they are told: none lies farther past the space than '~'.
 -- Assumes nothing.
 use mathlib.Core.Path.{_≡_, refl, ap}
 use mathlib.Core.Bool.{Bool, true, false, _&&_, _||_}
@@ -14,12 +14,12 @@ use Rattle.memory.specs.Tests.{between, all}
 use Rattle.memory.proofs.Tests.{and-left, and-right, and-both, all-append}
 use Rattle.characters.specs.Control.{cr}
 use Rattle.characters.specs.Allowed.{allowed}
-use Rattle.characters.specs.Plain.{plain}
+use Rattle.characters.specs.Printable.{printable}
 
 -- a byte other than CR, by how far it lies past the space
-pub plain-past : (b : ℕ) → b < 256 → (b ≡ cr → ⊥) → leb ((b + 0xe0) % 256) 0x5e ≡ plain b
-unfolding plain
-plain-past b h n = rw (ne-eqb b cr n) (by-ends (leb 0x20 b) (leb b 0x7e) refl refl)
+pub printable-past : (b : ℕ) → b < 256 → (b ≡ cr → ⊥) → leb ((b + 0xe0) % 256) 0x5e ≡ printable b
+unfolding printable
+printable-past b h n = rw (ne-eqb b cr n) (by-ends (leb 0x20 b) (leb b 0x7e) refl refl)
   where
     by-ends : (x y : Bool) → leb 0x20 b ≡ x → leb b 0x7e ≡ y → leb ((b + 0xe0) % 256) 0x5e ≡ x && y
     by-ends true true p q = le-leb ((b + 0xe0) % 256) 0x5e (omega (arith, leb-true 0x20 b p, leb-true b 0x7e q))
@@ -47,16 +47,16 @@ or-true : (a : Bool) → a || true ≡ true
 or-true true = refl
 or-true false = refl
 
--- a plain byte is allowed, and so a text of them
-plain-allowed : (b : ℕ) → plain b ≡ true → allowed b ≡ true
-unfolding plain allowed
-plain-allowed b e = by-cr (eqb b cr) refl e
+-- a printable byte is allowed, and so a text of them
+printable-allowed : (b : ℕ) → printable b ≡ true → allowed b ≡ true
+unfolding printable allowed
+printable-allowed b e = by-cr (eqb b cr) refl e
   where
     by-cr : (x : Bool) → eqb b cr ≡ x → x || between 0x20 0x7e b ≡ true → allowed b ≡ true
     by-cr true p q = ap allowed (eqb-true b cr p)
     by-cr false p q = simp (and-left (leb 0x20 b) (leb b 0x7e) q, and-right (leb 0x20 b) (leb b 0x7e) q, or-true)
 
-pub all-plain : (s : List ℕ) → all plain s ≡ true → all allowed s ≡ true
-all-plain [] e = refl
-all-plain (b ∷ bs) e =
-    and-both (allowed b) (all allowed bs) (plain-allowed b (and-left (plain b) (all plain bs) e)) (all-plain bs (and-right (plain b) (all plain bs) e))
+pub all-printable : (s : List ℕ) → all printable s ≡ true → all allowed s ≡ true
+all-printable [] e = refl
+all-printable (b ∷ bs) e =
+    and-both (allowed b) (all allowed bs) (printable-allowed b (and-left (printable b) (all printable bs) e)) (all-printable bs (and-right (printable b) (all printable bs) e))
