@@ -1,0 +1,117 @@
+-- `replay::pieces::run` meets its contract.
+-- Assumes nothing.
+use borrow.Author.Needs.{needs}
+use native.Mathlib.Omega.{arith}
+use mathlib.Core.Path.{_≡_, refl}
+use mathlib.Core.List.{List}
+use Prim.Native.Nat.{ℕ}
+use lib.ListN.{length}
+use Rattle.replay.specs.Ends.{LiesIn}
+use Rattle.replay.specs.declared.pieces.Kept.{Kept}
+use Rattle.replay.proofs.Places.{part-read}
+use Rattle.replay.proofs.pieces.run.Statement.{statement}
+use Rattle.replay.proofs.pieces.run.Tie as tie
+
+-- before a turn: what waits lies in the input, and memory has its length
+record Going (kept : Kept) (input₀ input out₀ out journal₀ journal unfinished₀ unfinished frames₀ frames buffer₀ buffer : List ℕ) : Type 0 where
+  lies-in : LiesIn kept (length input)
+  input-length : length input ≡ length input₀
+  out-length : length out ≡ length out₀
+  journal-length : length journal ≡ length journal₀
+  unfinished-length : length unfinished ≡ length unfinished₀
+  frames-length : length frames ≡ length frames₀
+  buffer-length : length buffer ≡ length buffer₀
+
+abbrev Inv-loop : tie.InvT-loop
+Inv-loop fd name n input₀ out₀ journal₀ unfinished₀ frames₀ buffer₀ numbers₀ used₀ kept₀ turns₀ input out journal unfinished frames buffer numbers used kept turns =
+    Going kept input₀ input out₀ out journal₀ journal unfinished₀ unfinished frames₀ frames buffer₀ buffer
+
+abbrev μ-loop : tie.MeasureT-loop
+μ-loop fd name n input₀ out₀ journal₀ unfinished₀ frames₀ buffer₀ numbers₀ used₀ kept₀ turns₀ input out journal unfinished frames buffer numbers used kept turns = turns
+
+-- the places, each from one behind it: the call of `advance`, that of `run`, the loop's test, this turn's start, the function's start
+abbrev advanced : tie.After-struct-known Inv-loop μ-loop → tie.After-advance Inv-loop μ-loop
+advanced c = c .before .before .before
+
+abbrev ran : tie.After-advance-arg Inv-loop μ-loop → tie.After-run Inv-loop μ-loop
+ran c = c .before .before .before .before .before .before .before
+
+abbrev tested : tie.After-run Inv-loop μ-loop → tie.In-loop Inv-loop μ-loop
+tested c = c .before .before .before .before .before .before .before .before .before .before
+
+abbrev turn : tie.After-run Inv-loop μ-loop → tie.At-loop Inv-loop μ-loop
+turn c = tested c .before
+
+abbrev start : tie.At-loop Inv-loop μ-loop → tie.Start Inv-loop μ-loop
+start c = c .before .before .before .before .before .before .before .before
+
+-- this turn's start, from where the loop goes on or ends
+abbrev turn-ended : tie.After-struct-known Inv-loop μ-loop → tie.At-loop Inv-loop μ-loop
+turn-ended c = turn (ran (advanced c .before))
+
+-- the test that let this turn begin
+abbrev test : tie.After-struct-known Inv-loop μ-loop → tie.In-loop Inv-loop μ-loop
+test c = tested (ran (advanced c .before))
+
+loop-holds : tie.Need-loop-holds Inv-loop μ-loop
+loop-holds c =
+    let s = c .before .before .before .before .before .before .before in
+    record {
+      lies-in = (omega (arith, c .waits .ensures), omega (arith, c .waits .ensures, s .pre));
+      input-length = refl;
+      out-length = refl;
+      journal-length = refl;
+      unfinished-length = refl;
+      frames-length = refl;
+      buffer-length = refl;
+    }
+
+advance-requires : tie.Need-advance-requires Inv-loop μ-loop
+advance-requires c κs =
+    let r = ran c in
+    let l = turn r in
+    let k = l .loop .kept in
+    let i = l .loop .inv in
+    (i .lies-in, omega (arith, i, start l .pre), part-read (l .loop .input) (k .from) (k .waiting) (r .run .result .read) (i .lies-in .0) (r .run .ensures .1), r .run .ensures .2)
+
+loop-again : tie.Need-loop-again Inv-loop μ-loop
+loop-again c =
+    let i = turn-ended (c .before) .loop .inv in
+    record {
+      lies-in = advanced (c .before) .advance .ensures;
+      input-length = search (needs, i);
+      out-length = search (needs, i);
+      journal-length = search (needs, i);
+      unfinished-length = search (needs, i);
+      frames-length = search (needs, i);
+      buffer-length = search (needs, i);
+    }
+
+pub run-spec : {M : Type 1} → statement M
+run-spec =
+    tie.close
+    (tie.spec
+    Inv-loop
+    μ-loop
+    (λ c κs. search needs)
+    (λ c κs. search needs)
+    (λ c κs. search needs)
+    loop-holds
+    (λ c. search needs)
+    (λ c. search needs)
+    (λ c. search needs)
+    (λ c. search needs)
+    (λ c. search needs)
+    (λ c. search needs)
+    (λ c. search needs)
+    (λ c. search needs)
+    (λ c κs. search needs)
+    (λ c. search needs)
+    advance-requires
+    (λ c. search (needs, turn-ended (c .before) .loop .inv))
+    (λ c. tt)
+    (λ c. search (needs, test (c .before) .loop-test))
+    (λ c. search (needs, test (c .before) .loop-test))
+    loop-again
+    (λ c. search (needs, c .before .loop .inv))
+    (λ c. tt))
