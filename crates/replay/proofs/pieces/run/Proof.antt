@@ -2,7 +2,7 @@
 -- Assumes nothing.
 use borrow.Author.Needs.{needs}
 use native.Mathlib.Omega.{arith}
-use mathlib.Core.Path.{_≡_, refl}
+use mathlib.Core.Path.{_≡_, refl, _∙_}
 use mathlib.Core.List.{List}
 use Prim.Native.Nat.{ℕ}
 use lib.ListN.{length}
@@ -76,16 +76,25 @@ advance-requires c κs =
 
 loop-again : tie.Need-loop-again Inv-loop μ-loop
 loop-again c =
-    let i = turn-ended (c .before) .loop .inv in
+    let a = advanced (c .before) in
+    let r = ran (a .before) in
+    let i = turn r .loop .inv in
+    let k = r .run .kept .1 .1 in
+    let m = k .1 .1 .1 in
     record {
-      lies-in = advanced (c .before) .advance .ensures;
-      input-length = search (needs, i);
-      out-length = search (needs, i);
-      journal-length = search (needs, i);
-      unfinished-length = search (needs, i);
-      frames-length = search (needs, i);
-      buffer-length = search (needs, i);
+      lies-in = a .advance .ensures;
+      input-length = a .advance .kept .1 .1 .1 .1 .1 .0 ∙ i .input-length;
+      out-length = k .0 ∙ i .out-length;
+      journal-length = m .0 ∙ i .journal-length;
+      unfinished-length = m .1 .0 ∙ i .unfinished-length;
+      frames-length = m .1 .1 .0 ∙ i .frames-length;
+      buffer-length = m .1 .1 .1 .0 ∙ i .buffer-length;
     }
+
+same-length : tie.Need-same-length Inv-loop μ-loop
+same-length c =
+    let a = advanced (c .before) in
+    a .advance .kept .1 .1 .1 .1 .1 .0 ∙ turn (ran (a .before)) .loop .inv .input-length
 
 pub run-spec : {M : Type 1} → statement M
 run-spec =
@@ -108,10 +117,10 @@ run-spec =
     (λ c κs. search needs)
     (λ c. search needs)
     advance-requires
-    (λ c. search (needs, turn-ended (c .before) .loop .inv))
+    same-length
     (λ c. tt)
     (λ c. search (needs, test (c .before) .loop-test))
     (λ c. search (needs, test (c .before) .loop-test))
     loop-again
-    (λ c. search (needs, c .before .loop .inv))
+    (λ c. c .before .loop .inv .input-length)
     (λ c. tt))
