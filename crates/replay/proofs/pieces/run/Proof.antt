@@ -2,10 +2,11 @@
 -- Assumes nothing.
 use borrow.Author.Needs.{needs}
 use native.Mathlib.Omega.{arith}
-use mathlib.Core.Path.{_≡_, refl, _∙_}
+use mathlib.Core.Path.{_≡_, refl, sym, _∙_}
 use mathlib.Core.List.{List}
 use Prim.Native.Nat.{ℕ}
 use lib.ListN.{length}
+use Rattle.memory.specs.Sizes.{journalSize, unfinishedSize, framesSize, messageLimit}
 use Rattle.replay.specs.Ends.{LiesIn}
 use Rattle.replay.specs.declared.pieces.Kept.{Kept}
 use Rattle.replay.proofs.Places.{part-read}
@@ -13,18 +14,18 @@ use Rattle.replay.proofs.pieces.run.Statement.{statement}
 use Rattle.replay.proofs.pieces.run.Tie as tie
 
 -- before a turn: what waits lies in the input, and memory has its length
-record Going (kept : Kept) (input₀ input out₀ out journal₀ journal unfinished₀ unfinished frames₀ frames buffer₀ buffer : List ℕ) : Type 0 where
+record Going (kept : Kept) (input₀ input out journal unfinished frames buffer : List ℕ) : Type 0 where
   lies-in : LiesIn kept (length input)
   input-length : length input ≡ length input₀
-  out-length : length out ≡ length out₀
-  journal-length : length journal ≡ length journal₀
-  unfinished-length : length unfinished ≡ length unfinished₀
-  frames-length : length frames ≡ length frames₀
-  buffer-length : length buffer ≡ length buffer₀
+  out-length : length out ≡ 65536
+  journal-length : length journal ≡ journalSize
+  unfinished-length : length unfinished ≡ unfinishedSize
+  frames-length : length frames ≡ framesSize
+  buffer-length : length buffer ≡ messageLimit
 
 abbrev Inv-loop : tie.InvT-loop
 Inv-loop fd name n input₀ out₀ journal₀ unfinished₀ frames₀ buffer₀ numbers₀ used₀ kept₀ turns₀ input out journal unfinished frames buffer numbers used kept turns =
-    Going kept input₀ input out₀ out journal₀ journal unfinished₀ unfinished frames₀ frames buffer₀ buffer
+    Going kept input₀ input out journal unfinished frames buffer
 
 abbrev μ-loop : tie.MeasureT-loop
 μ-loop fd name n input₀ out₀ journal₀ unfinished₀ frames₀ buffer₀ numbers₀ used₀ kept₀ turns₀ input out journal unfinished frames buffer numbers used kept turns = turns
@@ -53,18 +54,30 @@ turn-ended c = turn (ran (advanced c .before))
 abbrev test : tie.After-struct-known Inv-loop μ-loop → tie.In-loop Inv-loop μ-loop
 test c = tested (ran (advanced c .before))
 
+-- this turn's start, from where the listing and the journal are lent
+abbrev lent-out : tie.After-out Inv-loop μ-loop → tie.At-loop Inv-loop μ-loop
+lent-out c = c .before .before .before .before
+
+abbrev lent-journal : tie.After-journal Inv-loop μ-loop → tie.At-loop Inv-loop μ-loop
+lent-journal c = lent-out (c .before .before .before)
+
 loop-holds : tie.Need-loop-holds Inv-loop μ-loop
 loop-holds c =
     let s = c .before .before .before .before .before .before .before in
     record {
       lies-in = (omega (arith, c .waits .ensures), omega (arith, c .waits .ensures, s .pre));
       input-length = refl;
-      out-length = refl;
-      journal-length = refl;
-      unfinished-length = refl;
-      frames-length = refl;
-      buffer-length = refl;
+      out-length = search needs;
+      journal-length = search needs;
+      unfinished-length = search needs;
+      frames-length = search needs;
+      buffer-length = search needs;
     }
+
+out-whole : tie.Need-slice-aggregate-advance Inv-loop μ-loop
+out-whole c =
+    let r = c .before .before .before .before .before .before in
+    sym (r .run .kept .1 .1 .0 ∙ turn r .loop .inv .out-length)
 
 advance-requires : tie.Need-advance-requires Inv-loop μ-loop
 advance-requires c κs =
@@ -109,13 +122,13 @@ run-spec =
     (λ c. search needs)
     (λ c. search needs)
     (λ c. search needs)
-    (λ c. search needs)
-    (λ c. search needs)
-    (λ c. search needs)
-    (λ c. search needs)
-    (λ c. search needs)
+    (λ c. sym (lent-out c .loop .inv .out-length))
+    (λ c. sym (lent-journal c .loop .inv .journal-length))
+    (λ c. sym (lent-journal (c .before) .loop .inv .unfinished-length))
+    (λ c. sym (lent-journal (c .before .before) .loop .inv .frames-length))
+    (λ c. sym (lent-journal (c .before .before .before) .loop .inv .buffer-length))
     (λ c κs. search needs)
-    (λ c. search needs)
+    out-whole
     advance-requires
     same-length
     (λ c. tt)
