@@ -1,10 +1,11 @@
 // A trace, piece by piece: as much as the input holds is run, the rest of a line moves to the front, and more is read behind it.
-ghost use Prim.Native.Nat.{_≤_, _<_};
+ghost use Prim.Native.Nat.{_+_, _≤_, _<_};
 ghost use mathlib.Core.Path.{_≡_};
 ghost use lib.ListN.{length};
 ghost use Rattle.listing.specs.Items.{lineLimit};
 ghost use Rattle.replay.specs.Ends.{LiesIn};
 use crate::writing;
+use replaying::Progress;
 use replaying::Stop;
 
 const NEWLINE: u8 = b'\n';
@@ -19,7 +20,8 @@ struct Kept {
     goes_on: bool,
 }
 
-// The memory of a run, and its first n bytes.
+// The memory of a run, and its first n bytes. A proved loop has to end, and nothing says that a trace does:
+// the loop counts down from a number that no trace uses up.
 pub fn run(fd: i32, name: &[u8], n: usize, input: &mut [u8])
     requires { ⌜ (n ≤ length (now input)) × (lineLimit < length (now input)) ⌝ }
 {
@@ -31,20 +33,28 @@ pub fn run(fd: i32, name: &[u8], n: usize, input: &mut [u8])
     let mut numbers = [0u16; calls::NUMBERS];
     let mut used = [0u32; calls::COUNTS];
     calls::fresh(&mut numbers, &mut used);
-    let first = waits(0, n, 0, false);
-    go_on(
-        fd,
-        name,
-        first,
-        input,
-        &mut out,
-        &mut numbers,
-        &mut used,
-        &mut journal,
-        &mut unfinished,
-        &mut frames,
-        &mut buffer,
-    );
+    let mut kept = waits(0, n, 0, false);
+    let mut turns = u64::MAX;
+    while 0 < turns {
+        let from = kept.from;
+        let end = kept.waiting;
+        let p = replaying::run(
+            kept.events,
+            &input[from..end],
+            &mut out,
+            &mut numbers,
+            &mut used,
+            &mut journal,
+            &mut unfinished,
+            &mut frames,
+            &mut buffer,
+        );
+        kept = advance(fd, name, kept, p, &out, input);
+        if !kept.goes_on {
+            return;
+        }
+        turns -= 1;
+    }
 }
 
 fn waits(from: usize, waiting: usize, events: u64, ended: bool) -> Kept
@@ -72,85 +82,20 @@ fn done() -> Kept
     }
 }
 
-// A proved loop has to end, and nothing says that a trace does: the loop counts down from a number that no trace uses up.
-fn go_on(
-    fd: i32,
-    name: &[u8],
-    first: Kept,
-    input: &mut [u8],
-    out: &mut [u8],
-    numbers: &mut [u16; calls::NUMBERS],
-    used: &mut [u32; calls::COUNTS],
-    journal: &mut [u8],
-    unfinished: &mut [u8],
-    frames: &mut [u8],
-    buffer: &mut [u8],
-)
-    requires { ⌜ LiesIn first (length (now input)) × (lineLimit < length (now input)) ⌝ }
-{
-    let mut kept = first;
-    let mut turns = u64::MAX;
-    while 0 < turns {
-        kept = advance(
-            fd,
-            name,
-            kept,
-            input,
-            out,
-            numbers,
-            used,
-            journal,
-            unfinished,
-            frames,
-            buffer,
-        );
-        if !kept.goes_on {
-            return;
-        }
-        turns -= 1;
-    }
-}
-
-// Runs what waits, as far as the room for rows allows, and writes the rows.
-fn advance(
-    fd: i32,
-    name: &[u8],
-    kept: Kept,
-    input: &mut [u8],
-    out: &mut [u8],
-    numbers: &mut [u16; calls::NUMBERS],
-    used: &mut [u32; calls::COUNTS],
-    journal: &mut [u8],
-    unfinished: &mut [u8],
-    frames: &mut [u8],
-    buffer: &mut [u8],
-) -> Kept
-    requires { ⌜ LiesIn kept (length (now input)) × (lineLimit < length (now input)) ⌝ }
+// What waits is run, as far as the room for rows allows: its rows are written, and the run goes on behind them.
+fn advance(fd: i32, name: &[u8], kept: Kept, p: Progress, out: &[u8], input: &mut [u8]) -> Kept
+    requires { ⌜ LiesIn kept (length (now input)) × (lineLimit < length (now input)) × (kept .from + p .read ≤ kept .waiting) × (p .written ≤ length (now out)) ⌝ }
     ensures { λ r. ⌜ LiesIn r (length (now (input .exit))) ⌝ }
 {
-    let from = kept.from;
-    let end = kept.waiting;
-    let p = replaying::run(
-        kept.events,
-        &input[from..end],
-        out,
-        numbers,
-        used,
-        journal,
-        unfinished,
-        frames,
-        buffer,
-    );
-    let written = p.written;
-    if !writing::rows(&out[..written]) {
+    if !writing::rows(&out[..p.written]) {
         return done();
     }
+    let at = kept.from + p.read;
     let stop = p.stop;
-    let at = from + p.read;
     match stop {
-        Stop::Output => waits(at, end, p.events, kept.ended),
+        Stop::Output => waits(at, kept.waiting, p.events, kept.ended),
         Stop::NotAnEvent => bad_line(p.events),
-        Stop::Input => more(fd, name, at, end, p.events, kept.ended, input),
+        Stop::Input => more(fd, name, at, kept.waiting, p.events, kept.ended, input),
     }
 }
 

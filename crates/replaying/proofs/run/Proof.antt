@@ -3,7 +3,7 @@
 use borrow.Author.Needs.{needs}
 use native.Mathlib.Omega.{arith}
 use Prim.Native.Nat.{ℕ, _≤_}
-use mathlib.Core.Path.{_≡_, refl, ap, _∙_}
+use mathlib.Core.Path.{_≡_, refl, sym, ap, subst, _∙_}
 use denote.Ref.{now}
 use lib.ListN.{length}
 use mathlib.Core.List.{List}
@@ -47,9 +47,12 @@ turning c = counted c .before .before
 abbrev start : tie.At-loop Inv-loop μ-loop → tie.Start Inv-loop μ-loop
 start c = c .before .before .before .before .before .before .before
 
--- the start of a turn that stopped
+-- the call of a turn that stopped, and the start of that turn
+abbrev stopped-call : tie.After-known-told Inv-loop μ-loop → tie.After-turn Inv-loop μ-loop
+stopped-call c = call (c .before .before .before)
+
 abbrev stopped-from : tie.After-known-told Inv-loop μ-loop → tie.At-loop Inv-loop μ-loop
-stopped-from c = turning (call (c .before .before .before))
+stopped-from c = turning (stopped-call c)
 
 -- the desk before a turn
 abbrev desk : tie.At-loop Inv-loop μ-loop → Desk
@@ -67,29 +70,32 @@ loop-holds c = record {
   written-within = omega arith;
 }
 
-same-length : tie.Need-same-length Inv-loop μ-loop
-same-length c = search (needs, stopped-from c .loop .inv)
+-- the listing has its length after a turn
+out-kept : (t : tie.After-turn Inv-loop μ-loop) → length (t .turn .last .1 .1 .1 .0) ≡ length (turning t .loop .out)
+out-kept t = t .turn .kept .1 .1 .1 .0
 
 returns : tie.Need-returns Inv-loop μ-loop
 returns c =
     let t = call (c .before .before .before) in
     let l = turning t in
     let i = l .loop .inv in
-    let stop = stopped-at _ _ _ _ _ (desk l) (counted t .wrapping-add-u64 .ensures) (t .turn .ensures .0) (l .loop .left) (search needs) (c .before .turn2 .given .1) in
-    (as-piece (i .comes-to) stop, i .read-within, omega (arith, i, same-length c))
+    let stop = stopped-at _ _ _ _ _ (desk l) (counted t .wrapping-add-u64 .ensures) (t .turn .ensures .0) (l .loop .left) (search (needs, counted t .before .loop-test)) (c .before .turn2 .given .1) in
+    (as-piece (i .comes-to) stop, i .read-within, subst (λ (n : ℕ). l .loop .put ≤ n) (sym (out-kept t)) (i .written-within))
 
 loop-again : tie.Need-loop-again Inv-loop μ-loop
 loop-again c =
     let t = call (c .before .before .before) in
     let l = turning t in
     let i = l .loop .inv in
-    let w = c .before .turn3 .given .1 in record {
-      comes-to = i .comes-to ∙ went-on _ _ _ _ _ (desk l) (counted t .wrapping-add-u64 .ensures) (t .turn .ensures .0) (l .loop .left) (search needs) w;
-      out-length = search (needs, i);
-      journal-length = search (needs, i);
-      unfinished-length = search (needs, i);
-      frames-length = search (needs, i);
-      buffer-length = search (needs, i);
+    let w = c .before .turn3 .given .1 in
+    let k = t .turn .kept .1 .1 .1 in
+    let m = k .1 .1 .1 .1 in record {
+      comes-to = i .comes-to ∙ went-on _ _ _ _ _ (desk l) (counted t .wrapping-add-u64 .ensures) (t .turn .ensures .0) (l .loop .left) (search (needs, counted t .before .loop-test)) w;
+      out-length = k .0 ∙ i .out-length;
+      journal-length = m .0 ∙ i .journal-length;
+      unfinished-length = m .1 .0 ∙ i .unfinished-length;
+      frames-length = m .1 .1 .0 ∙ i .frames-length;
+      buffer-length = m .1 .1 .1 .0 ∙ i .buffer-length;
       read-within = read-in w (t .turn .ensures .1);
       written-within = ends-in w (t .turn .ensures .2);
     }
@@ -112,19 +118,19 @@ run-spec =
     (λ c κs. search needs)
     (λ c κs. search needs)
     (λ c. search needs)
-    same-length
-    (λ c. search (needs, stopped-from c .loop .inv))
-    (λ c. search (needs, stopped-from c .loop .inv))
-    (λ c. search (needs, stopped-from c .loop .inv))
-    (λ c. search (needs, stopped-from c .loop .inv))
+    (λ c. out-kept (stopped-call c) ∙ stopped-from c .loop .inv .out-length)
+    (λ c. stopped-call c .turn .kept .1 .1 .1 .1 .1 .1 .1 .0 ∙ stopped-from c .loop .inv .journal-length)
+    (λ c. stopped-call c .turn .kept .1 .1 .1 .1 .1 .1 .1 .1 .0 ∙ stopped-from c .loop .inv .unfinished-length)
+    (λ c. stopped-call c .turn .kept .1 .1 .1 .1 .1 .1 .1 .1 .1 .0 ∙ stopped-from c .loop .inv .frames-length)
+    (λ c. stopped-call c .turn .kept .1 .1 .1 .1 .1 .1 .1 .1 .1 .1 .0 ∙ stopped-from c .loop .inv .buffer-length)
     returns
     (λ c. search needs)
     (λ c. search needs)
     (λ c. search needs)
     loop-again
-    (λ c. search (needs, c .before .loop .inv))
-    (λ c. search (needs, c .before .loop .inv))
-    (λ c. search (needs, c .before .loop .inv))
-    (λ c. search (needs, c .before .loop .inv))
-    (λ c. search (needs, c .before .loop .inv))
+    (λ c. c .before .loop .inv .out-length)
+    (λ c. c .before .loop .inv .journal-length)
+    (λ c. c .before .loop .inv .unfinished-length)
+    (λ c. c .before .loop .inv .frames-length)
+    (λ c. c .before .loop .inv .buffer-length)
     returns-2)
