@@ -1,4 +1,3 @@
-pub mod Entries
 pub mod Chain
 pub mod Answers
 pub mod Verdicts

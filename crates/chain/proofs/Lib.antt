@@ -1,0 +1,4 @@
+pub mod Chains
+pub mod Oldest
+pub mod Founds
+pub mod OneOutcome
