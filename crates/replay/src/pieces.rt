@@ -28,9 +28,9 @@ pub fn run(fd: i32, name: &[u8], n: usize, input: &mut [u8])
     let mut unfinished = [0u8; memory::UNFINISHED_SIZE];
     let mut frames = [0u8; memory::FRAMES_SIZE];
     let mut buffer = [0u8; memory::MESSAGE_LIMIT];
-    let mut numbers = [0u16; calls::NUMBERS];
-    let mut used = [0u32; calls::COUNTS];
-    calls::fresh(&mut numbers, &mut used);
+    let mut numbers = [0u16; layout::NUMBERS];
+    let mut used = [0u32; layout::COUNTS];
+    layout::fresh(&mut numbers, &mut used);
     let first = waits(0, n, 0, false);
     go_on(
         fd,
@@ -79,8 +79,8 @@ fn go_on(
     first: Kept,
     input: &mut [u8],
     out: &mut [u8],
-    numbers: &mut [u16; calls::NUMBERS],
-    used: &mut [u32; calls::COUNTS],
+    numbers: &mut [u16; layout::NUMBERS],
+    used: &mut [u32; layout::COUNTS],
     journal: &mut [u8],
     unfinished: &mut [u8],
     frames: &mut [u8],
@@ -118,8 +118,8 @@ fn advance(
     kept: Kept,
     input: &mut [u8],
     out: &mut [u8],
-    numbers: &mut [u16; calls::NUMBERS],
-    used: &mut [u32; calls::COUNTS],
+    numbers: &mut [u16; layout::NUMBERS],
+    used: &mut [u32; layout::COUNTS],
     journal: &mut [u8],
     unfinished: &mut [u8],
     frames: &mut [u8],
