@@ -1,4 +1,3 @@
-pub mod Numbers
 pub mod Narrow
 pub mod Ways
 pub mod OneOutcome

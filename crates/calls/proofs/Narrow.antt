@@ -4,7 +4,7 @@ use mathlib.Core.Path.{_≡_, refl, ap}
 use mathlib.Core.Bool.{Bool, true, false, _&&_}
 use mathlib.Core.List.{List, [], _∷_}
 use mathlib.Core.Option.{Option, none, some}
-use Prim.Native.Nat.{ℕ, _^_, _<_}
+use Prim.Native.Nat.{ℕ}
 use native.Mathlib.Omega.{arith}
 use lib.Dec.{ltb, leb, eqb}
 use lib.ListN.{length}
@@ -24,6 +24,7 @@ use Rattle.journal.specs.declared.Verdict.{Verdict as Judgement}
 use Rattle.header.proofs.Heads.{head-size-high}
 use Rattle.journal.proofs.Judged.{fits-facts}
 use Rattle.journal.proofs.Wholes.{kept}
+use Rattle.calls.specs.Calls.{Narrow}
 use Rattle.line.specs.Line.{withinLimits}
 use Rattle.line.specs.declared.Line.{Line}
 use Rattle.looking.specs.Views.{framesOf, textsOf, joinedText}
@@ -36,10 +37,6 @@ use Rattle.looking.specs.declared.Event.{Event}
 use Rattle.looking.specs.declared.Verdict.the-variants.{Left, Against}
 use Rattle.looking.specs.Fitting.{textFits}
 use Rattle.answers.specs.declared.Answer.the-variants.{NoLine, WrongSize, BeyondLimits}
-
--- d's bytes in use fit into 32 bits
-abbrev pub Narrow : Ledger → Type 0
-Narrow d = d .in_use < 2 ^ 32
 
 either : (t : Bool) (a b : AfterTaking) → Narrow (a .taking .ledger) → Narrow (b .taking .ledger) → Narrow (unless t a b .taking .ledger)
 either true a b p q = q

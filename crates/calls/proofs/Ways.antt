@@ -1,14 +1,14 @@
 -- Each way out of a call.
 -- Assumes nothing.
 use mathlib.Core.Path.{_≡_, refl, sym, ap, subst, _∙_}
-use mathlib.Core.Bool.{true, false, not, _&&_}
+use mathlib.Core.Bool.{Bool, true, false, not, _&&_}
 use mathlib.Core.List.{List}
 use Prim.Native.Nat.{ℕ, _+_, _≤_, _<_}
 use borrow.Author.Tests.{lt-ltb, le-ltb, eqb-true, not-true}
-use lib.Dec.{eqb}
-use lib.ListN.{length, set}
-use Rattle.memory.specs.Sizes.{lines}
-use Rattle.memory.specs.Tests.{is}
+use lib.Dec.{ltb, eqb}
+use lib.ListN.{length, getD, set}
+use Rattle.memory.specs.Sizes.{lines, framesSize}
+use Rattle.memory.specs.Tests.{is, unless}
 use Rattle.memory.proofs.Tests.{and-left, and-right, clash}
 use Rattle.characters.specs.Control.{lf, stx}
 use Rattle.room.specs.Room.{todaysShares}
@@ -35,13 +35,16 @@ use Rattle.looking.specs.declared.Kind.{Kind}
 use Rattle.looking.specs.declared.Kind.the-variants.{Byte, Seconds}
 use Rattle.looking.specs.declared.Verdict.{Verdict}
 use Rattle.looking.specs.declared.Verdict.the-variants.{Collects, Begins}
-use Rattle.calls.specs.Plain.{waiting, inside, begins, insideAt, firstAt, numberAt, stateOf, withLine, withSerial, withUsed, withinNumbers, onlyCollects, oneMore, quick, lineOf, ledgerOf, told, toldTaking}
-use Rattle.calls.specs.Calls.{AfterCall, refused, putBack, callOf, Called, Calling, Stepping, Deciding, Taken}
-use Rattle.calls.specs.declared.Answered.{Answered}
-use Rattle.calls.proofs.Numbers.{told-within, used-back, serial-back, count-back, begun-back}
+use Rattle.numbers.specs.Plain.{waiting, inside, begins, insideAt, firstAt, numberAt, stateOf, withLine, withSerial, withUsed, withinNumbers, onlyCollects, oneMore, quick, lineOf, ledgerOf, told}
+use Rattle.calls.specs.Calls.{AfterCall, refused, putBack, callOf, Called, Calling, Stepping, Deciding, PutBack, Narrow, Taken, toldTaking}
+use Rattle.numbers.specs.Changes.{recordOf, isCollected, Collected, isBegun, Begun, recordAfter, serialAfter, countsAfter}
+use Rattle.numbers.specs.declared.Tells.{Tells}
+use Rattle.numbers.specs.declared.Tells.the-variants.{Record, NoRecord}
+use Rattle.numbers.specs.declared.Answered.{Answered}
+use Rattle.numbers.proofs.Numbers.{told-within, used-back, serial-back, count-back, begun-back}
 use Rattle.journal.proofs.Takings.{taken-line}
 use Rattle.receiving.proofs.Steps.{step-after, alone-asks, step-decides}
-use Rattle.calls.proofs.Narrow.{Narrow, decide-narrow, taking-narrow}
+use Rattle.calls.proofs.Narrow.{decide-narrow, taking-narrow}
 
 as-called : {s t : AfterCall} {r : Answered} {ns us j u f : List ℕ} → s ≡ t → Called t r ns us j u f → Called s r ns us j u f
 as-called {s} {t} {r} {ns} {us} {j} {u} {f} q c = subst (λ (x : AfterCall). Called x r ns us j u f) (sym q) c
@@ -63,44 +66,59 @@ module _ (ns us : List ℕ) (e : Event) (j u f : List ℕ) where
   unfolding callOf
   beyond r h s w q = as-called (rw (lt-ltb (e .line) lines h, s, w)) (same BeyondLimits r q)
 
+  -- past 40 to 42: the step
+  pub by-step : {r : Answered} {ns′ us′ j′ u′ f′ : List ℕ} → e .line < lines → rightLengths (length j) (length u) (length f) ≡ true → withinNumbers ns (e .line) ≡ true
+      → Stepping ns us (lineOf ns (e .line)) e j u f r ns′ us′ j′ u′ f′ → Calling ns us e j u f r ns′ us′ j′ u′ f′
+  unfolding callOf
+  by-step h s w c = as-called (rw (lt-ltb (e .line) lines h, s, w)) c
+
+-- the step of a line with the record l, and the deciding
+module _ (ns us : List ℕ) (l : Line) (e : Event) (j u f : List ℕ) where
   -- an outcome of the gateway, put back
-  put-back : {x : AfterStep} {s : Stepped} {ns₁ ns₂ us′ j′ u′ f′ : List ℕ} {r : Answered} → Leaves x s j′ u′ f′ → ns₁ ≡ withLine ns (e .line) (s .line) → ns₂ ≡ withSerial ns₁ (e .line) (s .ledger)
-      → us′ ≡ withUsed us (e .line) (s .ledger) → r ≡ told (s .answer) → Called (putBack ns us (e .line) x) r ns₂ us′ j′ u′ f′
-  put-back {x} {s} y m n o t = record {
-    result = t ∙ ap (λ (z : Stepped). told (z .answer)) (y .result);
-    numbers = n ∙ ap (λ (z : List ℕ). withSerial z (e .line) (s .ledger)) m ∙ ap (λ (z : Stepped). withSerial (withLine ns (e .line) (z .line)) (e .line) (z .ledger)) (y .result);
-    used = o ∙ ap (λ (z : Stepped). withUsed us (e .line) (z .ledger)) (y .result);
+  put-back : {x : AfterStep} {s : Stepped} {ns′ us′ j′ u′ f′ : List ℕ} {r : Answered} → Leaves x s j′ u′ f′ → PutBack ns us (e .line) s r ns′ us′ → Called (putBack ns us (e .line) x) r ns′ us′ j′ u′ f′
+  put-back y p = record {
+    result = p .result ∙ ap (λ (z : Stepped). told (z .answer)) (y .result);
+    numbers = p .numbers ∙ ap (λ (z : Stepped). withSerial (withLine ns (e .line) (z .line)) (e .line) (z .ledger)) (y .result);
+    used = p .used ∙ ap (λ (z : Stepped). withUsed us (e .line) (z .ledger)) (y .result);
     journal = y .journal;
     unfinished = y .unfinished;
     frames = y .frames;
   }
 
-  -- past 40 to 42: the step
-  pub by-step : {r : Answered} {ns′ us′ j′ u′ f′ : List ℕ} → e .line < lines → rightLengths (length j) (length u) (length f) ≡ true → withinNumbers ns (e .line) ≡ true
-      → Stepping ns us e j u f r ns′ us′ j′ u′ f′ → Calling ns us e j u f r ns′ us′ j′ u′ f′
-  unfolding callOf
-  by-step h s w c = as-called (rw (lt-ltb (e .line) lines h, s, w)) c
-
   -- a step that is done on the line alone: the ledger stays
-  pub put-after : {l : Line} {t : Alone} {v : Verdict} {a : Answer} {ns′ u′ f′ : List ℕ} {r : Answered} → e .line < lines → l ≡ lineOf ns (e .line) → SteppingAlone l e (length j) u f t u′ f′
-      → t .look ≡ Done v → ns′ ≡ withLine ns (e .line) (t .line) → a ≡ answerOf v → r ≡ told a → Stepping ns us e j u f r ns′ us j u′ f′
-  put-after {l} {t} {v} {a} {ns′} {u′} {f′} {r} h p s k m w q =
-      let x : SteppingAlone (lineOf ns (e .line)) e (length j) u f t u′ f′ = rw (← p) s in
-      put-back (step-after (lineOf ns (e .line)) (ledgerOf ns us) e j u f t v x k w) refl (m ∙ sym (serial-back ns us (e .line) (t .line) h)) (sym (used-back ns us (e .line) h)) q
+  pub put-after : {t : Alone} {v : Verdict} {ns′ u′ f′ : List ℕ} {r : Answered} → e .line < lines → SteppingAlone l e (length j) u f t u′ f′ → t .look ≡ Done v → ns′ ≡ withLine ns (e .line) (t .line) → r ≡ told (answerOf v)
+      → Stepping ns us l e j u f r ns′ us j u′ f′
+  put-after {t} {v} h x k m q =
+      put-back (step-after l (ledgerOf ns us) e j u f t v x k refl) (record { result = q; numbers = m ∙ sym (serial-back ns us (e .line) (t .line) h); used = sym (used-back ns us (e .line) h) })
 
   -- a message that is decided
-  pub put-decided : (l : Line) (n : ℕ) {d : Ledger} {s : Stepped} {ns₁ ns₂ us′ j′ u′ f′ : List ℕ} {r : Answered} → d ≡ ledgerOf ns us → Leaves (decideOf todaysShares l d e n (memoryOf j u f)) s j′ u′ f′
-      → ns₁ ≡ withLine ns (e .line) (s .line) → ns₂ ≡ withSerial ns₁ (e .line) (s .ledger) → us′ ≡ withUsed us (e .line) (s .ledger) → r ≡ told (s .answer) → Deciding ns us l e n j u f r ns₂ us′ j′ u′ f′
-  put-decided l n {d} {s} {ns₁} {ns₂} {us′} {j′} {u′} {f′} {r} q x m o p t =
+  pub put-decided : (n : ℕ) {d : Ledger} {s : Stepped} {ns′ us′ j′ u′ f′ : List ℕ} {r : Answered} → d ≡ ledgerOf ns us → Leaves (decideOf todaysShares l d e n (memoryOf j u f)) s j′ u′ f′ → PutBack ns us (e .line) s r ns′ us′
+      → Deciding ns us l e n j u f r ns′ us′ j′ u′ f′
+  put-decided n {d} {s} {ns′} {us′} {j′} {u′} {f′} q x p =
       let y : Leaves (decideOf todaysShares l (ledgerOf ns us) e n (memoryOf j u f)) s j′ u′ f′ = rw (← q) x in
-      put-back y m o p t
+      put-back y p
 
-  pub by-decide : {l : Line} {t : Alone} {n : ℕ} {u₁ f₁ ns′ us′ j′ u′ f′ : List ℕ} {r : Answered} → l ≡ lineOf ns (e .line) → SteppingAlone l e (length j) u f t u₁ f₁ → t .look ≡ Decides n
-      → Deciding ns us l e n j u₁ f₁ r ns′ us′ j′ u′ f′ → Stepping ns us e j u f r ns′ us′ j′ u′ f′
-  by-decide {l} {t} {n} {u₁} {f₁} {ns′} {us′} {j′} {u′} {f′} {r} p s k c =
+  pub by-decide : {t : Alone} {n : ℕ} {u₁ f₁ ns′ us′ j′ u′ f′ : List ℕ} {r : Answered} → SteppingAlone l e (length j) u f t u₁ f₁ → t .look ≡ Decides n → Deciding ns us l e n j u₁ f₁ r ns′ us′ j′ u′ f′
+      → Stepping ns us l e j u f r ns′ us′ j′ u′ f′
+  by-decide {t} {n} {u₁} {f₁} {ns′} {us′} {j′} {u′} {f′} {r} s k c =
       let (h, x, y) = alone-asks l (ledgerOf ns us) e j u f t s k in
       let z : Deciding ns us l e n j u f r ns′ us′ j′ u′ f′ = rw (← x, ← y) c in
-      rw (← p) (as-called (ap (λ (w : AfterStep). putBack ns us (e .line) w) (step-decides l (ledgerOf ns us) e j u f n h)) z)
+      as-called (ap (λ (w : AfterStep). putBack ns us (e .line) w) (step-decides l (ledgerOf ns us) e j u f n h)) z
+
+-- on a line that is there, what is put is put
+there : {A : Type 0} (i : ℕ) (x y : A) → i < lines → unless (ltb i lines) x y ≡ y
+there i x y h = rw (lt-ltb i lines h)
+
+pub put-record-there : (ns : List ℕ) (i : ℕ) (l : Line) {ns′ : List ℕ} → i < lines → ns′ ≡ recordAfter ns i l → ns′ ≡ withLine ns i l
+put-record-there ns i l h e = e ∙ there i ns (withLine ns i l) h
+
+pub put-there : (ns us : List ℕ) (i : ℕ) (s : Stepped) {ns₁ ns₂ us′ : List ℕ} {r : Answered} → i < lines → ns₁ ≡ recordAfter ns i (s .line) → ns₂ ≡ serialAfter ns₁ i (getD (s .ledger .serials) i 0)
+    → us′ ≡ countsAfter us i (getD (s .ledger .used) i 0) (s .ledger .in_use) → r ≡ told (s .answer) → PutBack ns us i s r ns₂ us′
+put-there ns us i s {ns₁} h p q o t = record {
+  result = t;
+  numbers = q ∙ there i ns₁ (withSerial ns₁ i (s .ledger)) h ∙ ap (λ (x : List ℕ). withSerial x i (s .ledger)) (put-record-there ns i (s .line) h p);
+  used = o ∙ there i us (withUsed us i (s .ledger)) h;
+}
 
 -- the ledger after a deciding still fits
 pub narrow-after : (l : Line) (d : Ledger) (e : Event) (n : ℕ) (m : Memory) {s : Stepped} → s ≡ decideOf todaysShares l d e n m .stepped → Narrow d → Narrow (s .ledger)
@@ -108,7 +126,7 @@ narrow-after l d e n m q w = subst (λ (z : Stepped). Narrow (z .ledger)) (sym q
 
 -- a byte that is only collected
 module _ (ns : List ℕ) (i b : ℕ) (q : quick ns i b ≡ true) where
-  pub quick-within : withinNumbers ns i ≡ true
+  quick-within : withinNumbers ns i ≡ true
   quick-within = and-right (onlyCollects ns i b) (withinNumbers ns i) q
 
   is-inside : stateOf (firstAt ns i) ≡ Inside
@@ -138,7 +156,7 @@ module _ (ns us : List ℕ) (i b : ℕ) (j u f : List ℕ) (h : i < lines) (s : 
   unfolding verdictOf ownWork byteLook insideLook
   collects q = rw (lt-ltb i lines h, s, told-within ns i (quick-within ns i b q), no-end ns i b q .0, no-end ns i b q .1, is-inside ns i b q)
 
-  pub by-quick : {r : Answered} {ns′ f′ : List ℕ} → quick ns i b ≡ true → r ≡ told Nothing → ns′ ≡ oneMore ns i → f′ ≡ set f (frameStart i + numberAt ns i 1) b → Calling ns us here j u f r ns′ us j u f′
+  by-quick : {r : Answered} {ns′ f′ : List ℕ} → quick ns i b ≡ true → r ≡ told Nothing → ns′ ≡ oneMore ns i → f′ ≡ set f (frameStart i + numberAt ns i 1) b → Calling ns us here j u f r ns′ us j u f′
   by-quick q p n g = by-step ns us here j u f h s (quick-within ns i b q) (as-called (stepped Collects (collects q)) (record {
     result = p;
     numbers = n ∙ sym (count-back ns us i h (quick-within ns i b q) (numberAt ns i 1 + 1));
@@ -147,6 +165,29 @@ module _ (ns us : List ℕ) (i b : ℕ) (j u f : List ℕ) (h : i < lines) (s : 
     unfinished = refl;
     frames = g;
   }))
+
+  collected-quick : isCollected ns i b f ≡ true → quick ns i b ≡ true
+  unfolding isCollected
+  collected-quick is = and-right (eqb (length f) framesSize) (quick ns i b) (and-right (ltb i lines) (eqb (length f) framesSize && quick ns i b) is)
+
+  -- and one that was, or was not
+  module _ {t : Bool} {ns₁ f₁ : List ℕ} (x : Collected ns i b f t ns₁ f₁) where
+    pub by-collected : {r : Answered} → t ≡ true → r ≡ told Nothing → Calling ns us here j u f r ns₁ us j u f₁
+    by-collected p q =
+        let is : isCollected ns i b f ≡ true = sym (x .result) ∙ p in
+        by-quick (collected-quick is) q (x .numbers ∙ rw is) (x .frames ∙ rw is)
+
+    kept-numbers : t ≡ false → ns₁ ≡ ns
+    kept-numbers p = x .numbers ∙ rw (sym (x .result) ∙ p)
+
+    kept-frames : t ≡ false → f₁ ≡ f
+    kept-frames p = x .frames ∙ rw (sym (x .result) ∙ p)
+
+    pub kept-sizes : t ≡ false → rightLengths (length j) (length u) (length f₁) ≡ true
+    kept-sizes p = rw (kept-frames p) s
+
+    pub not-collected : {r : Answered} {ns′ us′ j′ u′ f′ : List ℕ} → t ≡ false → Calling ns₁ us here j u f₁ r ns′ us′ j′ u′ f′ → Calling ns us here j u f r ns′ us′ j′ u′ f′
+    not-collected p c = rw (← kept-numbers p, ← kept-frames p) c
 
 -- STX between frames: the line is inside one, and nothing else has changed
 module _ (ns us : List ℕ) (e : Event) (j u f : List ℕ) (h : e .line < lines) (s : rightLengths (length j) (length u) (length f) ≡ true) (w : withinNumbers ns (e .line) ≡ true) where
@@ -158,7 +199,7 @@ module _ (ns us : List ℕ) (e : Event) (j u f : List ℕ) (h : e .line < lines)
       rw (lt-ltb (e .line) lines h, s, told-within ns (e .line) w, p, between, stx-is)
   begin-verdict (Seconds n) p q = clash cc
 
-  pub by-begin : {ns′ : List ℕ} → begins ns (e .line) (e .kind) ≡ true → ns′ ≡ insideAt ns (e .line) → Calling ns us e j u f (told Nothing) ns′ us j u f
+  by-begin : {ns′ : List ℕ} → begins ns (e .line) (e .kind) ≡ true → ns′ ≡ insideAt ns (e .line) → Calling ns us e j u f (told Nothing) ns′ us j u f
   unfolding stepOf
   by-begin q n = by-step ns us e j u f h s w (as-called (ap (λ (x : Verdict). putBack ns us (e .line) (settle x (lineOf ns (e .line)) (ledgerOf ns us) e (memoryOf j u f))) (begin-verdict (e .kind) refl q)) (record {
     result = refl;
@@ -168,6 +209,45 @@ module _ (ns us : List ℕ) (e : Event) (j u f : List ℕ) (h : e .line < lines)
     unfinished = refl;
     frames = refl;
   }))
+
+-- an event that began a frame, or did not
+module _ (ns us : List ℕ) (e : Event) (j u f : List ℕ) (h : e .line < lines) (s : rightLengths (length j) (length u) (length f) ≡ true) {t : Bool} {ns₁ : List ℕ} (x : Begun ns (e .line) (e .kind) t ns₁) where
+  begun-within : isBegun ns (e .line) (e .kind) ≡ true → (begins ns (e .line) (e .kind) ≡ true) × (withinNumbers ns (e .line) ≡ true)
+  unfolding isBegun
+  begun-within is =
+      let rest = and-right (ltb (e .line) lines) (begins ns (e .line) (e .kind) && withinNumbers ns (e .line)) is in
+      (and-left (begins ns (e .line) (e .kind)) (withinNumbers ns (e .line)) rest, and-right (begins ns (e .line) (e .kind)) (withinNumbers ns (e .line)) rest)
+
+  pub by-begun : {r : Answered} → t ≡ true → r ≡ told Nothing → Calling ns us e j u f r ns₁ us j u f
+  by-begun p q =
+      let is : isBegun ns (e .line) (e .kind) ≡ true = sym (x .result) ∙ p in
+      let (stx, w) = begun-within is in
+      rw q (by-begin ns us e j u f h s w stx (x .numbers ∙ rw is))
+
+  not-begun : t ≡ false → ns₁ ≡ ns
+  not-begun p = x .numbers ∙ rw (sym (x .result) ∙ p)
+
+  -- what the numbers tell
+  tells : {q : Tells} → t ≡ false → q ≡ recordOf ns₁ (e .line) → q ≡ unless (withinNumbers ns (e .line)) NoRecord (Record (lineOf ns (e .line)))
+  unfolding recordOf
+  tells p d = d ∙ rw (not-begun p, lt-ltb (e .line) lines h)
+
+  pub by-none : {q : Tells} {r : Answered} → t ≡ false → q ≡ recordOf ns₁ (e .line) → q ≡ NoRecord → r ≡ told BeyondLimits → Calling ns us e j u f r ns₁ us j u f
+  by-none {r = r} p d z a = rw (not-begun p) (beyond ns us e j u f r h s (none (withinNumbers ns (e .line)) (sym z ∙ tells p d)) a)
+    where
+      none : (w : Bool) → NoRecord ≡ unless w NoRecord (Record (lineOf ns (e .line))) → w ≡ false
+      none true k = clash cc
+      none false k = refl
+
+  pub by-record : {q : Tells} {l : Line} {r : Answered} {ns′ us′ j′ u′ f′ : List ℕ} → t ≡ false → q ≡ recordOf ns₁ (e .line) → q ≡ Record l → Stepping ns₁ us l e j u f r ns′ us′ j′ u′ f′ → Calling ns us e j u f r ns′ us′ j′ u′ f′
+  by-record {q} {l} {r} {ns′} {us′} {j′} {u′} {f′} p d z c =
+      let (w, k) = some (withinNumbers ns (e .line)) (sym z ∙ tells p d) in
+      let y : Stepping ns us (lineOf ns (e .line)) e j u f r ns′ us′ j′ u′ f′ = rw (← k, ← not-begun p) c in
+      by-step ns us e j u f h s w y
+    where
+      some : (w : Bool) → Record l ≡ unless w NoRecord (Record (lineOf ns (e .line))) → (w ≡ true) × (l ≡ lineOf ns (e .line))
+      some true k = (refl, cc)
+      some false k = clash cc
 
 -- a taking
 module _ (ns us : List ℕ) (i : ℕ) (j b : List ℕ) where
@@ -186,13 +266,13 @@ module _ (ns us : List ℕ) (i : ℕ) (j b : List ℕ) where
         buffer = n .lent;
       }
 
-  pub taken-there : {d : Ledger} {t : Taking} {us′ j′ b′ : List ℕ} {r : Answered} → i < lines → d ≡ ledgerOf ns us → TakenFrom d i j b t j′ b′ → r ≡ toldTaking (t .answer) → us′ ≡ withUsed us i (t .ledger)
+  pub taken-there : {d : Ledger} {t : Taking} {us′ j′ b′ : List ℕ} {r : Answered} → i < lines → d ≡ ledgerOf ns us → TakenFrom d i j b t j′ b′ → r ≡ toldTaking (t .answer) → us′ ≡ countsAfter us i (getD (t .ledger .used) i 0) (t .ledger .in_use)
       → Taken ns us i j b r us′ j′ b′
   taken-there {d} {t} {us′} {j′} {b′} {r} h p x q o =
       let y : TakenFrom (ledgerOf ns us) i j b t j′ b′ = rw (← p) x in
       record {
         result = q ∙ ap (λ (z : Taking). toldTaking (z .answer)) (y .result);
-        used = rw (lt-ltb i lines h) (o ∙ ap (λ (z : Taking). withUsed us i (z .ledger)) (y .result));
+        used = rw (lt-ltb i lines h) (o ∙ there i us (withUsed us i (t .ledger)) h ∙ ap (λ (z : Taking). withUsed us i (z .ledger)) (y .result));
         journal = y .after;
         buffer = y .lent;
       }

@@ -1,14 +1,16 @@
 -- What a host's calls leave: an event and a taking over plain numbers.
 -- Assumes nothing.
-use Prim.Native.Nat.{ℕ, _+_}
+use Prim.Native.Nat.{ℕ, _^_, _<_}
 use mathlib.Core.Path.{_≡_}
 use mathlib.Core.List.{List}
-use lib.ListN.{replicate}
 use lib.Dec.{ltb}
 use Rattle.memory.specs.Sizes.{lines}
 use Rattle.memory.specs.Tests.{unless}
 use Rattle.room.specs.Room.{todaysShares}
 use Rattle.journal.specs.Removal.{AfterTaking, takeOf}
+use Rattle.journal.specs.declared.Ledger.{Ledger}
+use Rattle.journal.specs.declared.Took.{Took}
+use Rattle.answers.specs.Paper.{numberOf}
 use Rattle.line.specs.declared.Line.{Line}
 use Rattle.answers.specs.declared.Answer.{Answer}
 use Rattle.answers.specs.declared.Answer.the-variants.{NoLine, WrongSize, BeyondLimits}
@@ -16,8 +18,10 @@ use Rattle.looking.specs.Lent.{rightSizes}
 use Rattle.receiving.specs.Steps.{Memory, memoryOf, AfterStep, stepOf}
 use Rattle.receiving.specs.Alone.{decideOf}
 use Rattle.looking.specs.declared.Event.{Event}
-use Rattle.calls.specs.Plain.{withinNumbers, lineOf, withLine, ledgerOf, withSerial, withUsed, told, toldTaking, freshNumbers}
-use Rattle.calls.specs.declared.Answered.{Answered}
+use Rattle.taking.specs.Taking.{tookAnswer}
+use Rattle.receiving.specs.declared.Stepped.{Stepped}
+use Rattle.numbers.specs.Plain.{withinNumbers, lineOf, withLine, ledgerOf, withSerial, withUsed, told}
+use Rattle.numbers.specs.declared.Answered.{Answered}
 
 -- the answer, the numbers and the lent memory after an event
 pub record AfterCall : Type 0 where
@@ -59,13 +63,31 @@ pub record Called (s : AfterCall) (r : Answered) (ns us j u f : List ℕ) : Type
 abbrev pub Calling : List ℕ → List ℕ → Event → List ℕ → List ℕ → List ℕ → Answered → List ℕ → List ℕ → List ℕ → List ℕ → List ℕ → Type 0
 Calling ns us e j u f r ns′ us′ j′ u′ f′ = Called (callOf ns us e (memoryOf j u f)) r ns′ us′ j′ u′ f′
 
--- the step alone, past 40 to 42
-abbrev pub Stepping : List ℕ → List ℕ → Event → List ℕ → List ℕ → List ℕ → Answered → List ℕ → List ℕ → List ℕ → List ℕ → List ℕ → Type 0
-Stepping ns us e j u f r ns′ us′ j′ u′ f′ = Called (putBack ns us (e .line) (stepOf todaysShares (lineOf ns (e .line)) (ledgerOf ns us) e (memoryOf j u f))) r ns′ us′ j′ u′ f′
+-- the step alone, past 40 to 42, of a line with this record
+abbrev pub Stepping : List ℕ → List ℕ → Line → Event → List ℕ → List ℕ → List ℕ → Answered → List ℕ → List ℕ → List ℕ → List ℕ → List ℕ → Type 0
+Stepping ns us l e j u f r ns′ us′ j′ u′ f′ = Called (putBack ns us (e .line) (stepOf todaysShares l (ledgerOf ns us) e (memoryOf j u f))) r ns′ us′ j′ u′ f′
 
 -- the deciding of a message that n bytes of its frame complete
 abbrev pub Deciding : List ℕ → List ℕ → Line → Event → ℕ → List ℕ → List ℕ → List ℕ → Answered → List ℕ → List ℕ → List ℕ → List ℕ → List ℕ → Type 0
 Deciding ns us l e n j u f r ns′ us′ j′ u′ f′ = Called (putBack ns us (e .line) (decideOf todaysShares l (ledgerOf ns us) e n (memoryOf j u f))) r ns′ us′ j′ u′ f′
+
+-- the outcome of a decision in the numbers, where its bytes in use are a number of 32 bits
+abbrev pub Narrow : Ledger → Type 0
+Narrow d = d .in_use < 2 ^ 32
+
+pub record PutBack (ns us : List ℕ) (i : ℕ) (s : Stepped) (r : Answered) (ns′ us′ : List ℕ) : Type 0 where
+  pub result : r ≡ told (s .answer)
+  pub numbers : ns′ ≡ withSerial (withLine ns i (s .line)) i (s .ledger)
+  pub used : us′ ≡ withUsed us i (s .ledger)
+
+-- the answer to a taking: for 8 the text's length and the serial
+unfoldable pub toldTaking : Took → Answered
+toldTaking (Took.Taken n serial) = record { number = numberOf (Answer.Taken n serial); reply = 0; serial = serial; place = 0; digits = 0; length = n }
+toldTaking Took.NothingWaiting = told (tookAnswer Took.NothingWaiting)
+toldTaking Took.BufferShort = told (tookAnswer Took.BufferShort)
+toldTaking Took.Broken = told (tookAnswer Took.Broken)
+toldTaking Took.NoLine = told (tookAnswer Took.NoLine)
+toldTaking Took.WrongSize = told (tookAnswer Took.WrongSize)
 
 -- a taking: the journal's, of the ledger that the numbers tell; on no line (40) nothing is written
 abbrev pub usedAfter : List ℕ → ℕ → AfterTaking → List ℕ
@@ -76,8 +98,3 @@ pub record Taken (ns us : List ℕ) (i : ℕ) (j b : List ℕ) (r : Answered) (u
   pub used : us′ ≡ usedAfter us i (takeOf (ledgerOf ns us) i j b)
   pub journal : j′ ≡ takeOf (ledgerOf ns us) i j b .journal
   pub buffer : b′ ≡ takeOf (ledgerOf ns us) i j b .buffer
-
--- every line fresh, the journal empty
-pub record Fresh (ns us : List ℕ) : Type 0 where
-  pub numbers : ns ≡ freshNumbers lines
-  pub used : us ≡ replicate (lines + 1) 0

@@ -1,13 +1,13 @@
-// The gateway for hosts in C and Rust: what `calls`, `texts` and `message` do, under the names that hosts link (include/ngachodui.h).
+// The gateway for hosts in C and Rust: what `calls`, `layout`, `texts` and `message` do, under the names that hosts link (include/ngachodui.h).
 // A host keeps the state in plain numbers in its own memory, and lends it to each call; nothing is kept between calls.
 ghost use mathlib.Core.Path.{_≡_};
 ghost use Rattle.looking.specs.declared.Kind.the-variants.{Byte, Seconds};
 ghost use Rattle.faults.specs.Faults.{isMessage};
-ghost use Rattle.calls.specs.Layout.{layout};
-ghost use Rattle.calls.specs.Calls.{Calling, Taken, Fresh};
+ghost use Rattle.layout.specs.Layout.{layout, Fresh};
+ghost use Rattle.calls.specs.Calls.{Calling, Taken};
 ghost use Rattle.texts.specs.Texts.{CutFrames, Escaped, Unescaped, RecordsRead};
-use calls::Answered;
-use calls::Layout;
+use layout::Layout;
+use numbers::Answered;
 use texts::Made;
 
 // A byte has come on a line.
@@ -15,8 +15,8 @@ use texts::Made;
 pub extern "C" fn ngachodui_byte(
     line: u8,
     byte: u8,
-    numbers: &mut [u16; calls::NUMBERS],
-    used: &mut [u32; calls::COUNTS],
+    numbers: &mut [u16; layout::NUMBERS],
+    used: &mut [u32; layout::COUNTS],
     journal: &mut [u8],
     unfinished: &mut [u8],
     frames: &mut [u8],
@@ -32,8 +32,8 @@ pub extern "C" fn ngachodui_byte(
 pub extern "C" fn ngachodui_seconds(
     line: u8,
     seconds: u8,
-    numbers: &mut [u16; calls::NUMBERS],
-    used: &mut [u32; calls::COUNTS],
+    numbers: &mut [u16; layout::NUMBERS],
+    used: &mut [u32; layout::COUNTS],
     journal: &mut [u8],
     unfinished: &mut [u8],
     frames: &mut [u8],
@@ -48,8 +48,8 @@ pub extern "C" fn ngachodui_seconds(
 #[no_mangle]
 pub extern "C" fn ngachodui_take(
     line: u8,
-    numbers: &[u16; calls::NUMBERS],
-    used: &mut [u32; calls::COUNTS],
+    numbers: &[u16; layout::NUMBERS],
+    used: &mut [u32; layout::COUNTS],
     journal: &mut [u8],
     buffer: &mut [u8],
 ) -> Answered
@@ -61,12 +61,12 @@ pub extern "C" fn ngachodui_take(
 // Every line fresh, the journal empty. The version of the layout ends the name: an object of another version finds no such function.
 #[no_mangle]
 pub extern "C" fn ngachodui_fresh_1(
-    numbers: &mut [u16; calls::NUMBERS],
-    used: &mut [u32; calls::COUNTS],
+    numbers: &mut [u16; layout::NUMBERS],
+    used: &mut [u32; layout::COUNTS],
 )
     ensures { λ _. ⌜ Fresh (now (numbers .exit)) (now (used .exit)) ⌝ }
 {
-    calls::fresh(numbers, used);
+    layout::fresh(numbers, used);
 }
 
 // The layout, for a host to compare with its own.
@@ -74,7 +74,7 @@ pub extern "C" fn ngachodui_fresh_1(
 pub extern "C" fn ngachodui_sizes() -> Layout
     ensures { λ r. ⌜ r ≡ layout ⌝ }
 {
-    calls::sizes()
+    layout::sizes()
 }
 
 // Cuts a message into frames.

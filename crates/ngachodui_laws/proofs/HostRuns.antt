@@ -26,10 +26,10 @@ use Rattle.serial.specs.Serial.{event, taking, annotate, final, Every}
 use Rattle.promises.specs.Machine.{State, Told, GatewayItem, onLine, step, Sound, May}
 use Rattle.promises.specs.Runs.{RightSizes, fresh, answered, isFault}
 use Rattle.promises.proofs.Runs.{always-sound, never-faulty}
-use Rattle.calls.specs.Plain.{told}
+use Rattle.numbers.specs.Plain.{told}
 use Rattle.ngachodui_laws.specs.Hosting.{Tells}
 use Rattle.ngachodui_laws.specs.HostRuns.{HostState, gatewayState, InOrder, freshHost, HostTold, hostStep, Alike}
-use Rattle.calls.specs.declared.Answered.{Answered}
+use Rattle.numbers.specs.declared.Answered.{Answered}
 use Rattle.ngachodui_laws.proofs.Hosts.{hosts-the-gateway, taking-hosts, fresh-hosts}
 
 -- no event is answered 8, so what an event is told has all that its answer has

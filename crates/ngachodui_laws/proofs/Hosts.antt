@@ -25,11 +25,12 @@ use Rattle.gateway.specs.Events.{AfterEvent, freshGateway, eventOf, takeOf, put
 use Rattle.taking.specs.Taking.{tookAnswer}
 use Rattle.looking.specs.declared.Event.{Event}
 use Rattle.gateway_laws.proofs.Laws.{unchanged, left-unchanged, limits-kept}
-use Rattle.calls.specs.Plain.{lineOf, ledgerOf, withinNumbers, withUsed, told, toldTaking, freshNumbers}
-use Rattle.calls.specs.Calls.{AfterCall, refused, putBack, callOf, Calling, Taken, Fresh}
+use Rattle.layout.specs.Layout.{freshNumbers, Fresh}
+use Rattle.numbers.specs.Plain.{lineOf, ledgerOf, withinNumbers, withUsed, told}
+use Rattle.calls.specs.Calls.{AfterCall, refused, putBack, callOf, Calling, Taken, toldTaking}
 use Rattle.ngachodui_laws.specs.Hosting.{linesOf, gatewayOf, Ordered, Hosts, Tells, HostsTaking}
-use Rattle.calls.specs.declared.Answered.{Answered}
-use Rattle.calls.proofs.Numbers.{told-within, numbers-back, used-back}
+use Rattle.numbers.specs.declared.Answered.{Answered}
+use Rattle.numbers.proofs.Numbers.{told-within, numbers-back, used-back}
 use Rattle.ngachodui_laws.proofs.Stores.{stored, stored-length, within-other, within-own}
 use Rattle.ngachodui_laws.proofs.Touched.{step-touched, taking-lowered}
 use Rattle.ngachodui_laws.proofs.ToldBack.{line-at, counts-long, used-long, serials-long, gateway-put, taking-put}

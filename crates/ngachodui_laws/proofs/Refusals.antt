@@ -25,11 +25,11 @@ use Rattle.looking.specs.declared.Verdict.the-variants.{Left}
 use Rattle.gateway_laws.specs.Classes.{Class, classOf, quiet, opening, closing, refusing, accepting, storing, against, taking as gives}
 use Rattle.gateway_laws.proofs.Laws.{left-unchanged, refused-unchanged}
 use Rattle.gateway_laws.proofs.Takings.{taking-refused}
-use Rattle.calls.specs.Plain.{lineOf, ledgerOf, withinNumbers, withUsed, told}
+use Rattle.numbers.specs.Plain.{lineOf, ledgerOf, withinNumbers, withUsed, told}
 use Rattle.calls.specs.Calls.{AfterCall, refused, putBack, callOf, Taken as TakenBy}
 use Rattle.ngachodui_laws.specs.Hosting.{gatewayOf, isRefusal}
-use Rattle.calls.specs.declared.Answered.{Answered}
-use Rattle.calls.proofs.Numbers.{numbers-back, used-back}
+use Rattle.numbers.specs.declared.Answered.{Answered}
+use Rattle.numbers.proofs.Numbers.{numbers-back, used-back}
 use Rattle.ngachodui_laws.proofs.Hosts.{put-unchanged, tells}
 
 -- 20 and 40 to 47 are the answers that leave everything, but for an event that is ignored or only collected

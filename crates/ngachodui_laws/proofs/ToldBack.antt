@@ -13,9 +13,10 @@ use Rattle.memory.specs.Sizes.{lines}
 use Rattle.journal.specs.declared.Ledger.{Ledger}
 use Rattle.line.specs.declared.Line.{Line}
 use Rattle.gateway.specs.Events.{noRecord}
-use Rattle.calls.specs.Plain.{fields, numberAt, lineOf, ledgerOf, withUsed}
+use Rattle.layout.specs.Layout.{fields}
+use Rattle.numbers.specs.Plain.{numberAt, lineOf, ledgerOf, withUsed}
 use Rattle.ngachodui_laws.specs.Hosting.{linesOf, gatewayOf}
-use Rattle.calls.proofs.Numbers.{used-at, serial-at}
+use Rattle.numbers.proofs.Numbers.{used-at, serial-at}
 use Rattle.ngachodui_laws.proofs.Stores.{stored, number-other, serial-own, line-other, line-own}
 use Rattle.ngachodui_laws.proofs.Touched.{Touched, Lowered}
 

@@ -9,10 +9,11 @@ use Rattle.journal.specs.Removal.{takeOf as takeEntry}
 use Rattle.receiving.specs.Steps.{Memory, memoryOf}
 use Rattle.serial.specs.Serial.{event, taking}
 use Rattle.promises.specs.Machine.{State, Told, GatewayItem, onLine}
-use Rattle.calls.specs.Plain.{ledgerOf, toldTaking, freshNumbers}
-use Rattle.calls.specs.Calls.{AfterCall, callOf, usedAfter}
+use Rattle.layout.specs.Layout.{freshNumbers}
+use Rattle.numbers.specs.Plain.{ledgerOf}
+use Rattle.calls.specs.Calls.{AfterCall, callOf, usedAfter, toldTaking}
 use Rattle.ngachodui_laws.specs.Hosting.{gatewayOf, Ordered, Tells}
-use Rattle.calls.specs.declared.Answered.{Answered}
+use Rattle.numbers.specs.declared.Answered.{Answered}
 
 -- all that a host keeps, and the state of the gateway that it tells
 pub record HostState : Type 0 where

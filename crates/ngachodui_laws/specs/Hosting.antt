@@ -13,9 +13,10 @@ use Rattle.answers.specs.declared.Answer.{Answer}
 use Rattle.line.specs.declared.Line.{Line}
 use Rattle.gateway.specs.Events.{AfterEvent, AfterTake}
 use Rattle.gateway.specs.declared.Gateway.{Gateway}
-use Rattle.calls.specs.Plain.{fields, withinNumbers, lineOf, ledgerOf, replyByte, told}
+use Rattle.layout.specs.Layout.{fields}
+use Rattle.numbers.specs.Plain.{withinNumbers, lineOf, ledgerOf, replyByte, told}
 use Rattle.calls.specs.Calls.{AfterCall}
-use Rattle.calls.specs.declared.Answered.{Answered}
+use Rattle.numbers.specs.declared.Answered.{Answered}
 
 -- n lines' records, the first that of line i
 abbrev pub linesOf : List ℕ → ℕ → ℕ → List Line

@@ -30,9 +30,9 @@ pub fn run(fd: i32, name: &[u8], n: usize, input: &mut [u8])
     let mut unfinished = [0u8; memory::UNFINISHED_SIZE];
     let mut frames = [0u8; memory::FRAMES_SIZE];
     let mut buffer = [0u8; memory::MESSAGE_LIMIT];
-    let mut numbers = [0u16; calls::NUMBERS];
-    let mut used = [0u32; calls::COUNTS];
-    calls::fresh(&mut numbers, &mut used);
+    let mut numbers = [0u16; layout::NUMBERS];
+    let mut used = [0u32; layout::COUNTS];
+    layout::fresh(&mut numbers, &mut used);
     let mut kept = waits(0, n, 0, false);
     let mut turns = u64::MAX;
     while 0 < turns {

@@ -23,7 +23,7 @@ use Rattle.decimal.proofs.Digits.{most-digits, twenty}
 use Rattle.looking.specs.declared.Event.{Event as GatewayEvent}
 use Rattle.looking.specs.declared.Kind.{Kind}
 use Rattle.calls.specs.Calls.{Calling, Taken}
-use Rattle.calls.specs.declared.Answered.{Answered}
+use Rattle.numbers.specs.declared.Answered.{Answered}
 use Rattle.replaying.specs.Lines.{nextOf}
 use Rattle.replaying.specs.Desk.{rowRoom, Desk, eventAsked, takingAsked}
 use Rattle.replaying.specs.Turns.{AfterTurn, stopped, acted, onLine, turnOf, Leaves, Telling, ReadIn}

@@ -6,9 +6,9 @@ use lib.ListN.{take, drop}
 use Rattle.journal.specs.Removal.{takeOf}
 use Rattle.receiving.specs.Steps.{memoryOf}
 use Rattle.looking.specs.declared.Event.{Event}
-use Rattle.calls.specs.Plain.{ledgerOf, toldTaking}
-use Rattle.calls.specs.Calls.{callOf, usedAfter}
-use Rattle.calls.specs.declared.Answered.{Answered}
+use Rattle.numbers.specs.Plain.{ledgerOf}
+use Rattle.calls.specs.Calls.{callOf, usedAfter, toldTaking}
+use Rattle.numbers.specs.declared.Answered.{Answered}
 
 -- the longest row: 20 digits, 3, 3 and 20, with three spaces and the newline
 abbrev pub rowRoom : ℕ

@@ -9,11 +9,11 @@ use super::Next;
 use super::Stop;
 use super::Turn;
 use super::lines;
-use calls::Answered;
 use listing::Item;
 use listing::Written;
 use looking::Event;
 use looking::Kind;
+use numbers::Answered;
 
 // The line that starts at `at`, as event `number`, and its row behind `put` bytes of the listing.
 pub fn turn(
@@ -22,8 +22,8 @@ pub fn turn(
     at: usize,
     out: &mut [u8],
     put: usize,
-    numbers: &mut [u16; calls::NUMBERS],
-    used: &mut [u32; calls::COUNTS],
+    numbers: &mut [u16; layout::NUMBERS],
+    used: &mut [u32; layout::COUNTS],
     journal: &mut [u8],
     unfinished: &mut [u8],
     frames: &mut [u8],
@@ -64,8 +64,8 @@ fn act(
     behind: usize,
     out: &mut [u8],
     put: usize,
-    numbers: &mut [u16; calls::NUMBERS],
-    used: &mut [u32; calls::COUNTS],
+    numbers: &mut [u16; layout::NUMBERS],
+    used: &mut [u32; layout::COUNTS],
     journal: &mut [u8],
     unfinished: &mut [u8],
     frames: &mut [u8],
@@ -110,8 +110,8 @@ fn act(
 // An event is a byte or seconds.
 fn event(
     e: Event,
-    numbers: &mut [u16; calls::NUMBERS],
-    used: &mut [u32; calls::COUNTS],
+    numbers: &mut [u16; layout::NUMBERS],
+    used: &mut [u32; layout::COUNTS],
     journal: &mut [u8],
     unfinished: &mut [u8],
     frames: &mut [u8],

@@ -19,20 +19,21 @@ returns c =
     let a = c .before .before .before .before .args in
     taken-nowhere (now (a .numbers)) (now (a .used)) (a .line) (now (a .journal)) (now (a .buffer)) (omega arith) (c .told .ensures)
 
-put-used-requires : tie.Need-put-used-requires
-put-used-requires c κs =
-    let took = taken (c .before) in
+cast-put-used : tie.Need-cast-put-used
+cast-put-used c =
+    let took = taken (c .before .before) in
     let ledger = took .before .before .before in
     let a = entry ledger .args in
-    (omega arith, narrow-taken (now (a .numbers)) (now (a .used)) (a .line) (now (a .journal)) (now (a .buffer)) _ (took .take .ensures .result) (ledger .ledger-of .ensures .1))
+    let fits = narrow-taken (now (a .numbers)) (now (a .used)) (a .line) (now (a .journal)) (now (a .buffer)) _ (took .take .ensures .result) (ledger .ledger-of .ensures .narrow) in
+    record { fits = omega (arith, fits) }
 
 returns-2 : tie.Need-returns-2
 returns-2 c =
     let put = c .before in
-    let took = taken (put .before .before) in
+    let took = taken (put .before .before .before) in
     let ledger = took .before .before .before in
     let a = entry ledger .args in
-    taken-there (now (a .numbers)) (now (a .used)) (a .line) (now (a .journal)) (now (a .buffer)) (omega arith) (ledger .ledger-of .ensures .0) (took .take .ensures) (c .told-taking .ensures) (put .put-used .ensures)
+    taken-there (now (a .numbers)) (now (a .used)) (a .line) (now (a .journal)) (now (a .buffer)) (omega arith) (ledger .ledger-of .ensures .result) (took .take .ensures) (c .told-taking .ensures) (put .put-used .ensures)
 
 pub take-spec : {M : Type 1} → statement M
 take-spec =
@@ -42,7 +43,10 @@ take-spec =
     returns
     (λ c κs. search needs)
     (λ c κs. search needs)
-    put-used-requires
+    (λ c. search needs)
+    (λ c. search needs)
+    cast-put-used
+    (λ c κs. search needs)
     (λ c κs. search needs)
     (λ c. search needs)
     (λ c. search needs)

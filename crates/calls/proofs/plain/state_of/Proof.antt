@@ -1,8 +1,0 @@
--- `calls::plain::state_of` meets its contract.
--- Assumes nothing.
-use Rattle.memory.proofs.Told.{told}
-use Rattle.calls.proofs.plain.state_of.Statement.{statement}
-use Rattle.calls.proofs.plain.state_of.Tie as tie
-
-pub state-of-spec : {M : Type 1} → statement M
-state-of-spec = tie.close (tie.spec (λ c. search told) (λ c. search told) (λ c. search told))

@@ -1,0 +1,194 @@
+-- Laws of records in plain numbers.
+-- Assumes nothing.
+use mathlib.Core.Path.{_≡_, refl, sym, ap, _∙_}
+use mathlib.Core.Bool.{true}
+use mathlib.Core.List.{List}
+use Prim.Native.Nat.{ℕ, zero, suc, _+_, _-_, _≤_, _<_}
+use native.Mathlib.Omega.{arith}
+use native.Mathlib.Numerals.{unary-clauses}
+use borrow.Author.Tests.{leb-true, le-leb}
+use lib.Dec.{leb, eqb}
+use lib.ListN.{getD, set}
+use lib.Seq.{set-getD, getD-set-other}
+use Rattle.memory.specs.Sizes.{lines, messageLimit}
+use Rattle.memory.proofs.Tests.{and-left, and-right}
+use Rattle.digits.specs.Number.{mostNumber}
+use Rattle.line.specs.Line.{mostCollected, mostSeconds, lastWithin, withinLimits, collectedLine, begunLine}
+use Rattle.line.specs.declared.Last.the-variants.{Number}
+use Rattle.line.proofs.Limits.{collected-fits, within-of}
+use Rattle.line.specs.declared.Line.{Line}
+use Rattle.line.specs.declared.State.{State}
+use Rattle.line.specs.declared.State.the-variants.{Inside}
+use Rattle.layout.specs.Layout.{start}
+use Rattle.numbers.specs.Plain.{insideAt, inside, firstAt, numberAt, stateOf, stateNumber, lastOf, lastNumber, flag, withinNumbers, lineOf, withLine, ledgerOf, withSerial, withUsed}
+
+pub record WithinNumbers (ns : List ℕ) (i : ℕ) : Type 0 where
+  pub state : firstAt ns i ≤ inside
+  pub collected : numberAt ns i 1 ≤ mostCollected (lineOf ns i)
+  pub joined : numberAt ns i 2 ≤ messageLimit
+  pub seconds : numberAt ns i 3 ≤ mostSeconds
+  pub next : numberAt ns i 4 ≤ mostNumber
+  pub last : numberAt ns i 5 ≤ mostNumber + 1
+  pub refusing : numberAt ns i 6 ≤ 1
+
+module _ (ns : List ℕ) (i : ℕ) where
+  pub numbers-facts : withinNumbers ns i ≡ true → WithinNumbers ns i
+  unfolding withinNumbers
+  numbers-facts e =
+      let rest₁ = and-right (leb (firstAt ns i) inside) _ e in
+      let rest₂ = and-right (leb (numberAt ns i 1) (mostCollected (lineOf ns i))) _ rest₁ in
+      let rest₃ = and-right (leb (numberAt ns i 2) messageLimit) _ rest₂ in
+      let rest₄ = and-right (leb (numberAt ns i 3) mostSeconds) _ rest₃ in
+      let rest₅ = and-right (leb (numberAt ns i 4) mostNumber) _ rest₄ in
+      record {
+        state = leb-true _ _ (and-left (leb (firstAt ns i) inside) _ e);
+        collected = leb-true _ _ (and-left (leb (numberAt ns i 1) (mostCollected (lineOf ns i))) _ rest₁);
+        joined = leb-true _ _ (and-left (leb (numberAt ns i 2) messageLimit) _ rest₂);
+        seconds = leb-true _ _ (and-left (leb (numberAt ns i 3) mostSeconds) _ rest₃);
+        next = leb-true _ _ (and-left (leb (numberAt ns i 4) mostNumber) _ rest₄);
+        last = leb-true _ _ (and-left (leb (numberAt ns i 5) (mostNumber + 1)) _ rest₅);
+        refusing = leb-true _ _ (and-right (leb (numberAt ns i 5) (mostNumber + 1)) _ rest₅);
+      }
+
+-- a number that is not 0 tells the one below it
+pub last-some : (n : ℕ) → (n ≡ 0 → ⊥) → Number (n - 1) ≡ lastOf n
+last-some zero h = absurd (h refl)
+last-some (suc n) h = simp unary-clauses
+
+-- a record's numbers tell it
+pub state-back : (n : ℕ) → n ≤ inside → stateNumber (stateOf n) ≡ n
+state-back zero h = refl
+state-back (suc zero) h = refl
+state-back (suc (suc zero)) h = refl
+state-back (suc (suc (suc n))) h = absurd (omega arith)
+
+pub last-back : (n : ℕ) → lastNumber (lastOf n) ≡ n
+last-back zero = refl
+last-back (suc n) = simp unary-clauses
+
+pub flag-back : (n : ℕ) → n ≤ 1 → flag (eqb n 1) ≡ n
+flag-back zero h = refl
+flag-back (suc zero) h = refl
+flag-back (suc (suc n)) h = absurd (omega arith)
+
+-- and a record within its limits is one
+last-fits : (n : ℕ) → n ≤ mostNumber + 1 → lastWithin (lastOf n) ≡ true
+last-fits zero h = refl
+last-fits (suc n) h = le-leb n mostNumber (omega arith)
+
+pub told-within : (ns : List ℕ) (i : ℕ) → withinNumbers ns i ≡ true → withinLimits (lineOf ns i) ≡ true
+told-within ns i e =
+    let w = numbers-facts ns i e in
+    within-of (lineOf ns i) (record { collected = w .collected; most = collected-fits (lineOf ns i); joined = w .joined; seconds = w .seconds; next = w .next; last = last-fits (numberAt ns i 5) (w .last) })
+
+-- seven stores are the numbers with another record
+pub put-line : (ns : List ℕ) (i : ℕ) (l : Line) (s t r : ℕ) → s ≡ stateNumber (l .state) → t ≡ lastNumber (l .last) → r ≡ flag (l .refusing)
+    → set (set (set (set (set (set (set ns (start i) s) (start i + 1) (l .collected)) (start i + 2) (l .joined)) (start i + 3) (l .seconds)) (start i + 4) (l .next)) (start i + 5) t) (start i + 6) r ≡ withLine ns i l
+unfolding withLine
+put-line ns i l s t r p q e = rw (p, q, e)
+
+-- a number stored where it stands changes nothing
+again : (ns : List ℕ) (k v : ℕ) → v ≡ getD ns k 0 → set ns k v ≡ ns
+again ns k v e = ap (λ (x : ℕ). set ns k x) e ∙ set-getD ns k 0
+
+-- what the ledger has of a line
+pub used-at : (ns us : List ℕ) (i : ℕ) → i < lines → getD (ledgerOf ns us .used) i 0 ≡ getD us i 0
+unfolding ledgerOf
+used-at ns us zero h = refl
+used-at ns us (suc zero) h = refl
+used-at ns us (suc (suc zero)) h = refl
+used-at ns us (suc (suc (suc zero))) h = refl
+used-at ns us (suc (suc (suc (suc zero)))) h = refl
+used-at ns us (suc (suc (suc (suc (suc zero))))) h = refl
+used-at ns us (suc (suc (suc (suc (suc (suc zero)))))) h = refl
+used-at ns us (suc (suc (suc (suc (suc (suc (suc zero))))))) h = refl
+used-at ns us (suc (suc (suc (suc (suc (suc (suc (suc i)))))))) h = absurd (omega arith)
+
+pub serial-at : (ns us : List ℕ) (i : ℕ) → i < lines → getD (ledgerOf ns us .serials) i 0 ≡ numberAt ns i 7
+unfolding ledgerOf
+serial-at ns us zero h = refl
+serial-at ns us (suc zero) h = refl
+serial-at ns us (suc (suc zero)) h = refl
+serial-at ns us (suc (suc (suc zero))) h = refl
+serial-at ns us (suc (suc (suc (suc zero)))) h = refl
+serial-at ns us (suc (suc (suc (suc (suc zero))))) h = refl
+serial-at ns us (suc (suc (suc (suc (suc (suc zero)))))) h = refl
+serial-at ns us (suc (suc (suc (suc (suc (suc (suc zero))))))) h = refl
+serial-at ns us (suc (suc (suc (suc (suc (suc (suc (suc i)))))))) h = absurd (omega arith)
+
+in-use-at : (ns us : List ℕ) → ledgerOf ns us .in_use ≡ getD us lines 0
+unfolding ledgerOf
+in-use-at ns us = refl
+
+-- the ledger that the numbers tell, put back
+pub used-back : (ns us : List ℕ) (i : ℕ) → i < lines → withUsed us i (ledgerOf ns us) ≡ us
+used-back ns us i h = rw (again us i (getD (ledgerOf ns us .used) i 0) (used-at ns us i h)) (again us lines (ledgerOf ns us .in_use) (in-use-at ns us))
+
+-- with any record of the line
+serial-kept : (ns : List ℕ) (i : ℕ) (l : Line) → getD (withLine ns i l) (start i + 7) 0 ≡ numberAt ns i 7
+unfolding withLine
+serial-kept ns i l =
+    let ns₁ : List ℕ = set ns (start i) (stateNumber (l .state)) in
+    let ns₂ : List ℕ = set ns₁ (start i + 1) (l .collected) in
+    let ns₃ : List ℕ = set ns₂ (start i + 2) (l .joined) in
+    let ns₄ : List ℕ = set ns₃ (start i + 3) (l .seconds) in
+    let ns₅ : List ℕ = set ns₄ (start i + 4) (l .next) in
+    let ns₆ : List ℕ = set ns₅ (start i + 5) (lastNumber (l .last)) in
+    getD-set-other ns₆ (start i + 6) (start i + 7) (flag (l .refusing)) 0 (λ q. absurd (omega arith))
+    ∙ getD-set-other ns₅ (start i + 5) (start i + 7) (lastNumber (l .last)) 0 (λ q. absurd (omega arith))
+    ∙ getD-set-other ns₄ (start i + 4) (start i + 7) (l .next) 0 (λ q. absurd (omega arith))
+    ∙ getD-set-other ns₃ (start i + 3) (start i + 7) (l .seconds) 0 (λ q. absurd (omega arith))
+    ∙ getD-set-other ns₂ (start i + 2) (start i + 7) (l .joined) 0 (λ q. absurd (omega arith))
+    ∙ getD-set-other ns₁ (start i + 1) (start i + 7) (l .collected) 0 (λ q. absurd (omega arith))
+    ∙ getD-set-other ns (start i) (start i + 7) (stateNumber (l .state)) 0 (λ q. absurd (omega arith))
+
+pub serial-back : (ns us : List ℕ) (i : ℕ) (l : Line) → i < lines → withSerial (withLine ns i l) i (ledgerOf ns us) ≡ withLine ns i l
+serial-back ns us i l h = again (withLine ns i l) (start i + 7) (getD (ledgerOf ns us .serials) i 0) (serial-at ns us i h ∙ sym (serial-kept ns i l))
+
+-- the record and the ledger that the numbers tell, put back with another state and another count of collected bytes: the other numbers of the line stay
+module _ (ns us : List ℕ) (i : ℕ) (h : i < lines) (e : withinNumbers ns i ≡ true) where
+  abbrev changed : State → ℕ → Line
+  changed s count = record {
+    state = s;
+    collected = count;
+    joined = lineOf ns i .joined;
+    seconds = lineOf ns i .seconds;
+    next = lineOf ns i .next;
+    last = lineOf ns i .last;
+    refusing = lineOf ns i .refusing;
+  }
+
+  module _ (s : State) (count : ℕ) where
+    abbrev moved : List ℕ
+    moved = set ns (start i) (stateNumber s)
+
+    abbrev counted : List ℕ
+    counted = set moved (start i + 1) count
+
+    kept-number : (k : ℕ) → 1 < k → getD counted (start i + k) 0 ≡ numberAt ns i k
+    kept-number k n = getD-set-other moved (start i + 1) (start i + k) _ 0 (λ q. absurd (omega arith)) ∙ getD-set-other ns (start i) (start i + k) _ 0 (λ q. absurd (omega arith))
+
+    changed-back : withSerial (withLine ns i (changed s count)) i (ledgerOf ns us) ≡ counted
+    unfolding withLine
+    changed-back =
+        let w = numbers-facts ns i e in
+        rw (
+          again counted (start i + 2) (numberAt ns i 2) (sym (kept-number 2 (omega arith))),
+          again counted (start i + 3) (numberAt ns i 3) (sym (kept-number 3 (omega arith))),
+          again counted (start i + 4) (numberAt ns i 4) (sym (kept-number 4 (omega arith))),
+          again counted (start i + 5) (lastNumber (lastOf (numberAt ns i 5))) (last-back (numberAt ns i 5) ∙ sym (kept-number 5 (omega arith))),
+          again counted (start i + 6) (flag (eqb (numberAt ns i 6) 1)) (flag-back (numberAt ns i 6) (w .refusing) ∙ sym (kept-number 6 (omega arith))),
+        )
+        (again counted (start i + 7) (getD (ledgerOf ns us .serials) i 0) (serial-at ns us i h ∙ sym (kept-number 7 (omega arith))))
+
+  pub count-back : (count : ℕ) → withSerial (withLine ns i (collectedLine (lineOf ns i) count)) i (ledgerOf ns us) ≡ set ns (start i + 1) count
+  count-back count =
+      changed-back (lineOf ns i .state) count
+      ∙ ap (λ (x : List ℕ). set x (start i + 1) count) (again ns (start i) (stateNumber (stateOf (firstAt ns i))) (state-back (firstAt ns i) (numbers-facts ns i e .state)))
+
+  pub begun-back : withSerial (withLine ns i (begunLine (lineOf ns i))) i (ledgerOf ns us) ≡ insideAt ns i
+  begun-back = changed-back Inside (numberAt ns i 1) ∙ again (insideAt ns i) (start i + 1) (numberAt ns i 1) (sym (getD-set-other ns (start i) (start i + 1) _ 0 (λ q. absurd (omega arith))))
+
+-- as they are
+pub numbers-back : (ns us : List ℕ) (i : ℕ) → i < lines → withinNumbers ns i ≡ true → withSerial (withLine ns i (lineOf ns i)) i (ledgerOf ns us) ≡ ns
+numbers-back ns us i h e = count-back ns us i h e (numberAt ns i 1) ∙ set-getD ns (start i + 1) 0

@@ -1,0 +1,34 @@
+-- `numbers::plain::collects` meets its contract.
+-- Assumes nothing.
+use borrow.Author.Needs.{needs}
+use Rattle.memory.proofs.Told.{told}
+use Rattle.line.specs.Line.{mostCollected}
+use Rattle.numbers.specs.Plain.{onlyCollects}
+use Rattle.numbers.proofs.plain.collects.Statement.{statement}
+use Rattle.numbers.proofs.plain.collects.Tie as tie
+
+returns : tie.Need-returns
+unfolding onlyCollects mostCollected
+returns c = search told
+
+returns-2 : tie.Need-returns-2
+unfolding onlyCollects mostCollected
+returns-2 c = search told
+
+returns-3 : tie.Need-returns-3
+unfolding onlyCollects mostCollected
+returns-3 c = search told
+
+pub collects-spec : {M : Type 1} → statement M
+collects-spec =
+    tie.close
+    (tie.spec
+    (λ c. search needs)
+    (λ c. search needs)
+    (λ c. search needs)
+    returns
+    returns-2
+    (λ c. search needs)
+    (λ c. search needs)
+    (λ c. search needs)
+    returns-3)

@@ -1,0 +1,55 @@
+-- What each function does to the numbers. On a line that is not there nothing changes.
+-- Assumes nothing.
+use Prim.Native.Nat.{ℕ, _+_, _^_, _<_}
+use mathlib.Core.Path.{_≡_}
+use mathlib.Core.Bool.{Bool, _&&_}
+use mathlib.Core.List.{List}
+use lib.ListN.{length, set}
+use lib.Dec.{ltb, eqb}
+use Rattle.memory.specs.Sizes.{lines, framesSize}
+use Rattle.memory.specs.Tests.{unless}
+use Rattle.journal.specs.declared.Ledger.{Ledger}
+use Rattle.line.specs.declared.Line.{Line}
+use Rattle.looking.specs.Views.{frameStart}
+use Rattle.looking.specs.declared.Kind.{Kind}
+use Rattle.layout.specs.Layout.{collectedAt}
+use Rattle.numbers.specs.Plain.{numberAt, lineOf, withinNumbers, quick, oneMore, begins, insideAt, ledgerOf, withLine, serialPut, countsPut}
+use Rattle.numbers.specs.declared.Tells.{Tells}
+use Rattle.numbers.specs.declared.Tells.the-variants.{Record, NoRecord}
+
+-- the record that a line's numbers tell; none where they are beyond its limits, or there is no such line
+unfoldable pub recordOf : List ℕ → ℕ → Tells
+recordOf ns i = unless (ltb i lines) NoRecord (unless (withinNumbers ns i) NoRecord (Record (lineOf ns i)))
+
+-- whether a byte is only collected, in frames of the right size
+unfoldable pub isCollected : List ℕ → ℕ → ℕ → List ℕ → Bool
+isCollected ns i b f = ltb i lines && (eqb (length f) framesSize && quick ns i b)
+
+-- then it stands behind those collected, and one more is
+pub record Collected (ns : List ℕ) (i b : ℕ) (f : List ℕ) (r : Bool) (ns′ f′ : List ℕ) : Type 0 where
+  pub result : r ≡ isCollected ns i b f
+  pub numbers : ns′ ≡ unless (isCollected ns i b f) ns (oneMore ns i)
+  pub frames : f′ ≡ unless (isCollected ns i b f) f (set f (frameStart i + numberAt ns i collectedAt) b)
+
+-- whether an event only begins a frame; then the line is inside one
+unfoldable pub isBegun : List ℕ → ℕ → Kind → Bool
+isBegun ns i k = ltb i lines && (begins ns i k && withinNumbers ns i)
+
+pub record Begun (ns : List ℕ) (i : ℕ) (k : Kind) (r : Bool) (ns′ : List ℕ) : Type 0 where
+  pub result : r ≡ isBegun ns i k
+  pub numbers : ns′ ≡ unless (isBegun ns i k) ns (insideAt ns i)
+
+-- the ledger that the numbers tell; its bytes in use are a number of 32 bits
+pub record TellsLedger (ns us : List ℕ) (d : Ledger) : Type 0 where
+  pub result : d ≡ ledgerOf ns us
+  pub narrow : d .in_use < 2 ^ 32
+
+-- another record, another serial, and other counts
+abbrev pub recordAfter : List ℕ → ℕ → Line → List ℕ
+recordAfter ns i l = unless (ltb i lines) ns (withLine ns i l)
+
+abbrev pub serialAfter : List ℕ → ℕ → ℕ → List ℕ
+serialAfter ns i n = unless (ltb i lines) ns (serialPut ns i n)
+
+abbrev pub countsAfter : List ℕ → ℕ → ℕ → ℕ → List ℕ
+countsAfter us i own all = unless (ltb i lines) us (countsPut us i own all)

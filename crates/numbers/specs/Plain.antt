@@ -1,0 +1,147 @@
+-- A line's record, the ledger and an answer in plain numbers, as a host keeps them.
+-- Assumes nothing.
+use Prim.Native.Nat.{ℕ, zero, suc, _+_}
+use mathlib.Core.Bool.{Bool, false, cond, not, _&&_}
+use mathlib.Core.List.{List, [], _∷_}
+use lib.ListN.{getD, set}
+use lib.Dec.{leb, eqb}
+use Rattle.memory.specs.Sizes.{lines, messageLimit}
+use Rattle.memory.specs.Tests.{is}
+use Rattle.characters.specs.Control.{lf, stx}
+use Rattle.digits.specs.Number.{mostNumber}
+use Rattle.journal.specs.declared.Ledger.{Ledger}
+use Rattle.line.specs.Line.{mostCollected, mostSeconds}
+use Rattle.answers.specs.Paper.{numberOf, replyOf}
+use Rattle.line.specs.declared.Line.{Line}
+use Rattle.line.specs.declared.State.{State}
+use Rattle.line.specs.declared.State.the-variants.{Neutral, Waiting, Inside}
+use Rattle.line.specs.declared.Last.{Last}
+use Rattle.line.specs.declared.Last.the-variants.{NoneYet, Number}
+use Rattle.answers.specs.declared.Reply.{Reply}
+use Rattle.answers.specs.declared.Reply.the-variants.{Silence, Byte as Sent}
+use Rattle.answers.specs.declared.Answer.{Answer}
+use Rattle.looking.specs.declared.Kind.{Kind}
+use Rattle.looking.specs.declared.Kind.the-variants.{Byte, Seconds}
+use Rattle.layout.specs.Layout.{start, collectedAt, joinedAt, secondsAt, nextAt, lastAt, refusingAt, serialAt}
+use Rattle.numbers.specs.declared.Answered.{Answered}
+
+-- the first number of line i, its state, and the number k places on
+abbrev pub firstAt : List ℕ → ℕ → ℕ
+firstAt ns i = getD ns (start i) 0
+
+abbrev pub numberAt : List ℕ → ℕ → ℕ → ℕ
+numberAt ns i k = getD ns (start i + k) 0
+
+-- a state: 0 neutral, 1 waiting, 2 inside
+abbrev pub waiting : ℕ
+waiting = 1
+
+abbrev pub inside : ℕ
+inside = 2
+
+abbrev pub stateOf : ℕ → State
+stateOf n = cond (eqb n 0) Neutral (cond (eqb n waiting) Waiting Inside)
+
+abbrev pub stateNumber : State → ℕ
+stateNumber Neutral = 0
+stateNumber Waiting = waiting
+stateNumber Inside = inside
+
+-- the last accepted number: 0 for none, else one more than it
+abbrev pub lastOf : ℕ → Last
+lastOf zero = NoneYet
+lastOf (suc n) = Number n
+
+abbrev pub lastNumber : Last → ℕ
+lastNumber NoneYet = 0
+lastNumber (Number n) = n + 1
+
+abbrev pub flag : Bool → ℕ
+flag b = cond b 1 0
+
+-- the record that a line's first seven numbers tell
+abbrev pub lineOf : List ℕ → ℕ → Line
+lineOf ns i = record {
+  state = stateOf (firstAt ns i);
+  collected = numberAt ns i collectedAt;
+  joined = numberAt ns i joinedAt;
+  seconds = numberAt ns i secondsAt;
+  next = numberAt ns i nextAt;
+  last = lastOf (numberAt ns i lastAt);
+  refusing = eqb (numberAt ns i refusingAt) 1;
+}
+
+-- they are those of a record within its limits; the eighth, a serial, may be any
+unfoldable pub withinNumbers : List ℕ → ℕ → Bool
+withinNumbers ns i =
+    leb (firstAt ns i) inside && (leb (numberAt ns i collectedAt) (mostCollected (lineOf ns i)) && (leb (numberAt ns i joinedAt) messageLimit && (leb (numberAt ns i secondsAt) mostSeconds
+    && (leb (numberAt ns i nextAt) mostNumber && (leb (numberAt ns i lastAt) (mostNumber + 1) && leb (numberAt ns i refusingAt) 1)))))
+
+-- inside a frame that this byte does not end: it is only collected
+unfoldable pub onlyCollects : List ℕ → ℕ → ℕ → Bool
+onlyCollects ns i b = eqb (firstAt ns i) inside && (not (is lf b) && not (eqb (numberAt ns i collectedAt) (mostCollected (lineOf ns i))))
+
+-- and nothing else stands against it: its line's numbers are within their limits
+abbrev pub quick : List ℕ → ℕ → ℕ → Bool
+quick ns i b = onlyCollects ns i b && withinNumbers ns i
+
+-- then it has one more collected
+abbrev pub oneMore : List ℕ → ℕ → List ℕ
+oneMore ns i = set ns (start i + collectedAt) (numberAt ns i collectedAt + 1)
+
+-- STX between frames only begins one; and the numbers then
+abbrev pub begins : List ℕ → ℕ → Kind → Bool
+begins ns i (Byte b) = is stx b && eqb (firstAt ns i) waiting
+begins ns i (Seconds s) = false
+
+abbrev pub insideAt : List ℕ → ℕ → List ℕ
+insideAt ns i = set ns (start i) inside
+
+-- the numbers with another record of line i
+unfoldable pub withLine : List ℕ → ℕ → Line → List ℕ
+withLine ns i l =
+    set (set (set (set (set (set (set ns
+    (start i) (stateNumber (l .state)))
+    (start i + collectedAt) (l .collected))
+    (start i + joinedAt) (l .joined))
+    (start i + secondsAt) (l .seconds))
+    (start i + nextAt) (l .next))
+    (start i + lastAt) (lastNumber (l .last)))
+    (start i + refusingAt) (flag (l .refusing))
+
+-- n lines' used counts, the first that of line i; behind all of them stand the bytes in use
+abbrev pub usedFrom : List ℕ → ℕ → ℕ → List ℕ
+usedFrom us i zero = []
+usedFrom us i (suc n) = getD us i 0 ∷ usedFrom us (suc i) n
+
+-- and their serials, which stand with the lines
+abbrev pub serialsFrom : List ℕ → ℕ → ℕ → List ℕ
+serialsFrom ns i zero = []
+serialsFrom ns i (suc n) = numberAt ns i serialAt ∷ serialsFrom ns (suc i) n
+
+-- the ledger that they tell
+unfoldable pub ledgerOf : List ℕ → List ℕ → Ledger
+ledgerOf ns us = record { in_use = getD us lines 0; used = usedFrom us 0 lines; serials = serialsFrom ns 0 lines }
+
+-- the numbers with another serial of line i; and the counts with another one of line i, and so many bytes in use
+abbrev pub serialPut : List ℕ → ℕ → ℕ → List ℕ
+serialPut ns i n = set ns (start i + serialAt) n
+
+abbrev pub countsPut : List ℕ → ℕ → ℕ → ℕ → List ℕ
+countsPut us i own all = set (set us i own) lines all
+
+-- the numbers with what a ledger has of line i: no event and no taking changes what it has of another line
+abbrev pub withSerial : List ℕ → ℕ → Ledger → List ℕ
+withSerial ns i d = serialPut ns i (getD (d .serials) i 0)
+
+abbrev pub withUsed : List ℕ → ℕ → Ledger → List ℕ
+withUsed us i d = countsPut us i (getD (d .used) i 0) (d .in_use)
+
+-- a reply byte, or 0 for none
+abbrev pub replyByte : Reply → ℕ
+replyByte Silence = 0
+replyByte (Sent b) = b
+
+-- the answer to an event carries no values
+unfoldable pub told : Answer → Answered
+told a = record { number = numberOf a; reply = replyByte (replyOf (numberOf a)); serial = 0; place = 0; digits = 0; length = 0 }

@@ -1,0 +1,249 @@
+// A line's numbers, tested and told one by one; the line is one of the eight.
+ghost use Prim.Native.Nat.{_+_, _<_, _≤_, _^_};
+ghost use mathlib.Core.Path.{_≡_};
+ghost use mathlib.Core.Bool.{true};
+ghost use lib.ListN.{length, set};
+ghost use Rattle.memory.specs.Sizes.{lines, framesSize};
+ghost use Rattle.line.specs.Line.{mostCollected};
+ghost use Rattle.looking.specs.Views.{frameStart};
+ghost use Rattle.numbers.specs.Plain.{numberAt, oneMore, quick, begins, stateOf, stateNumber, lastOf, lastNumber, flag, withinNumbers, onlyCollects, lineOf, withLine, usedFrom, serialsFrom, replyByte};
+use answers::Reply;
+use characters::LF;
+use characters::STX;
+use layout::COLLECTED;
+use layout::COUNTS;
+use layout::FIELDS;
+use layout::JOINED;
+use layout::LAST;
+use layout::NEXT;
+use layout::NUMBERS;
+use layout::REFUSING;
+use layout::SECONDS;
+use layout::SERIAL;
+use line::Last;
+use line::Line;
+use line::State;
+use looking::Kind;
+
+// The states of a line between frames and inside one: no state has a higher number.
+const WAITING: u16 = 1;
+
+pub const INSIDE: u16 = 2;
+
+// Whether a line's numbers are those of a record within its limits.
+pub fn is_within(numbers: &[u16; NUMBERS], i: usize) -> bool
+    requires { ⌜ i < lines ⌝ }
+    ensures { λ r. ⌜ r ≡ withinNumbers (now (numbers .entry)) i ⌝ }
+{
+    let at = i * FIELDS;
+    if INSIDE < numbers[at] {
+        return false;
+    }
+    if Line::MOST_COLLECTED < numbers[at + COLLECTED] {
+        return false;
+    }
+    if Line::MOST_JOINED < numbers[at + JOINED] {
+        return false;
+    }
+    if (Line::MOST_SECONDS as u16) < numbers[at + SECONDS] {
+        return false;
+    }
+    if (Line::MOST_NUMBER as u16) < numbers[at + NEXT] {
+        return false;
+    }
+    if (Line::MOST_NUMBER as u16) + 1 < numbers[at + LAST] {
+        return false;
+    }
+    numbers[at + REFUSING] <= 1
+}
+
+// Whether a byte is only collected and its line's numbers are within their limits: in this order none is compared twice.
+pub fn is_quick(numbers: &[u16; NUMBERS], i: usize, byte: u8) -> bool
+    requires { ⌜ i < lines ⌝ }
+    ensures { λ r. ⌜ r ≡ quick (now (numbers .entry)) i byte ⌝ }
+{
+    if !collects(numbers, i, byte) {
+        return false;
+    }
+    is_within(numbers, i)
+}
+
+// The byte behind those collected, and one more collected.
+pub fn put_byte(i: usize, byte: u8, numbers: &mut [u16; NUMBERS], frames: &mut [u8])
+    requires { ⌜ (i < lines) × (numberAt (now numbers) i 1 ≤ mostCollected (lineOf (now numbers) i)) × (length (now frames) ≡ framesSize) ⌝ }
+    ensures { λ _. ⌜ (now (numbers .exit) ≡ oneMore (now (numbers .entry)) i) × (now (frames .exit) ≡ set (now (frames .entry)) (frameStart i + numberAt (now (numbers .entry)) i 1) byte) ⌝ }
+{
+    let at = i * FIELDS + COLLECTED;
+    let collected = numbers[at];
+    let place = i * memory::FRAME_PART + collected as usize;
+    frames[place] = byte;
+    numbers[at] = collected + 1;
+}
+
+// Whether an event is STX between frames: it only begins one.
+pub fn is_begin(numbers: &[u16; NUMBERS], i: usize, kind: Kind) -> bool
+    requires { ⌜ i < lines ⌝ }
+    ensures { λ r. ⌜ r ≡ begins (now (numbers .entry)) i kind ⌝ }
+{
+    let at = i * FIELDS;
+    match kind {
+        Kind::Byte(b) => {
+            if b != STX {
+                return false;
+            }
+            numbers[at] == WAITING
+        }
+        Kind::Seconds(_) => false,
+    }
+}
+
+// Whether a byte is only collected: inside a frame that it does not end.
+fn collects(numbers: &[u16; NUMBERS], i: usize, byte: u8) -> bool
+    requires { ⌜ i < lines ⌝ }
+    ensures { λ r. ⌜ r ≡ onlyCollects (now (numbers .entry)) i byte ⌝ }
+{
+    let at = i * FIELDS;
+    if numbers[at] != INSIDE {
+        return false;
+    }
+    if byte == LF {
+        return false;
+    }
+    numbers[at + COLLECTED] != Line::MOST_COLLECTED
+}
+
+// The record that a line's numbers tell.
+pub fn told_line(numbers: &[u16; NUMBERS], i: usize) -> Line
+    requires { ⌜ (i < lines) × (withinNumbers (now numbers) i ≡ true) ⌝ }
+    ensures { λ r. ⌜ r ≡ lineOf (now (numbers .entry)) i ⌝ }
+{
+    let at = i * FIELDS;
+    let state = state_of(numbers[at]);
+    let last = last_of(numbers[at + LAST]);
+    Line {
+        state,
+        collected: numbers[at + COLLECTED],
+        joined: numbers[at + JOINED],
+        seconds: numbers[at + SECONDS] as u8,
+        next: numbers[at + NEXT] as u8,
+        last,
+        refusing: numbers[at + REFUSING] == 1,
+    }
+}
+
+// 0 neutral, 1 waiting, 2 inside.
+fn state_of(n: u16) -> State
+    ensures { λ r. ⌜ r ≡ stateOf n ⌝ }
+{
+    if n == 0 {
+        return State::Neutral;
+    }
+    if n == WAITING {
+        return State::Waiting;
+    }
+    State::Inside
+}
+
+// 0 for none, else one more than the number.
+fn last_of(n: u16) -> Last
+    requires { ⌜ n ≤ 256 ⌝ }
+    ensures { λ r. ⌜ r ≡ lastOf n ⌝ }
+{
+    if n == 0 {
+        return Last::NoneYet;
+    }
+    Last::Number((n - 1) as u8)
+}
+
+// Puts a record in the place of a line's first seven numbers.
+pub fn put_line(numbers: &mut [u16; NUMBERS], i: usize, line: Line)
+    requires { ⌜ i < lines ⌝ }
+    ensures { λ _. ⌜ now (numbers .exit) ≡ withLine (now (numbers .entry)) i line ⌝ }
+{
+    let at = i * FIELDS;
+    let state = line.state;
+    let last = line.last;
+    numbers[at] = state_number(state);
+    numbers[at + COLLECTED] = line.collected;
+    numbers[at + JOINED] = line.joined;
+    numbers[at + SECONDS] = line.seconds as u16;
+    numbers[at + NEXT] = line.next as u16;
+    numbers[at + LAST] = last_number(last);
+    numbers[at + REFUSING] = flag_number(line.refusing);
+}
+
+fn state_number(state: State) -> u16
+    ensures { λ r. ⌜ r ≡ stateNumber state ⌝ }
+{
+    match state {
+        State::Neutral => 0,
+        State::Waiting => WAITING,
+        State::Inside => INSIDE,
+    }
+}
+
+fn last_number(last: Last) -> u16
+    ensures { λ r. ⌜ r ≡ lastNumber last ⌝ }
+{
+    match last {
+        Last::NoneYet => 0,
+        Last::Number(n) => n as u16 + 1,
+    }
+}
+
+fn flag_number(b: bool) -> u16
+    ensures { λ r. ⌜ r ≡ flag b ⌝ }
+{
+    if b {
+        return 1;
+    }
+    0
+}
+
+// A cast of its own tells the caller that the number is below 2 to the 32.
+pub fn wide(n: u32) -> usize
+    ensures { λ r. ⌜ (r ≡ n) × (r < 2 ^ 32) ⌝ }
+{
+    n as usize
+}
+
+// Each line's used count, and its serial.
+pub fn used_of(used: &[u32; COUNTS]) -> [u32; memory::LINES]
+    ensures { λ r. ⌜ r ≡ usedFrom (now (used .entry)) 0 lines ⌝ }
+{
+    [
+        used[0],
+        used[1],
+        used[2],
+        used[3],
+        used[4],
+        used[5],
+        used[6],
+        used[7],
+    ]
+}
+
+pub fn serials_of(numbers: &[u16; NUMBERS]) -> [u16; memory::LINES]
+    ensures { λ r. ⌜ r ≡ serialsFrom (now (numbers .entry)) 0 lines ⌝ }
+{
+    [
+        numbers[0 * FIELDS + SERIAL],
+        numbers[1 * FIELDS + SERIAL],
+        numbers[2 * FIELDS + SERIAL],
+        numbers[3 * FIELDS + SERIAL],
+        numbers[4 * FIELDS + SERIAL],
+        numbers[5 * FIELDS + SERIAL],
+        numbers[6 * FIELDS + SERIAL],
+        numbers[7 * FIELDS + SERIAL],
+    ]
+}
+
+// The byte, or 0 for none.
+pub fn reply_byte(reply: Reply) -> u8
+    ensures { λ r. ⌜ r ≡ replyByte reply ⌝ }
+{
+    match reply {
+        Reply::Silence => 0,
+        Reply::Byte(b) => b,
+    }
+}
