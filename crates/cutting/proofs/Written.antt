@@ -13,10 +13,10 @@ use Rattle.memory.specs.Parts.{splice}
 use Rattle.memory.proofs.Parts.{splice-from, splice-join, length-splice}
 use Rattle.digits.specs.Number.{mostNumber, nextNumber}
 use Rattle.frame.specs.Shape.{aroundText}
-use Rattle.frame.specs.Writing.{frameOf, putIn, FramePut}
+use Rattle.framing.specs.Writing.{frameOf, putIn, FramePut}
 use Rattle.frame.specs.declared.End.{End}
-use Rattle.frame.specs.declared.Written.{Written}
-use Rattle.frame.proofs.Put.{length-collected}
+use Rattle.framing.specs.declared.Written.{Written}
+use Rattle.framing.proofs.Put.{length-collected}
 use Rattle.faults.specs.Faults.{isMessage}
 use Rattle.records.proofs.Scans.{tailAt, rest-part}
 use Rattle.cutting.specs.Pieces.{Piece, piecesOf, bytesOf}

@@ -11,7 +11,7 @@ use Rattle.memory.specs.Parts.{splice}
 use Rattle.memory.specs.Tests.{unless}
 use Rattle.digits.specs.Number.{nextNumber}
 use Rattle.frame.specs.Shape.{aroundText}
-use Rattle.frame.specs.Writing.{frameOf}
+use Rattle.framing.specs.Writing.{frameOf}
 use Rattle.faults.specs.Faults.{isMessage}
 use Rattle.cutting.specs.Pieces.{Piece, piecesOf}
 use Rattle.cutting.specs.declared.Framed.{Framed}

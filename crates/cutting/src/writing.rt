@@ -6,7 +6,7 @@ ghost use lib.ListN.{length, getD, take};
 ghost use Rattle.memory.specs.Parts.{splice};
 ghost use Rattle.digits.specs.Number.{mostNumber};
 ghost use Rattle.frame.specs.Shape.{aroundText};
-ghost use Rattle.frame.specs.Writing.{frameOf};
+ghost use Rattle.framing.specs.Writing.{frameOf};
 ghost use Rattle.records.specs.Records.{endsWithCr};
 ghost use Rattle.cutting.specs.Pieces.{endAfter};
 ghost use Rattle.cutting.specs.Frames.{cutOf};
@@ -31,7 +31,7 @@ fn write_piece(number: u8, text: &[u8], n: usize, out: &mut [u8], done: usize)
     ensures { λ _. ⌜ now (out .exit) ≡ splice (now (out .entry)) done (frameOf number (endAfter (getD (now (text .entry)) (n - 1) 0)) (take n (now (text .entry)))) ⌝ }
 {
     let end = end_after(text[n - 1]);
-    frame::put_frame(number, end, &text[..n], &mut out[done..]);
+    framing::put_frame(number, end, &text[..n], &mut out[done..]);
 }
 
 // All frames of a text, over the start of out.

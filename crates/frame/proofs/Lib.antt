@@ -1,6 +1,3 @@
 pub mod Collected
-pub mod Put
-pub mod ReadBack
-pub mod Accepted
+pub mod Passed
 pub mod Laws
-pub mod OneOutcome

@@ -1,2 +1,1 @@
 pub mod Shape
-pub mod Writing

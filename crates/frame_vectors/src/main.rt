@@ -4,7 +4,7 @@ ghost use Prim.Native.Nat.{_≤_, _<_};
 ghost use lib.ListN.{length};
 use frame::End;
 use frame::Shape;
-use frame::Written;
+use framing::Written;
 use libc::STDIN_FILENO;
 use libc::STDOUT_FILENO;
 
@@ -154,7 +154,7 @@ fn show_whole(number: u8, end: End, length: usize, bytes: &[u8]) {
     }
     let text_end = bytes.len() - 5;
     let mut out = [0u8; MOST];
-    match frame::put_frame(number, end, &bytes[1..text_end], &mut out) {
+    match framing::put_frame(number, end, &bytes[1..text_end], &mut out) {
         Written::Malformed => show(b" 46"),
         Written::NotFitting => show(b" 47"),
         Written::Length(n) => show_same(bytes, n, &out),

@@ -15,7 +15,7 @@ use Rattle.frame.specs.declared.End.{End}
 use Rattle.frame.specs.declared.End.the-variants.{Etb, Etx}
 use Rattle.frame.specs.declared.Shape.{Shape}
 use Rattle.frame.specs.declared.Shape.the-variants.{Unended as NotEnded, Torn as IsTorn, WrongCheck as Unchecked, BadText as Foreign, BadNumber as Unnumbered, Whole}
-use Rattle.frame.proofs.Accepted.{accepted-size}
+use Rattle.frame.proofs.Passed.{accepted-size}
 use Rattle.records.specs.Records.{endsWithCr, endsWithL}
 use Rattle.line.specs.Line.{mostCollected, mostSeconds}
 use Rattle.line.specs.Seconds.{passedOf}

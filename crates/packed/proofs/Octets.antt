@@ -69,7 +69,7 @@ something-left n size = elim (decLe (2 ^ width (octets size)) n) [
       rw (div-eq-of-lt below) (sym (lt-leb (2 ^ width (octets size)) n below))
 ]
 
--- where there is a field, and where there is none
+-- where there is a packed field, and where there is none
 module _ (d : List ℕ) (at size : ℕ) where
   pub is-field : size ≤ longestField → at + size ≤ length d → isField d at size ≡ true
   is-field h k = rw (le-leb size longestField h, le-leb (at + size) (length d) k)
@@ -80,7 +80,7 @@ module _ (d : List ℕ) (at size : ℕ) where
     | no h ↦ rw (lt-leb size longestField (omega arith))
   ]
 
-  -- what each way out of writing a field says
+  -- what each way out of writing a packed field says
   no-hold : (n : ℕ) → holds d at size n ≡ false → FieldWritten d at size n false d
   unfolding withField
   no-hold n e = record { answer = sym e; after = rw e }
@@ -113,7 +113,7 @@ module _ (d : List ℕ) (at size : ℕ) where
       ap (part (splice d at (unpack (octets size) n)) at) (sym bytes) ∙ part-splice d at (unpack (octets size) n) (omega arith) in
       rw (long, le-leb size longestField h, le-leb (at + size) (length d) k, there, pack-unpack (octets size) n, mod-eq-of-lt b)
 
-  -- what writing did where the field holds the number
+  -- what writing did where the packed field holds the number
   pub written-fits : (n : ℕ) {r : Bool} {d′ : List ℕ} → FieldWritten d at size n r d′ → size ≤ longestField → at + size ≤ length d → n < 2 ^ width (octets size)
       → (r ≡ true) × (d′ ≡ splice d at (unpack (octets size) n))
   unfolding withField
@@ -121,7 +121,7 @@ module _ (d : List ℕ) (at size : ℕ) where
       let yes : holds d at size n ≡ true = rw (is-field h k, lt-ltb n (2 ^ width (octets size)) b) in
       (w .answer ∙ yes, w .after ∙ rw yes)
 
-  -- what a field that was read says, and one that was not
+  -- what a packed field that was read says, and one that was not
   value-said : (b : Bool) (m n : ℕ) → cond b (Value m) Outside ≡ Value n → (b ≡ true) × (m ≡ n)
   value-said true m n e = (refl, cc)
   value-said false m n e = let z : _≡_ {A = ℕ} 0 1 = cc in absurd (omega arith)

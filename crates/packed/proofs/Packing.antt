@@ -23,7 +23,7 @@ pack-below [] (x ∷ xs) h = absurd h
 pack-below (w ∷ ws) [] h = absurd h
 pack-below (w ∷ ws) (x ∷ xs) h = rw (pow-add 2 w (width ws)) (digits-lt (h .0) (pack-below ws xs (h .1)))
 
--- a field more in front
+-- a packed field more in front
 shifted : (y w x s p : ℕ) → y * 2 ^ (w + s) + (x * 2 ^ s + p) ≡ (y * 2 ^ w + x) * 2 ^ s + p
 shifted y w x s p = rw (pow-add 2 w s, add-mul, mul-assoc) (omega arith)
 
@@ -50,7 +50,7 @@ pub unpack-within : (ws : List ℕ) (n : ℕ) → Within ws (unpack ws n)
 unpack-within [] n = tt
 unpack-within (w ∷ ws) n = (mod-lt (n / 2 ^ width ws) (pow-pos w), unpack-within ws n)
 
--- fields behind fields
+-- packed fields behind packed fields
 pub width-append : (ws vs : List ℕ) → width (ws ++ vs) ≡ width ws + width vs
 width-append [] vs = omega arith
 width-append (w ∷ ws) vs = omega (arith, width-append ws vs)

@@ -17,9 +17,9 @@ use Rattle.characters.specs.Control.{stx, lf}
 use Rattle.characters.specs.Allowed.{allowed}
 use Rattle.digits.specs.Number.{mostNumber, nextNumber}
 use Rattle.frame.specs.Shape.{aroundText}
-use Rattle.frame.specs.Writing.{frameOf}
+use Rattle.framing.specs.Writing.{frameOf}
 use Rattle.frame.specs.declared.End.{End}
-use Rattle.frame.proofs.ReadBack.{early, long}
+use Rattle.framing.proofs.ReadBack.{early, long}
 use Rattle.faults.specs.Faults.{isMessage}
 use Rattle.faults.proofs.Messages.{message-short, message-allowed}
 use Rattle.line.specs.Line.{acceptedLine}

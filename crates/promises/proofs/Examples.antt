@@ -6,7 +6,7 @@ use lib.ListN.{length}
 use Rattle.characters.specs.Allowed.{allowed}
 use Rattle.digits.specs.Check.{total, checkOf, hexDigit, digitsOf}
 use Rattle.digits.specs.Number.{nextNumber}
-use Rattle.frame.specs.Writing.{bodyOf, tailOf, collectedOf, frameOf}
+use Rattle.framing.specs.Writing.{bodyOf, tailOf, collectedOf, frameOf}
 use Rattle.kinds.specs.Header.{isHeader}
 use Rattle.faults.specs.Faults.{kindStep, recordStep, headerStep, recordsFault, fault}
 use Rattle.kinds.specs.Kinds.{kindOf, typeOf, mayFollow}

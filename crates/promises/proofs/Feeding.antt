@@ -19,10 +19,10 @@ use Rattle.characters.specs.Allowed.{allowed}
 use Rattle.digits.specs.Check.{checkOf, hexDigit, digitsOf}
 use Rattle.digits.specs.Number.{mostNumber}
 use Rattle.frame.specs.Shape.{aroundText, shapeOf}
-use Rattle.frame.specs.Writing.{endByte, bodyOf, frameOf}
+use Rattle.framing.specs.Writing.{endByte, bodyOf, frameOf}
 use Rattle.frame.specs.declared.End.{End}
 use Rattle.frame.specs.declared.End.the-variants.{Etb, Etx}
-use Rattle.frame.proofs.ReadBack.{early, spelt, long, the-text, read-back}
+use Rattle.framing.proofs.ReadBack.{early, spelt, long, the-text, read-back}
 use Rattle.line.specs.Line.{mostCollected}
 use Rattle.line.specs.Turn.{isLast, turnOf}
 use Rattle.line.specs.declared.Line.{Line}

@@ -10,7 +10,7 @@ use lib.ListN.{length, getD, replicate, length-append, length-replicate}
 use Rattle.memory.specs.Sizes.{frameLimit, journalSize, unfinishedSize, framesSize}
 use Rattle.digits.specs.Check.{checkOf, hexDigit, digitsOf, total}
 use Rattle.digits.specs.Number.{nextNumber}
-use Rattle.frame.specs.Writing.{bodyOf, tailOf, collectedOf, frameOf}
+use Rattle.framing.specs.Writing.{bodyOf, tailOf, collectedOf, frameOf}
 use Rattle.faults.specs.Faults.{isMessage}
 use Rattle.cutting.specs.Frames.{cutOf}
 use Rattle.cutting.specs.Pieces.{piecesOf}

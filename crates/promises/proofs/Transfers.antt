@@ -10,7 +10,7 @@ use lib.ListN.{length}
 use Rattle.memory.specs.Sizes.{lines, frameLimit}
 use Rattle.memory.proofs.Parts.{part-start}
 use Rattle.digits.specs.Number.{nextNumber}
-use Rattle.frame.specs.Writing.{frameOf}
+use Rattle.framing.specs.Writing.{frameOf}
 use Rattle.faults.specs.Faults.{isMessage}
 use Rattle.faults.proofs.Messages.{message-some, message-short}
 use Rattle.cutting.specs.Pieces.{Piece, piecesOf}

@@ -11,9 +11,9 @@ use Rattle.memory.specs.Parts.{part, splice}
 use Rattle.characters.specs.Control.{stx, lf}
 use Rattle.digits.specs.Number.{nextNumber}
 use Rattle.frame.specs.Shape.{aroundText}
-use Rattle.frame.specs.Writing.{frameOf}
+use Rattle.framing.specs.Writing.{frameOf}
 use Rattle.frame.specs.declared.End.{End}
-use Rattle.frame.proofs.ReadBack.{early, long}
+use Rattle.framing.proofs.ReadBack.{early, long}
 use Rattle.faults.specs.Faults.{isMessage}
 use Rattle.cutting.specs.Pieces.{Piece, piece, pieceSize, piecesOf, endAfter, throughCr}
 use Rattle.cutting.specs.Frames.{framesFrom}

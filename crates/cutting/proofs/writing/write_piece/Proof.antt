@@ -7,7 +7,7 @@ use denote.Ref.{now}
 use lib.ListN.{length, take}
 use lib.Seq.{length-take-le}
 use Rattle.memory.specs.Parts.{splice}
-use Rattle.frame.specs.Writing.{frameOf}
+use Rattle.framing.specs.Writing.{frameOf}
 use Rattle.frame.specs.declared.End.{End}
 use Rattle.cutting.proofs.Written.{frame-back}
 use Rattle.cutting.proofs.writing.write_piece.Statement.{statement}

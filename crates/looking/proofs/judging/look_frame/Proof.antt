@@ -10,7 +10,7 @@ use Rattle.line.proofs.Limits.{within-facts}
 use Rattle.memory.specs.Sizes.{frameLimit}
 use Rattle.memory.proofs.Parts.{part-lent}
 use Rattle.frame.specs.Shape.{shapeOf}
-use Rattle.frame.proofs.Accepted.{accepted-size}
+use Rattle.frame.proofs.Passed.{accepted-size}
 use Rattle.looking.specs.Views.{frameStart, framesOf, frameBytes}
 use Rattle.looking.specs.Looks.{frameLook}
 use Rattle.looking.proofs.Views.{length-frame, own-parts, lent-collected}

@@ -1,4 +1,4 @@
--- `frame::writing::lay_body` meets its contract.
+-- `framing::writing::lay_body` meets its contract.
 -- Assumes nothing.
 use mathlib.Core.Path.{_≡_}
 use Prim.Native.Nat.{_+_, _≤_}
@@ -6,10 +6,10 @@ use native.Mathlib.Omega.{arith}
 use lib.ListN.{length, length-set}
 use borrow.Author.Needs.{needs}
 use denote.Ref.{now}
-use Rattle.frame.specs.Writing.{bodyOf}
-use Rattle.frame.proofs.Put.{long-body, put-body, check-body}
-use Rattle.frame.proofs.writing.lay_body.Statement.{statement}
-use Rattle.frame.proofs.writing.lay_body.Tie as tie
+use Rattle.framing.specs.Writing.{bodyOf}
+use Rattle.framing.proofs.Put.{long-body, put-body, check-body}
+use Rattle.framing.proofs.writing.lay_body.Statement.{statement}
+use Rattle.framing.proofs.writing.lay_body.Tie as tie
 
 -- the start, as it is seen from behind the end byte
 abbrev start : tie.After-end-byte → tie.Start

@@ -14,13 +14,13 @@ use Rattle.characters.specs.Control.{cr, lf}
 use Rattle.characters.specs.Allowed.{allowed}
 use Rattle.digits.specs.Check.{digitsOf, checkOf}
 use Rattle.digits.specs.Number.{mostNumber, digitFor}
 use Rattle.frame.specs.Shape.{aroundText, textIn, isEnd, endFrom, isBuilt, isChecked, shapeOf}
-use Rattle.frame.specs.Writing.{endByte, bodyOf, tailOf, collectedOf}
+use Rattle.framing.specs.Writing.{endByte, bodyOf, tailOf, collectedOf}
 use Rattle.frame.specs.declared.End.{End}
 use Rattle.frame.specs.declared.End.the-variants.{Etb, Etx}
 use Rattle.frame.specs.declared.Shape.the-variants.{Whole}
 use Rattle.frame.proofs.Collected.{text-in, built-long, checked-long, inner-long, shape-ended}
-use Rattle.frame.proofs.Put.{length-body}
+use Rattle.framing.proofs.Put.{length-body}
 
 is-end : (end : End) → isEnd (endByte end) ≡ true
 is-end Etb = refl

@@ -1,12 +1,12 @@
--- `frame::writing::lay_frame` meets its contract: the tail behind the body makes the frame.
+-- `framing::writing::lay_frame` meets its contract: the tail behind the body makes the frame.
 -- Assumes nothing.
 use mathlib.Core.Path.{_∙_}
 use borrow.Author.Needs.{needs}
 use denote.Ref.{now}
-use Rattle.frame.specs.Writing.{tailOf}
-use Rattle.frame.proofs.Put.{frame-put}
-use Rattle.frame.proofs.writing.lay_frame.Statement.{statement}
-use Rattle.frame.proofs.writing.lay_frame.Tie as tie
+use Rattle.framing.specs.Writing.{tailOf}
+use Rattle.framing.proofs.Put.{frame-put}
+use Rattle.framing.proofs.writing.lay_frame.Statement.{statement}
+use Rattle.framing.proofs.writing.lay_frame.Tie as tie
 
 returns : tie.Need-returns
 unfolding tailOf

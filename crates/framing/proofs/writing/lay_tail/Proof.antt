@@ -1,12 +1,12 @@
--- `frame::writing::lay_tail` meets its contract.
+-- `framing::writing::lay_tail` meets its contract.
 -- Assumes nothing.
 use native.Mathlib.Omega.{arith}
 use borrow.Author.Needs.{needs}
 use lib.ListN.{length-set}
 use denote.Ref.{now}
-use Rattle.frame.proofs.Put.{put-four}
-use Rattle.frame.proofs.writing.lay_tail.Statement.{statement}
-use Rattle.frame.proofs.writing.lay_tail.Tie as tie
+use Rattle.framing.proofs.Put.{put-four}
+use Rattle.framing.proofs.writing.lay_tail.Statement.{statement}
+use Rattle.framing.proofs.writing.lay_tail.Tie as tie
 
 returns : tie.Need-returns
 returns c =

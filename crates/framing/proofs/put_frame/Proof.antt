@@ -1,11 +1,11 @@
--- `frame::put_frame` meets its contract.
+-- `framing::put_frame` meets its contract.
 -- Assumes nothing.
 use native.Mathlib.Omega.{arith}
 use borrow.Author.Needs.{needs}
 use denote.Ref.{now}
-use Rattle.frame.proofs.Put.{not-put, no-room, put}
-use Rattle.frame.proofs.put_frame.Statement.{statement}
-use Rattle.frame.proofs.put_frame.Tie as tie
+use Rattle.framing.proofs.Put.{not-put, no-room, put}
+use Rattle.framing.proofs.put_frame.Statement.{statement}
+use Rattle.framing.proofs.put_frame.Tie as tie
 
 returns : tie.Need-returns
 returns c =

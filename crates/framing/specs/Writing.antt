@@ -12,11 +12,11 @@ use Rattle.memory.specs.Tests.{unless}
 use Rattle.characters.specs.Control.{stx, etx, lf, cr, etb}
 use Rattle.digits.specs.Check.{checkOf, digitsOf}
 use Rattle.digits.specs.Number.{mostNumber, digitFor}
 use Rattle.frame.specs.Shape.{aroundText}
 use Rattle.frame.specs.declared.End.{End}
 use Rattle.frame.specs.declared.End.the-variants.{Etb, Etx}
-use Rattle.frame.specs.declared.Written.{Written}
-use Rattle.frame.specs.declared.Written.the-variants.{Malformed, NotFitting, Length}
+use Rattle.framing.specs.declared.Written.{Written}
+use Rattle.framing.specs.declared.Written.the-variants.{Malformed, NotFitting, Length}
 
 abbrev pub endByte : End → ℕ
 endByte Etb = etb

@@ -3,9 +3,9 @@
 use mathlib.Core.Path.{_≡_, sym, _∙_}
 use mathlib.Core.List.{List}
 use Prim.Native.Nat.{ℕ}
-use Rattle.frame.specs.Writing.{FramePut}
+use Rattle.framing.specs.Writing.{FramePut}
 use Rattle.frame.specs.declared.End.{End}
-use Rattle.frame.specs.declared.Written.{Written}
+use Rattle.framing.specs.declared.Written.{Written}
 
 -- `put_frame`
 pub frame-put-once : (number : ℕ) (end : End) (text out : List ℕ) {r q : Written} {x y : List ℕ}

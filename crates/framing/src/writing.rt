@@ -7,14 +7,14 @@ ghost use Rattle.memory.specs.Parts.{splice};
 ghost use Rattle.characters.specs.Control.{stx, cr, lf};
 ghost use Rattle.digits.specs.Check.{total, checkOf, digitsOf};
 ghost use Rattle.digits.specs.Number.{mostNumber};
 ghost use Rattle.frame.specs.Shape.{aroundText};
-ghost use Rattle.frame.specs.Writing.{endByte, bodyOf, frameOf};
-use super::End;
+ghost use Rattle.framing.specs.Writing.{endByte, bodyOf, frameOf};
 use characters::CR;
 use characters::ETB;
 use characters::ETX;
 use characters::LF;
 use characters::STX;
+use frame::End;
 
 pub fn lay_frame(number: u8, end: End, text: &[u8], out: &mut [u8])
     requires { ⌜ (number ≤ mostNumber) × (length (now text) + aroundText ≤ length (now out)) ⌝ }

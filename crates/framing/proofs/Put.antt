@@ -13,10 +13,10 @@ use Rattle.memory.proofs.Parts.{set-splice, set-behind, splice-join, length-spl
 use Rattle.characters.specs.Control.{stx}
 use Rattle.digits.specs.Check.{total, checkOf}
 use Rattle.digits.specs.Number.{mostNumber}
-use Rattle.frame.specs.Writing.{bodyOf, tailOf, collectedOf, frameOf, putOf, putIn, FramePut}
+use Rattle.framing.specs.Writing.{bodyOf, tailOf, collectedOf, frameOf, putOf, putIn, FramePut}
 use Rattle.digits.proofs.Check.{total-append}
 use Rattle.frame.specs.declared.End.{End}
-use Rattle.frame.specs.declared.Written.the-variants.{Malformed, NotFitting, Length}
+use Rattle.framing.specs.declared.Written.the-variants.{Malformed, NotFitting, Length}
 
 -- two stores at the start, a text behind them, one store more
 module _ (d text x : List ℕ) (a b e : ℕ) (h : length text + 3 ≤ length d) (c : x ≡ splice (set (set d 0 a) 1 b) 2 text) where

@@ -1,4 +1,4 @@
--- `frame::writing::lay_text` meets its contract. The loop's invariant: the bytes passed are written, and counted.
+-- `framing::writing::lay_text` meets its contract. The loop's invariant: the bytes passed are written, and counted.
 -- Assumes nothing.
 use mathlib.Core.Path.{_≡_, refl, sym, _∙_}
 use Prim.Native.Nat.{_+_, _-_, _%_, _≤_, _<_}
@@ -11,9 +11,9 @@ use Rattle.memory.specs.Parts.{splice}
 use Rattle.memory.proofs.Parts.{splice-nil}
 use Rattle.digits.specs.Check.{total}
 use Rattle.digits.proofs.Check.{total-more}
-use Rattle.frame.proofs.Put.{text-more}
-use Rattle.frame.proofs.writing.lay_text.Statement.{statement}
-use Rattle.frame.proofs.writing.lay_text.Tie as tie
+use Rattle.framing.proofs.Put.{text-more}
+use Rattle.framing.proofs.writing.lay_text.Statement.{statement}
+use Rattle.framing.proofs.writing.lay_text.Tie as tie
 
 abbrev Inv-loop : tie.InvT-loop
 Inv-loop first text out₀ sum₀ i₀ out sum i =

@@ -1,0 +1,4 @@
+pub mod Put
+pub mod ReadBack
+pub mod Accepted
+pub mod OneOutcome
