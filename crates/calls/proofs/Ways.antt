@@ -37,10 +37,9 @@ use Rattle.looking.specs.declared.Verdict.{Verdict}
 use Rattle.looking.specs.declared.Verdict.the-variants.{Collects, Begins}
 use Rattle.numbers.specs.Plain.{waiting, inside, begins, insideAt, firstAt, numberAt, stateOf, withLine, withSerial, withUsed, withinNumbers, onlyCollects, oneMore, quick, lineOf, ledgerOf, told}
 use Rattle.calls.specs.Calls.{AfterCall, refused, putBack, callOf, Called, Calling, Stepping, Deciding, PutBack, Narrow, Taken, toldTaking}
-use Rattle.numbers.specs.Changes.{recordOf, isCollected, Collected, isBegun, Begun, recordAfter, serialAfter, countsAfter}
-use Rattle.numbers.specs.declared.Tells.{Tells}
-use Rattle.numbers.specs.declared.Tells.the-variants.{Record, NoRecord}
+use Rattle.numbers.specs.Changes.{isWithin, recordOf, isCollected, Collected, isBegun, Begun, recordAfter, serialAfter, countsAfter}
 use Rattle.numbers.specs.declared.Answered.{Answered}
+use Rattle.numbers.proofs.Changes.{within-facts}
 use Rattle.numbers.proofs.Numbers.{told-within, used-back, serial-back, count-back, begun-back}
 use Rattle.journal.proofs.Takings.{taken-line}
 use Rattle.receiving.proofs.Steps.{step-after, alone-asks, step-decides}
@@ -211,43 +210,35 @@ module _ (ns us : List ℕ) (e : Event) (j u f : List ℕ) (h : e .line < lines)
   }))
 
 -- an event that began a frame, or did not
-module _ (ns us : List ℕ) (e : Event) (j u f : List ℕ) (h : e .line < lines) (s : rightLengths (length j) (length u) (length f) ≡ true) {t : Bool} {ns₁ : List ℕ} (x : Begun ns (e .line) (e .kind) t ns₁) where
-  begun-within : isBegun ns (e .line) (e .kind) ≡ true → (begins ns (e .line) (e .kind) ≡ true) × (withinNumbers ns (e .line) ≡ true)
+module _ (ns us : List ℕ) (e : Event) (j u f : List ℕ) (s : rightLengths (length j) (length u) (length f) ≡ true) (w : isWithin ns (e .line) ≡ true) {t : Bool} {ns₁ : List ℕ} (x : Begun ns (e .line) (e .kind) t ns₁) where
+  starts : isBegun ns (e .line) (e .kind) ≡ true → begins ns (e .line) (e .kind) ≡ true
   unfolding isBegun
-  begun-within is =
-      let rest = and-right (ltb (e .line) lines) (begins ns (e .line) (e .kind) && withinNumbers ns (e .line)) is in
-      (and-left (begins ns (e .line) (e .kind)) (withinNumbers ns (e .line)) rest, and-right (begins ns (e .line) (e .kind)) (withinNumbers ns (e .line)) rest)
+  starts is = and-right (ltb (e .line) lines) (begins ns (e .line) (e .kind)) is
 
   pub by-begun : {r : Answered} → t ≡ true → r ≡ told Nothing → Calling ns us e j u f r ns₁ us j u f
   by-begun p q =
       let is : isBegun ns (e .line) (e .kind) ≡ true = sym (x .result) ∙ p in
-      let (stx, w) = begun-within is in
-      rw q (by-begin ns us e j u f h s w stx (x .numbers ∙ rw is))
+      let (h, within) = within-facts ns (e .line) w in
+      rw q (by-begin ns us e j u f h s within (starts is) (x .numbers ∙ rw is))
 
   not-begun : t ≡ false → ns₁ ≡ ns
   not-begun p = x .numbers ∙ rw (sym (x .result) ∙ p)
 
-  -- what the numbers tell
-  tells : {q : Tells} → t ≡ false → q ≡ recordOf ns₁ (e .line) → q ≡ unless (withinNumbers ns (e .line)) NoRecord (Record (lineOf ns (e .line)))
-  unfolding recordOf
-  tells p d = d ∙ rw (not-begun p, lt-ltb (e .line) lines h)
+  pub still-within : t ≡ false → isWithin ns₁ (e .line) ≡ true
+  still-within p = rw (not-begun p) w
 
-  pub by-none : {q : Tells} {r : Answered} → t ≡ false → q ≡ recordOf ns₁ (e .line) → q ≡ NoRecord → r ≡ told BeyondLimits → Calling ns us e j u f r ns₁ us j u f
-  by-none {r = r} p d z a = rw (not-begun p) (beyond ns us e j u f r h s (none (withinNumbers ns (e .line)) (sym z ∙ tells p d)) a)
-    where
-      none : (w : Bool) → NoRecord ≡ unless w NoRecord (Record (lineOf ns (e .line))) → w ≡ false
-      none true k = clash cc
-      none false k = refl
+  pub by-other : {r : Answered} {ns′ us′ j′ u′ f′ : List ℕ} → t ≡ false → Stepping ns₁ us (lineOf ns₁ (e .line)) e j u f r ns′ us′ j′ u′ f′ → Calling ns us e j u f r ns′ us′ j′ u′ f′
+  by-other {r} {ns′} {us′} {j′} {u′} {f′} p c =
+      let y : Stepping ns us (lineOf ns (e .line)) e j u f r ns′ us′ j′ u′ f′ = rw (← not-begun p) c in
+      let (h, within) = within-facts ns (e .line) w in
+      by-step ns us e j u f h s within y
 
-  pub by-record : {q : Tells} {l : Line} {r : Answered} {ns′ us′ j′ u′ f′ : List ℕ} → t ≡ false → q ≡ recordOf ns₁ (e .line) → q ≡ Record l → Stepping ns₁ us l e j u f r ns′ us′ j′ u′ f′ → Calling ns us e j u f r ns′ us′ j′ u′ f′
-  by-record {q} {l} {r} {ns′} {us′} {j′} {u′} {f′} p d z c =
-      let (w, k) = some (withinNumbers ns (e .line)) (sym z ∙ tells p d) in
-      let y : Stepping ns us (lineOf ns (e .line)) e j u f r ns′ us′ j′ u′ f′ = rw (← k, ← not-begun p) c in
-      by-step ns us e j u f h s w y
-    where
-      some : (w : Bool) → Record l ≡ unless w NoRecord (Record (lineOf ns (e .line))) → (w ≡ true) × (l ≡ lineOf ns (e .line))
-      some true k = (refl, cc)
-      some false k = clash cc
+-- the record that the numbers tell
+pub record-told : (ns us : List ℕ) (e : Event) (j u f : List ℕ) {l : Line} {r : Answered} {ns′ us′ j′ u′ f′ : List ℕ} → isWithin ns (e .line) ≡ true → l ≡ recordOf ns (e .line) → Stepping ns us l e j u f r ns′ us′ j′ u′ f′
+    → Stepping ns us (lineOf ns (e .line)) e j u f r ns′ us′ j′ u′ f′
+record-told ns us e j u f {l} {r} {ns′} {us′} {j′} {u′} {f′} w q c =
+    let k : l ≡ lineOf ns (e .line) = q ∙ rw w in
+    subst (λ (x : Line). Stepping ns us x e j u f r ns′ us′ j′ u′ f′) k c
 
 -- a taking
 module _ (ns us : List ℕ) (i : ℕ) (j b : List ℕ) where

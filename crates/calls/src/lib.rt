@@ -7,7 +7,8 @@ ghost use lib.ListN.{length};
 ghost use Rattle.looking.specs.Lent.{rightLengths};
 ghost use Rattle.looking.specs.Answers.{answerOf};
 ghost use Rattle.memory.specs.Sizes.{lines};
-ghost use Rattle.numbers.specs.Plain.{told as Plain·told, withLine};
+ghost use Rattle.numbers.specs.Plain.{told as Plain·told, lineOf, withLine};
+ghost use Rattle.numbers.specs.Changes.{isWithin};
 ghost use Rattle.calls.specs.Calls.{Calling, Stepping, Deciding, PutBack, Narrow, Taken, toldTaking};
 use answers::Answer;
 use journal::Took;
@@ -19,7 +20,6 @@ use looking::Kind;
 use looking::Look;
 use looking::Verdict;
 use numbers::Answered;
-use numbers::Tells;
 use receiving::Stepped;
 
 // An entry taken, the only answer with values.
@@ -82,7 +82,7 @@ pub fn seconds(
     event(e, numbers, used, journal, unfinished, frames)
 }
 
-// An event past 40 and 41: STX between frames only begins one, and needs no record; numbers that tell none are 42; any other is stepped.
+// An event past 40 and 41: numbers that tell no record are 42; STX between frames only begins one, and needs no record; any other is stepped.
 fn event(
     e: Event,
     numbers: &mut [u16; NUMBERS],
@@ -96,20 +96,18 @@ fn event(
         r (now (numbers .exit)) (now (used .exit)) (now (journal .exit)) (now (unfinished .exit)) (now (frames .exit)) ⌝ }
 {
     let i = e.line as usize;
+    if !numbers::is_within(numbers, i) {
+        return numbers::told(Answer::BeyondLimits);
+    }
     let kind = e.kind;
     if numbers::begin(i, kind, numbers) {
         return numbers::told(Answer::Nothing);
     }
-    let tells = numbers::record_of(numbers, i);
-    match tells {
-        Tells::Record(record) => step(record, e, numbers, used, journal, unfinished, frames),
-        Tells::NoRecord => numbers::told(Answer::BeyondLimits),
-    }
+    step(e, numbers, used, journal, unfinished, frames)
 }
 
-// The step on the line alone; a message that is complete is decided.
+// The step on the line alone, its record told from the numbers and put back into them; a message that is complete is decided.
 fn step(
-    line: Line,
     e: Event,
     numbers: &mut [u16; NUMBERS],
     used: &mut [u32; COUNTS],
@@ -117,15 +115,17 @@ fn step(
     unfinished: &mut [u8],
     frames: &mut [u8],
 ) -> Answered
-    requires { ⌜ e .line < lines ⌝ }
-    ensures { λ r. ⌜ Stepping (now (numbers .entry)) (now (used .entry)) line e (now (journal .entry)) (now (unfinished .entry)) (now (frames .entry))
+    requires { ⌜ (e .line < lines) × (isWithin (now numbers) (e .line) ≡ true) ⌝ }
+    ensures { λ r. ⌜ Stepping (now (numbers .entry)) (now (used .entry)) (lineOf (now (numbers .entry)) (e .line)) e (now (journal .entry)) (now (unfinished .entry)) (now (frames .entry))
         r (now (numbers .exit)) (now (used .exit)) (now (journal .exit)) (now (unfinished .exit)) (now (frames .exit)) ⌝ }
 {
-    let alone = receiving::step_alone(line, e, journal.len(), unfinished, frames);
+    let i = e.line as usize;
+    let record = numbers::record_of(numbers, i);
+    let alone = receiving::step_alone(record, e, journal.len(), unfinished, frames);
     let look = alone.look;
     match look {
         Look::Done(v) => leave(e.line, alone.line, v, numbers),
-        Look::Decides(n) => decide(line, e, n, numbers, used, journal, unfinished, frames),
+        Look::Decides(n) => decide(record, e, n, numbers, used, journal, unfinished, frames),
     }
 }
 

@@ -1,19 +1,18 @@
 -- What each test of the numbers decides.
 -- Assumes nothing.
-use mathlib.Core.Path.{_≡_, refl, sym}
+use mathlib.Core.Path.{_≡_, refl, sym, _∙_}
 use mathlib.Core.Bool.{Bool, true, false}
 use mathlib.Core.List.{List}
 use Prim.Native.Nat.{ℕ, _+_, _≤_, _<_}
-use borrow.Author.Tests.{lt-ltb, le-ltb, eq-eqb, ne-eqb}
+use borrow.Author.Tests.{lt-ltb, le-ltb, ltb-true, eq-eqb, ne-eqb}
+use lib.Dec.{ltb}
 use lib.ListN.{length, set}
 use Rattle.memory.specs.Sizes.{lines, framesSize}
-use Rattle.memory.proofs.Tests.{and-right}
+use Rattle.memory.proofs.Tests.{and-left, and-right}
 use Rattle.looking.specs.Views.{frameStart}
 use Rattle.looking.specs.declared.Kind.{Kind}
-use Rattle.line.specs.declared.Line.{Line}
-use Rattle.numbers.specs.Plain.{numberAt, quick, onlyCollects, withinNumbers, oneMore, begins, insideAt, lineOf}
-use Rattle.numbers.specs.Changes.{recordOf, isCollected, Collected, isBegun, Begun}
-use Rattle.numbers.specs.declared.Tells.the-variants.{Record, NoRecord}
+use Rattle.numbers.specs.Plain.{numberAt, quick, onlyCollects, withinNumbers, oneMore, begins, insideAt}
+use Rattle.numbers.specs.Changes.{isWithin, isCollected, Collected, isBegun, Begun}
 
 -- a byte: not collected on no line, in frames of another size, or where it is not quick
 module _ (ns : List ℕ) (i b : ℕ) (f : List ℕ) where
@@ -44,38 +43,31 @@ module _ (ns : List ℕ) (i b : ℕ) (f : List ℕ) where
 
 -- an event that begins a frame, or none
 module _ (ns : List ℕ) (i : ℕ) (k : Kind) where
-  unbegun : isBegun ns i k ≡ false → Begun ns i k false ns
-  unbegun e = record { result = sym e; numbers = rw e }
-
   pub begun-nowhere : lines ≤ i → Begun ns i k false ns
   unfolding isBegun
-  begun-nowhere h = unbegun (rw (le-ltb i lines h))
+  begun-nowhere h = record { result = rw (le-ltb i lines h); numbers = rw (le-ltb i lines h) }
 
   pub not-begun : i < lines → begins ns i k ≡ false → Begun ns i k false ns
   unfolding isBegun
-  not-begun h q = unbegun (rw (lt-ltb i lines h, q))
+  not-begun h q = record { result = rw (lt-ltb i lines h, q); numbers = rw (lt-ltb i lines h, q) }
 
-  module _ (h : i < lines) (q : begins ns i k ≡ true) where
-    test-begun : {t : Bool} → withinNumbers ns i ≡ t → isBegun ns i k ≡ t
-    unfolding isBegun
-    test-begun w = rw (lt-ltb i lines h, q) w
+  pub begun : i < lines → begins ns i k ≡ true → Begun ns i k true (insideAt ns i)
+  unfolding isBegun
+  begun h q = record { result = rw (lt-ltb i lines h, q); numbers = rw (lt-ltb i lines h, q) }
 
-    pub begun-beyond : withinNumbers ns i ≡ false → Begun ns i k false ns
-    begun-beyond w = unbegun (test-begun w)
-
-    pub begun : withinNumbers ns i ≡ true → Begun ns i k true (insideAt ns i)
-    begun w = record { result = sym (test-begun w); numbers = rw (test-begun w) }
-
--- the record, or none
+-- numbers that tell a record, or none
 module _ (ns : List ℕ) (i : ℕ) where
-  pub record-nowhere : lines ≤ i → NoRecord ≡ recordOf ns i
-  unfolding recordOf
-  record-nowhere h = rw (le-ltb i lines h)
+  pub within-nowhere : lines ≤ i → false ≡ isWithin ns i
+  unfolding isWithin
+  within-nowhere h = rw (le-ltb i lines h)
 
-  pub record-beyond : i < lines → withinNumbers ns i ≡ false → NoRecord ≡ recordOf ns i
-  unfolding recordOf
-  record-beyond h w = rw (lt-ltb i lines h, w)
+  pub within-there : {r : Bool} → i < lines → r ≡ withinNumbers ns i → r ≡ isWithin ns i
+  unfolding isWithin
+  within-there h w = rw (lt-ltb i lines h) w
 
-  pub record-there : {l : Line} → i < lines → withinNumbers ns i ≡ true → l ≡ lineOf ns i → Record l ≡ recordOf ns i
-  unfolding recordOf
-  record-there h w e = rw (lt-ltb i lines h, w, e)
+  pub within-facts : isWithin ns i ≡ true → (i < lines) × (withinNumbers ns i ≡ true)
+  unfolding isWithin
+  within-facts e = (ltb-true i lines (and-left (ltb i lines) (withinNumbers ns i) e), and-right (ltb i lines) (withinNumbers ns i) e)
+
+  pub not-within : i < lines → isWithin ns i ≡ false → withinNumbers ns i ≡ false
+  not-within h e = within-there h refl ∙ e

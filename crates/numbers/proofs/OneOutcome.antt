@@ -1,4 +1,4 @@
--- Any two outcomes that a contract of this crate allows are equal. Those of `record_of`, `put_record`, `put_serial`, `put_used` and `told` are one equation each: memory's `one-value` says it.
+-- Any two outcomes that a contract of this crate allows are equal. Those of `is_within`, `record_of`, `put_record`, `put_serial`, `put_used` and `told` are one equation each: memory's `one-value` says it.
 -- Assumes nothing.
 use mathlib.Core.Path.{_≡_, sym, _∙_}
 use mathlib.Core.Bool.{Bool}

@@ -9,17 +9,20 @@ use lib.Dec.{ltb, eqb}
 use Rattle.memory.specs.Sizes.{lines, framesSize}
 use Rattle.memory.specs.Tests.{unless}
 use Rattle.journal.specs.declared.Ledger.{Ledger}
+use Rattle.line.specs.Line.{freshLine}
 use Rattle.line.specs.declared.Line.{Line}
 use Rattle.looking.specs.Views.{frameStart}
 use Rattle.looking.specs.declared.Kind.{Kind}
 use Rattle.layout.specs.Layout.{collectedAt}
 use Rattle.numbers.specs.Plain.{numberAt, lineOf, withinNumbers, quick, oneMore, begins, insideAt, ledgerOf, withLine, serialPut, countsPut}
-use Rattle.numbers.specs.declared.Tells.{Tells}
-use Rattle.numbers.specs.declared.Tells.the-variants.{Record, NoRecord}
 
--- the record that a line's numbers tell; none where they are beyond its limits, or there is no such line
-unfoldable pub recordOf : List ℕ → ℕ → Tells
-recordOf ns i = unless (ltb i lines) NoRecord (unless (withinNumbers ns i) NoRecord (Record (lineOf ns i)))
+-- whether a line's numbers tell a record within its limits
+unfoldable pub isWithin : List ℕ → ℕ → Bool
+isWithin ns i = ltb i lines && withinNumbers ns i
+
+-- the record that they tell; where they tell none, that of a fresh line
+abbrev pub recordOf : List ℕ → ℕ → Line
+recordOf ns i = unless (isWithin ns i) freshLine (lineOf ns i)
 
 -- whether a byte is only collected, in frames of the right size
 unfoldable pub isCollected : List ℕ → ℕ → ℕ → List ℕ → Bool
@@ -33,7 +36,7 @@ pub record Collected (ns : List ℕ) (i b : ℕ) (f : List ℕ) (r : Bool) (ns�
 
 -- whether an event only begins a frame; then the line is inside one
 unfoldable pub isBegun : List ℕ → ℕ → Kind → Bool
-isBegun ns i k = ltb i lines && (begins ns i k && withinNumbers ns i)
+isBegun ns i k = ltb i lines && begins ns i k
 
 pub record Begun (ns : List ℕ) (i : ℕ) (k : Kind) (r : Bool) (ns′ : List ℕ) : Type 0 where
   pub result : r ≡ isBegun ns i k

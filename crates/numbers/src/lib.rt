@@ -1,23 +1,17 @@
 // Records, ledger and answers in plain numbers, as a host keeps them (`layout` says where each stands).
 ghost use mathlib.Core.Path.{_≡_};
 ghost use Rattle.numbers.specs.Plain.{told as Plain·told};
-ghost use Rattle.numbers.specs.Changes.{recordOf, Collected, Begun, TellsLedger, recordAfter, serialAfter, countsAfter};
-use answers::Answer;
+ghost use Rattle.numbers.specs.Changes.{isWithin, recordOf, Collected, Begun, TellsLedger, recordAfter, serialAfter, countsAfter};
 use journal::Ledger;
 use layout::COUNTS;
 use layout::FIELDS;
 use layout::NUMBERS;
 use layout::SERIAL;
+use answers::Answer;
 use line::Line;
 use looking::Kind;
 
 mod plain; // plain.rt: the tests of a line's numbers, and each number told and put
-
-// The record that a line's numbers tell, or that they tell none: they are beyond its limits, or there is no such line.
-pub enum Tells {
-    Record(Line),
-    NoRecord,
-}
 
 // An answer: its number in document 01's table, the byte to send back (0 for none), and for 8 the serial and the text's length.
 // The place of a fault and the case of check digits are 0 in this version. With them no byte is left unnamed, so that an answer
@@ -49,7 +43,7 @@ pub fn collect(i: usize, byte: u8, numbers: &mut [u16; NUMBERS], frames: &mut [u
     true
 }
 
-// Begins a frame at STX between frames, and says whether it did: not where the numbers are beyond their limits.
+// Begins a frame at STX between frames, and says whether it did.
 pub fn begin(i: usize, kind: Kind, numbers: &mut [u16; NUMBERS]) -> bool
     ensures { λ r. ⌜ Begun (now (numbers .entry)) i kind r (now (numbers .exit)) ⌝ }
 {
@@ -59,24 +53,28 @@ pub fn begin(i: usize, kind: Kind, numbers: &mut [u16; NUMBERS]) -> bool
     if !plain::is_begin(numbers, i, kind) {
         return false;
     }
-    if !plain::is_within(numbers, i) {
-        return false;
-    }
     numbers[i * FIELDS] = plain::INSIDE;
     true
 }
 
-// The record that a line's numbers tell.
-pub fn record_of(numbers: &[u16; NUMBERS], i: usize) -> Tells
-    ensures { λ r. ⌜ r ≡ recordOf (now (numbers .entry)) i ⌝ }
+// Whether a line's numbers tell a record within its limits.
+pub fn is_within(numbers: &[u16; NUMBERS], i: usize) -> bool
+    ensures { λ r. ⌜ r ≡ isWithin (now (numbers .entry)) i ⌝ }
 {
     if memory::LINES <= i {
-        return Tells::NoRecord;
+        return false;
     }
-    if !plain::is_within(numbers, i) {
-        return Tells::NoRecord;
+    plain::is_within(numbers, i)
+}
+
+// The record that a line's numbers tell; where they tell none, that of a fresh line.
+pub fn record_of(numbers: &[u16; NUMBERS], i: usize) -> Line
+    ensures { λ r. ⌜ r ≡ recordOf (now (numbers .entry)) i ⌝ }
+{
+    if !is_within(numbers, i) {
+        return Line::fresh();
     }
-    Tells::Record(plain::told_line(numbers, i))
+    plain::told_line(numbers, i)
 }
 
 // Puts a record in the place of a line's first seven numbers.

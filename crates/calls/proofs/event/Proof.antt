@@ -1,42 +1,58 @@
--- `calls::event` meets its contract: STX between frames, 42, or the step.
+-- `calls::event` meets its contract: 42, STX between frames, or the step.
 -- Assumes nothing.
 use borrow.Author.Needs.{needs}
+use mathlib.Core.Path.{_≡_, sym, _∙_}
+use mathlib.Core.Bool.{true}
 use denote.Ref.{now}
-use Rattle.calls.proofs.Ways.{by-begun, by-none, by-record}
+use borrow.Author.Tests.{not-true, not-false}
+use Rattle.numbers.specs.Changes.{isWithin}
+use Rattle.numbers.proofs.Changes.{not-within}
+use Rattle.calls.proofs.Ways.{beyond, by-begun, still-within, by-other}
 use Rattle.calls.proofs.event.Statement.{statement}
 use Rattle.calls.proofs.event.Tie as tie
 
 -- where the function was entered
-abbrev entry : tie.After-begin → tie.Start
+abbrev entry : tie.After-is-within → tie.Start
 entry c = let lent = c .before .before in lent .before .before .before .before
+
+-- 42 is behind
+within : (c : tie.Else1) → let a = entry (c .before) .args in isWithin (now (a .numbers)) (a .e .line) ≡ true
+within c = sym (c .before .is-within .ensures) ∙ not-false _ (c .if1 .left)
 
 returns : tie.Need-returns
 returns c =
-    let begun = c .before .before in
-    let start = entry begun in
+    let tested = c .before .before in
+    let start = entry tested in
     let a = start .args in
-    by-begun (now (a .numbers)) (now (a .used)) (a .e) (now (a .journal)) (now (a .unfinished)) (now (a .frames)) (start .pre .0) (start .pre .1) (begun .begin .ensures) (c .before .if1 .taken) (c .told .ensures)
+    beyond (now (a .numbers)) (now (a .used)) (a .e) (now (a .journal)) (now (a .unfinished)) (now (a .frames)) _ (start .pre .0) (start .pre .1)
+    (not-within (now (a .numbers)) (a .e .line) (start .pre .0) (sym (tested .is-within .ensures) ∙ not-true _ (c .before .if1 .taken))) (c .told .ensures)
 
 returns-2 : tie.Need-returns-2
 returns-2 c =
-    let back = c .before .before .before in
-    let stepped = back .before .before .before in
-    let lent = stepped .before .before .before in
-    let told = lent .before .before .before .before in
-    let read = told .before .before in
-    let past = read .before .before in
+    let begun = c .before .before in
+    let past = begun .before .before in
     let start = entry (past .before) in
     let a = start .args in
-    by-record (now (a .numbers)) (now (a .used)) (a .e) (now (a .journal)) (now (a .unfinished)) (now (a .frames)) (start .pre .0) (start .pre .1) (past .before .begin .ensures) (past .if1 .left) (read .record-of .ensures) (told .tells .given .1) (stepped .step .ensures)
+    by-begun (now (a .numbers)) (now (a .used)) (a .e) (now (a .journal)) (now (a .unfinished)) (now (a .frames)) (start .pre .1) (within past) (begun .begin .ensures) (c .before .if2 .taken) (c .told2 .ensures)
+
+step-requires : tie.Need-step-requires
+step-requires c κs =
+    let other = c .before .before .before .before .before in
+    let past = other .before .before .before in
+    let start = entry (past .before) in
+    let a = start .args in
+    (start .pre .0, still-within (now (a .numbers)) (now (a .used)) (a .e) (now (a .journal)) (now (a .unfinished)) (now (a .frames)) (start .pre .1) (within past) (other .before .begin .ensures) (other .if2 .left))
 
 returns-3 : tie.Need-returns-3
 returns-3 c =
-    let known = c .before in
-    let read = known .before .before in
-    let past = read .before .before in
+    let back = c .before .before .before in
+    let stepped = back .before .before .before in
+    let lent = stepped .before .before .before in
+    let other = lent .before .before .before in
+    let past = other .before .before .before in
     let start = entry (past .before) in
     let a = start .args in
-    by-none (now (a .numbers)) (now (a .used)) (a .e) (now (a .journal)) (now (a .unfinished)) (now (a .frames)) (start .pre .0) (start .pre .1) (past .before .begin .ensures) (past .if1 .left) (read .record-of .ensures) (known .enum-told .given .1) (c .told2 .ensures)
+    by-other (now (a .numbers)) (now (a .used)) (a .e) (now (a .journal)) (now (a .unfinished)) (now (a .frames)) (start .pre .1) (within past) (other .before .begin .ensures) (other .if2 .left) (stepped .step .ensures)
 
 pub event-spec : {M : Type 1} → statement M
 event-spec =
@@ -47,12 +63,10 @@ event-spec =
     (λ c κs. search needs)
     returns
     (λ c κs. search needs)
-    (λ c. search needs)
     (λ c κs. search needs)
-    (λ c. search needs)
-    (λ c κs. search needs)
-    (λ c. search needs)
-    (λ c. search needs)
-    (λ c. search needs)
     returns-2
+    step-requires
+    (λ c. search needs)
+    (λ c. search needs)
+    (λ c. search needs)
     returns-3)

@@ -2,13 +2,16 @@
 -- Assumes nothing.
 use borrow.Author.Needs.{needs}
 use denote.Ref.{now}
-use Rattle.calls.proofs.Ways.{put-after, by-decide}
+use Rattle.calls.proofs.Ways.{record-told, put-after, by-decide}
 use Rattle.calls.proofs.step.Statement.{statement}
 use Rattle.calls.proofs.step.Tie as tie
 
--- where the function was entered, and where the line alone was stepped
-abbrev entry : tie.After-step-alone → tie.Start
-entry c = let lent = c .before .before in lent .before .before .before .before
+-- where the function was entered, where the record was read, and where the line alone was stepped
+abbrev entry : tie.After-record-of → tie.Start
+entry c = let read = c .before .before in read .before .before .before .before
+
+abbrev record-read : tie.After-step-alone → tie.After-record-of
+record-read c = c .before .before .before
 
 abbrev alone : tie.After-slice-known5 → tie.After-step-alone
 alone c = c .before .before .before .before
@@ -17,9 +20,11 @@ returns : tie.Need-returns
 returns c =
     let told = c .before .before .before in
     let stepped = alone (told .before .before) in
-    let start = entry stepped in
+    let read = record-read stepped in
+    let start = entry read in
     let a = start .args in
-    put-after (now (a .numbers)) (now (a .used)) (a .line) (a .e) (now (a .journal)) (now (a .unfinished)) (now (a .frames)) (start .pre) (stepped .step-alone .ensures) (told .look .given .1) (c .leave .ensures .0) (c .leave .ensures .1)
+    record-told (now (a .numbers)) (now (a .used)) (a .e) (now (a .journal)) (now (a .unfinished)) (now (a .frames)) (start .pre .1) (read .record-of .ensures)
+    (put-after (now (a .numbers)) (now (a .used)) _ (a .e) (now (a .journal)) (now (a .unfinished)) (now (a .frames)) (start .pre .0) (stepped .step-alone .ensures) (told .look .given .1) (c .leave .ensures .0) (c .leave .ensures .1))
 
 returns-2 : tie.Need-returns-2
 returns-2 c =
@@ -28,13 +33,18 @@ returns-2 c =
     let lent = decided .before .before .before .before in
     let told = lent .before .before .before in
     let stepped = alone (told .before .before) in
-    let a = entry stepped .args in
-    by-decide (now (a .numbers)) (now (a .used)) (a .line) (a .e) (now (a .journal)) (now (a .unfinished)) (now (a .frames)) (stepped .step-alone .ensures) (told .look2 .given .1) (decided .decide .ensures)
+    let read = record-read stepped in
+    let start = entry read in
+    let a = start .args in
+    record-told (now (a .numbers)) (now (a .used)) (a .e) (now (a .journal)) (now (a .unfinished)) (now (a .frames)) (start .pre .1) (read .record-of .ensures)
+    (by-decide (now (a .numbers)) (now (a .used)) _ (a .e) (now (a .journal)) (now (a .unfinished)) (now (a .frames)) (stepped .step-alone .ensures) (told .look2 .given .1) (decided .decide .ensures))
 
 pub step-spec : {M : Type 1} → statement M
 step-spec =
     tie.close
     (tie.spec
+    (λ c. search needs)
+    (λ c κs. search needs)
     (λ c κs. search needs)
     (λ c. search needs)
     (λ c κs. search needs)
