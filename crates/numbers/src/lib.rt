@@ -2,12 +2,12 @@
 ghost use mathlib.Core.Path.{_≡_};
 ghost use Rattle.numbers.specs.Plain.{told as Plain·told};
 ghost use Rattle.numbers.specs.Changes.{isWithin, recordOf, Collected, Begun, TellsLedger, recordAfter, serialAfter, countsAfter};
+use answers::Answer;
 use journal::Ledger;
 use layout::COUNTS;
 use layout::FIELDS;
 use layout::NUMBERS;
 use layout::SERIAL;
-use answers::Answer;
 use line::Line;
 use looking::Kind;
 

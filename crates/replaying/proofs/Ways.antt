@@ -25,8 +25,10 @@ use Rattle.looking.specs.declared.Kind.{Kind}
 use Rattle.calls.specs.Calls.{Calling, Taken}
 use Rattle.numbers.specs.declared.Answered.{Answered}
 use Rattle.replaying.specs.Lines.{nextOf}
-use Rattle.replaying.specs.Desk.{rowRoom, Desk, eventAsked, takingAsked}
-use Rattle.replaying.specs.Turns.{AfterTurn, stopped, acted, onLine, turnOf, Leaves, Telling, ReadIn}
+use Rattle.replaying.specs.Desk.{rowRoom, Desk, Asked, eventAsked, takingAsked}
+use Rattle.replaying.specs.Turns.{AfterTurn, AfterAsking, stopped, acted, onLine, turnOf, columnsOf, askedBy, turnBy, outBy, Leaves, Asks, RowPut, Telling, ReadIn}
+use Rattle.replaying.specs.declared.Columns.{Columns}
+use Rattle.replaying.specs.declared.Columns.the-variants.{Row, NoRow}
 use Rattle.replaying.specs.declared.Next.{Next}
 use Rattle.replaying.specs.declared.Stop.{Stop}
 use Rattle.replaying.specs.declared.Stop.the-variants.{Output, NotAnEvent}
@@ -82,7 +84,7 @@ module _ (number line answer size behind : ℕ) (out : List ℕ) (put : ℕ) {w 
   isTo (To n) = true
   isTo NotFitting = false
 
-  pub told-row : {end : ℕ} → w ≡ To end → Telling number line answer size behind out put (Went behind end) out′
+  pub told-row : {end : ℕ} → w ≡ To end → RowPut number line answer size behind out put (Went behind end) out′
   told-row {end} e =
       let (ends, after) = fits-written (rowText number line answer size) out put room t in
       record { turn = ap (λ (x : Written). Went behind (endIn x)) (sym e ∙ ends); after = after }
@@ -97,6 +99,57 @@ module _ (number line answer size behind : ℕ) (out : List ℕ) (put : ℕ) {w 
   pub never-short : w ≡ NotFitting → ⊥
   never-short e = true≢false (ap isTo (sym (fits-written (rowText number line answer size) out put room t .0) ∙ e))
 
+-- the row of what a line asked, by its columns
+module _ (columns : Columns) (number behind : ℕ) (out : List ℕ) (put : ℕ) where
+  pub told-columns : {line answer size : ℕ} {r : Turn} {out′ : List ℕ} → columns ≡ Row line answer size → RowPut number line answer size behind out put r out′
+      → Telling columns number behind out put r out′
+  told-columns q p =
+      record { turn = p .turn ∙ ap (λ (x : Columns). turnBy x number behind put) (sym q); after = p .after ∙ ap (λ (x : Columns). outBy x number out put) (sym q) }
+
+  pub told-nothing : columns ≡ NoRow → Telling columns number behind out put (Stopped NotAnEvent) out
+  told-nothing q = record { turn = ap (λ (x : Columns). turnBy x number behind put) (sym q); after = ap (λ (x : Columns). outBy x number out put) (sym q) }
+
+-- what each item asks
+module _ (d : Desk) (item : Item) where
+  as-asked : {s : AfterAsking} {c : Columns} {ns′ us′ j′ u′ f′ b′ : List ℕ} → askedBy item d ≡ s → Asks s c ns′ us′ j′ u′ f′ b′ → Asks (askedBy item d) c ns′ us′ j′ u′ f′ b′
+  as-asked {s} {c} {ns′} {us′} {j′} {u′} {f′} {b′} q l = subst (λ (x : AfterAsking). Asks x c ns′ us′ j′ u′ f′ b′) (sym q) l
+
+  pub asks-event : {e : GatewayEvent} {a : Answered} {ns′ us′ j′ u′ f′ : List ℕ} → item ≡ Event e
+      → Calling (d .numbers) (d .used) e (d .journal) (d .unfinished) (d .frames) a ns′ us′ j′ u′ f′
+      → Asks (askedBy item d) (Row (e .line) (a .number) (a .length)) ns′ us′ j′ u′ f′ (d .buffer)
+  unfolding eventAsked
+  asks-event {e} q c = as-asked (ap (λ (x : Item). askedBy x d) q) (record {
+    columns = ap (λ (x : Answered). Row (e .line) (x .number) (x .length)) (c .result);
+    numbers = c .numbers;
+    used = c .used;
+    journal = c .journal;
+    unfinished = c .unfinished;
+    frames = c .frames;
+    buffer = refl;
+  })
+
+  pub asks-taking : {i n m : ℕ} {a : Answered} {us′ j′ b₁ b′ : List ℕ} → item ≡ Taking i n → m ≡ min n (length (d .buffer))
+      → Taken (d .numbers) (d .used) i (d .journal) (take m (d .buffer)) a us′ j′ b₁ → b′ ≡ b₁ ++ drop m (d .buffer)
+      → Asks (askedBy item d) (Row i (a .number) (a .length)) (d .numbers) us′ j′ (d .unfinished) (d .frames) b′
+  unfolding takingAsked
+  asks-taking {i} {n} {m} {a} {us′} {j′} {b₁} {b′} q p c e =
+      let behind-lent : drop m (d .buffer) ≡ drop n (d .buffer) = rw p (drop-least n (d .buffer)) in
+      let lent : take m (d .buffer) ≡ take n (d .buffer) = rw p (take-least n (d .buffer)) in
+      let c′ : Taken (d .numbers) (d .used) i (d .journal) (take n (d .buffer)) a us′ j′ b₁ = rw (← lent) c in
+      as-asked (ap (λ (x : Item). askedBy x d) q) (record {
+        columns = ap (λ (x : Answered). Row i (x .number) (x .length)) (c′ .result);
+        numbers = refl;
+        used = c′ .used;
+        journal = c′ .journal;
+        unfinished = refl;
+        frames = refl;
+        buffer = e ∙ rw (behind-lent, c′ .buffer);
+      })
+
+  pub asks-nothing : item ≡ NoItem → Asks (askedBy item d) NoRow (d .numbers) (d .used) (d .journal) (d .unfinished) (d .frames) (d .buffer)
+  asks-nothing q =
+      as-asked (ap (λ (x : Item). askedBy x d) q) (record { columns = refl; numbers = refl; used = refl; journal = refl; unfinished = refl; frames = refl; buffer = refl })
+
 module _ (d : Desk) (out : List ℕ) (put : ℕ) where
   as-turn : {s t : AfterTurn} {r : Turn} {out′ ns′ us′ j′ u′ f′ b′ : List ℕ} → s ≡ t → Leaves t r out′ ns′ us′ j′ u′ f′ b′ → Leaves s r out′ ns′ us′ j′ u′ f′ b′
   as-turn {s} {t} {r} {out′} {ns′} {us′} {j′} {u′} {f′} {b′} q l = subst (λ (x : AfterTurn). Leaves x r out′ ns′ us′ j′ u′ f′ b′) (sym q) l
@@ -105,39 +158,29 @@ module _ (d : Desk) (out : List ℕ) (put : ℕ) where
   stays s = record { turn = refl; out = refl; numbers = refl; used = refl; journal = refl; unfinished = refl; frames = refl; buffer = refl }
 
   module _ (item : Item) (number behind : ℕ) where
-    pub acted-event : {e : GatewayEvent} {a : Answered} {r : Turn} {out′ ns′ us′ j′ u′ f′ : List ℕ} → item ≡ Event e
-        → Calling (d .numbers) (d .used) e (d .journal) (d .unfinished) (d .frames) a ns′ us′ j′ u′ f′
-        → Telling number (e .line) (a .number) (a .length) behind out put r out′ → Leaves (acted item number behind out put d) r out′ ns′ us′ j′ u′ f′ (d .buffer)
-    unfolding eventAsked
-    acted-event {e} {a} {r} {out′} q c t = as-turn (ap (λ (x : Item). acted x number behind out put d) q) (record {
-      turn = t .turn ∙ ap (λ (x : Answered). Went behind (put + length (rowText number (e .line) (x .number) (x .length)))) (c .result);
-      out = t .after ∙ ap (λ (x : Answered). splice out put (rowText number (e .line) (x .number) (x .length))) (c .result);
-      numbers = c .numbers;
-      used = c .used;
-      journal = c .journal;
-      unfinished = c .unfinished;
-      frames = c .frames;
-      buffer = refl;
-    })
+    -- what a line asks, done, and its row put
+    acted-is : acted item number behind out put d
+        ≡ record { turn = turnBy (askedBy item d .columns) number behind put; out = outBy (askedBy item d .columns) number out put; desk = askedBy item d .desk }
+    acted-is = by-item item
+      where
+        by-item : (x : Item)
+            → acted x number behind out put d ≡ record { turn = turnBy (askedBy x d .columns) number behind put; out = outBy (askedBy x d .columns) number out put; desk = askedBy x d .desk }
+        by-item (Event e) = refl
+        by-item (Taking i n) = refl
+        by-item NoItem = refl
 
-    pub acted-taking : {i n m : ℕ} {a : Answered} {r : Turn} {out′ us′ j′ b₁ b′ : List ℕ} → item ≡ Taking i n → m ≡ min n (length (d .buffer))
-        → Taken (d .numbers) (d .used) i (d .journal) (take m (d .buffer)) a us′ j′ b₁ → b′ ≡ b₁ ++ drop m (d .buffer)
-        → Telling number i (a .number) (a .length) behind out put r out′ → Leaves (acted item number behind out put d) r out′ (d .numbers) us′ j′ (d .unfinished) (d .frames) b′
-    unfolding takingAsked
-    acted-taking {i} {n} {m} {a} {r} {out′} {us′} {j′} {b₁} {b′} q p c e t =
-        let behind-lent : drop m (d .buffer) ≡ drop n (d .buffer) = rw p (drop-least n (d .buffer)) in
-        let lent : take m (d .buffer) ≡ take n (d .buffer) = rw p (take-least n (d .buffer)) in
-        let c′ : Taken (d .numbers) (d .used) i (d .journal) (take n (d .buffer)) a us′ j′ b₁ = rw (← lent) c in
-        as-turn (ap (λ (x : Item). acted x number behind out put d) q) (record {
-          turn = t .turn ∙ ap (λ (x : Answered). Went behind (put + length (rowText number i (x .number) (x .length)))) (c′ .result);
-          out = t .after ∙ ap (λ (x : Answered). splice out put (rowText number i (x .number) (x .length))) (c′ .result);
-          numbers = refl;
-          used = c′ .used;
-          journal = c′ .journal;
-          unfinished = refl;
-          frames = refl;
-          buffer = e ∙ rw (behind-lent, c′ .buffer);
-        })
+    pub asked-told : {c : Columns} {r : Turn} {out′ ns′ us′ j′ u′ f′ b′ : List ℕ} → Asks (askedBy item d) c ns′ us′ j′ u′ f′ b′ → Telling c number behind out put r out′
+        → Leaves (acted item number behind out put d) r out′ ns′ us′ j′ u′ f′ b′
+    asked-told a t = as-turn acted-is (record {
+      turn = t .turn ∙ ap (λ (x : Columns). turnBy x number behind put) (a .columns);
+      out = t .after ∙ ap (λ (x : Columns). outBy x number out put) (a .columns);
+      numbers = a .numbers;
+      used = a .used;
+      journal = a .journal;
+      unfinished = a .unfinished;
+      frames = a .frames;
+      buffer = a .buffer;
+    })
 
     -- where the line behind starts
     pub acted-behind : (most : ℕ) {r : Turn} → behind ≤ most → r ≡ acted item number behind out put d .turn → ReadIn r most
@@ -147,9 +190,6 @@ module _ (d : Desk) (out : List ℕ) (put : ℕ) where
         by-item (Event e) = h
         by-item (Taking i n) = h
         by-item NoItem = tt
-
-    pub acted-none : item ≡ NoItem → Leaves (acted item number behind out put d) (Stopped NotAnEvent) out (d .numbers) (d .used) (d .journal) (d .unfinished) (d .frames) (d .buffer)
-    acted-none q = as-turn (ap (λ (x : Item). acted x number behind out put d) q) (stays NotAnEvent)
 
   module _ (input : List ℕ) (at number : ℕ) where
     pub no-room : length out < put + rowRoom → Leaves (turnOf number input at out put d) (Stopped Output) out (d .numbers) (d .used) (d .journal) (d .unfinished) (d .frames) (d .buffer)

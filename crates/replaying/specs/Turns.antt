@@ -13,6 +13,8 @@ use Rattle.listing.specs.declared.Item.the-variants.{Event, Taking, NotAnEvent 
 use Rattle.numbers.specs.declared.Answered.{Answered}
 use Rattle.replaying.specs.Lines.{nextOf}
 use Rattle.replaying.specs.Desk.{rowRoom, Desk, Asked, eventAsked, takingAsked}
+use Rattle.replaying.specs.declared.Columns.{Columns}
+use Rattle.replaying.specs.declared.Columns.the-variants.{Row, NoRow}
 use Rattle.replaying.specs.declared.Next.{Next}
 use Rattle.replaying.specs.declared.Next.the-variants.{Whole, Unended}
 use Rattle.replaying.specs.declared.Stop.{Stop}
@@ -71,12 +73,47 @@ deskOf ns us j u f b = record { numbers = ns; used = us; journal = j; unfinished
 abbrev pub Turning : ℕ → List ℕ → ℕ → List ℕ → ℕ → List ℕ → List ℕ → List ℕ → List ℕ → List ℕ → List ℕ → Turn → List ℕ → List ℕ → List ℕ → List ℕ → List ℕ → List ℕ → List ℕ → Type 0
 Turning number input at out put ns us j u f b r out′ ns′ us′ j′ u′ f′ b′ = Leaves (turnOf number input at out put (deskOf ns us j u f b)) r out′ ns′ us′ j′ u′ f′ b′
 
-abbrev pub Acting : Item → ℕ → ℕ → List ℕ → ℕ → List ℕ → List ℕ → List ℕ → List ℕ → List ℕ → List ℕ → Turn → List ℕ → List ℕ → List ℕ → List ℕ → List ℕ → List ℕ → List ℕ → Type 0
-Acting item number behind out put ns us j u f b r out′ ns′ us′ j′ u′ f′ b′ = Leaves (acted item number behind out put (deskOf ns us j u f b)) r out′ ns′ us′ j′ u′ f′ b′
+-- what a line asks, done: the columns of its row, and the desk after it
+pub record AfterAsking : Type 0 where
+  pub columns : Columns
+  pub desk : Desk
 
-pub record Telling (number line answer size behind : ℕ) (out : List ℕ) (put : ℕ) (r : Turn) (out′ : List ℕ) : Type 0 where
+abbrev pub columnsOf : ℕ → Asked → AfterAsking
+columnsOf line a = record { columns = Row line (a .answered .number) (a .answered .length); desk = a .desk }
+
+abbrev pub askedBy : Item → Desk → AfterAsking
+askedBy (Event e) d = columnsOf (e .line) (eventAsked e d)
+askedBy (Taking line n) d = columnsOf line (takingAsked line n d)
+askedBy NoItem d = record { columns = NoRow; desk = d }
+
+pub record Asks (s : AfterAsking) (r : Columns) (ns us j u f b : List ℕ) : Type 0 where
+  pub columns : r ≡ s .columns
+  pub numbers : ns ≡ s .desk .numbers
+  pub used : us ≡ s .desk .used
+  pub journal : j ≡ s .desk .journal
+  pub unfinished : u ≡ s .desk .unfinished
+  pub frames : f ≡ s .desk .frames
+  pub buffer : b ≡ s .desk .buffer
+
+abbrev pub Asking : Item → List ℕ → List ℕ → List ℕ → List ℕ → List ℕ → List ℕ → Columns → List ℕ → List ℕ → List ℕ → List ℕ → List ℕ → List ℕ → Type 0
+Asking item ns us j u f b r ns′ us′ j′ u′ f′ b′ = Asks (askedBy item (deskOf ns us j u f b)) r ns′ us′ j′ u′ f′ b′
+
+-- a row put, and the row of what a line asked
+pub record RowPut (number line answer size behind : ℕ) (out : List ℕ) (put : ℕ) (r : Turn) (out′ : List ℕ) : Type 0 where
   pub turn : r ≡ Went behind (put + length (rowText number line answer size))
   pub after : out′ ≡ splice out put (rowText number line answer size)
+
+abbrev pub turnBy : Columns → ℕ → ℕ → ℕ → Turn
+turnBy (Row line answer size) number behind put = Went behind (put + length (rowText number line answer size))
+turnBy NoRow number behind put = Stopped NotAnEvent
+
+abbrev pub outBy : Columns → ℕ → List ℕ → ℕ → List ℕ
+outBy (Row line answer size) number out put = splice out put (rowText number line answer size)
+outBy NoRow number out put = out
+
+pub record Telling (columns : Columns) (number behind : ℕ) (out : List ℕ) (put : ℕ) (r : Turn) (out′ : List ℕ) : Type 0 where
+  pub turn : r ≡ turnBy columns number behind put
+  pub after : out′ ≡ outBy columns number out put
 
 -- a row put ends within the listing, and a line read within the piece
 abbrev pub EndsIn : Turn → ℕ → Type 0

@@ -27,6 +27,12 @@ pub enum Turn {
     Stopped(Stop),
 }
 
+// The columns of a line's row behind its number: the line, the answer's number and the length of the entry taken; or no row, where a line is not an event.
+pub enum Columns {
+    Row(u8, u8, usize),
+    NoRow,
+}
+
 // The next line: its item and where the line behind it starts; or no whole line.
 pub enum Next {
     Whole(listing::Item, usize),

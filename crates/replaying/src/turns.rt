@@ -3,8 +3,9 @@ ghost use Prim.Native.Nat.{_+_, _≤_, min};
 ghost use mathlib.Core.Path.{_≡_};
 ghost use lib.ListN.{length};
 ghost use Rattle.replaying.specs.Desk.{rowRoom};
-ghost use Rattle.replaying.specs.Turns.{Turning, Acting, Telling, ReadIn, EndsIn};
+ghost use Rattle.replaying.specs.Turns.{Turning, Asking, Telling, RowPut, ReadIn, EndsIn};
 ghost use Rattle.calls.specs.Calls.{Calling};
+use super::Columns;
 use super::Next;
 use super::Stop;
 use super::Turn;
@@ -41,69 +42,38 @@ pub fn turn(
     }
     match lines::next(input, at) {
         Next::Unended => Turn::Stopped(Stop::Input),
-        Next::Whole(item, behind) => act(
-            item,
-            number,
-            behind,
-            out,
-            put,
-            numbers,
-            used,
-            journal,
-            unfinished,
-            frames,
-            buffer,
-        ),
+        Next::Whole(item, behind) => {
+            let columns = ask(item, numbers, used, journal, unfinished, frames, buffer);
+            tell(columns, number, behind, out, put)
+        }
     }
 }
 
 // What a line asks, done; a line that asks nothing changes nothing.
-fn act(
+fn ask(
     item: Item,
-    number: u64,
-    behind: usize,
-    out: &mut [u8],
-    put: usize,
     numbers: &mut [u16; layout::NUMBERS],
     used: &mut [u32; layout::COUNTS],
     journal: &mut [u8],
     unfinished: &mut [u8],
     frames: &mut [u8],
     buffer: &mut [u8],
-) -> Turn
-    requires { ⌜ put + rowRoom ≤ length (now out) ⌝ }
-    ensures { λ r. ⌜ Acting item number behind (now (out .entry)) put (now (numbers .entry)) (now (used .entry)) (now (journal .entry)) (now (unfinished .entry)) (now (frames .entry)) (now (buffer .entry))
-        r (now (out .exit)) (now (numbers .exit)) (now (used .exit)) (now (journal .exit)) (now (unfinished .exit)) (now (frames .exit)) (now (buffer .exit))
-        × EndsIn r (length (now (out .exit))) ⌝ }
+) -> Columns
+    ensures { λ r. ⌜ Asking item (now (numbers .entry)) (now (used .entry)) (now (journal .entry)) (now (unfinished .entry)) (now (frames .entry)) (now (buffer .entry))
+        r (now (numbers .exit)) (now (used .exit)) (now (journal .exit)) (now (unfinished .exit)) (now (frames .exit)) (now (buffer .exit)) ⌝ }
 {
     match item {
         Item::Event(e) => {
             let line = e.line;
             let answered = event(e, numbers, used, journal, unfinished, frames);
-            tell(
-                number,
-                line,
-                answered.number,
-                answered.length,
-                behind,
-                out,
-                put,
-            )
+            Columns::Row(line, answered.number, answered.length)
         }
         Item::Taking(line, n) => {
             let lent = least(n, buffer.len());
             let answered = calls::take(line, numbers, used, journal, &mut buffer[..lent]);
-            tell(
-                number,
-                line,
-                answered.number,
-                answered.length,
-                behind,
-                out,
-                put,
-            )
+            Columns::Row(line, answered.number, answered.length)
         }
-        Item::NotAnEvent => Turn::Stopped(Stop::NotAnEvent),
+        Item::NotAnEvent => Columns::NoRow,
     }
 }
 
@@ -127,8 +97,19 @@ fn event(
     }
 }
 
+// The row of what a line asked, if it asked something.
+fn tell(columns: Columns, number: u64, behind: usize, out: &mut [u8], put: usize) -> Turn
+    requires { ⌜ put + rowRoom ≤ length (now out) ⌝ }
+    ensures { λ r. ⌜ Telling columns number behind (now (out .entry)) put r (now (out .exit)) × EndsIn r (length (now (out .exit))) ⌝ }
+{
+    match columns {
+        Columns::Row(line, answer, size) => put_row(number, line, answer, size, behind, out, put),
+        Columns::NoRow => Turn::Stopped(Stop::NotAnEvent),
+    }
+}
+
 // The row of an answer; there is room for it.
-fn tell(
+fn put_row(
     number: u64,
     line: u8,
     answer: u8,
@@ -138,7 +119,7 @@ fn tell(
     put: usize,
 ) -> Turn
     requires { ⌜ put + rowRoom ≤ length (now out) ⌝ }
-    ensures { λ r. ⌜ Telling number line answer size behind (now (out .entry)) put r (now (out .exit)) × EndsIn r (length (now (out .exit))) ⌝ }
+    ensures { λ r. ⌜ RowPut number line answer size behind (now (out .entry)) put r (now (out .exit)) × EndsIn r (length (now (out .exit))) ⌝ }
 {
     match listing::write_row(number, line, answer, size, out, put) {
         Written::To(end) => Turn::Went(behind, end),

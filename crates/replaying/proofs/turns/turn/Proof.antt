@@ -10,24 +10,27 @@ use Rattle.replaying.specs.Lines.{nextOf}
 use Rattle.replaying.specs.Turns.{deskOf}
 use Rattle.replaying.specs.declared.Stop.the-variants.{Input}
 use Rattle.replaying.specs.declared.Next.the-variants.{Whole}
-use Rattle.replaying.proofs.Ways.{no-room, has-room, stays, acted-behind}
+use Rattle.replaying.proofs.Ways.{no-room, has-room, stays, asked-told, acted-behind}
 use Rattle.replaying.proofs.Newlines.{behind-within}
 use lib.ListN.{length}
 use Rattle.replaying.proofs.turns.turn.Statement.{statement}
 use Rattle.replaying.proofs.turns.turn.Tie as tie
 
--- the places, each from one behind it: the function's start, the line found, its item, the call of `act`
+-- the places, each from one behind it: the function's start, the line found, its item, the calls of `ask` and `tell`
 abbrev start : tie.After-slice-known5 → tie.Start
 start c = c .before .before .before .before .before .before
 
 abbrev line-start : tie.After-next → tie.Start
 line-start c = start (c .before .before .before)
 
-abbrev item : tie.After-act → tie.After-item
-item c = c .before .before .before .before .before .before .before .before .before
+abbrev item : tie.After-ask → tie.After-item
+item c = c .before .before .before .before .before .before .before .before
 
-abbrev act : tie.After-slice-known10 → tie.After-act
-act c = c .before .before .before .before .before .before .before .before .before .before
+abbrev asked : tie.After-slice-known9 → tie.After-ask
+asked c = c .before .before .before .before .before .before .before .before
+
+abbrev told : tie.After-slice-known10 → tie.After-tell
+told c = c .before .before
 
 -- the desk that is lent
 abbrev desk : tie.Start → Desk
@@ -63,13 +66,19 @@ returns-3 c =
     let stay = stays (desk s) (now (a .out)) (a .put) Input in
     (has-room (desk s) (now (a .out)) (a .put) (now (a .input)) (a .at) (a .number) (roomy n) (sym (c .enum-told .given .1) ∙ n .next .ensures) stay, tt, tt)
 
+tell-requires : tie.Need-tell-requires
+tell-requires c κs = roomy (item (asked (c .before)) .before .before)
+
 returns-4 : tie.Need-returns-4
 returns-4 c =
-    let i = item (act c) in
+    let t = told c in
+    let q = asked (t .before .before) in
+    let i = item q in
     let n = i .before .before in
     let s = line-start n in
     let a = s .args in
-    let (done, ends) = act c .act .ensures in
+    let (row, ends) = t .tell .ensures in
+    let done = asked-told (desk s) (now (a .out)) (a .put) (i .item .given .0 .0) (a .number) (i .item .given .0 .1 .0) (q .ask .ensures) row in
     let within = behind-within (now (a .input)) (a .at) (next-is i) in (
       has-room (desk s) (now (a .out)) (a .put) (now (a .input)) (a .at) (a .number) (roomy n) (next-is i) done,
       acted-behind (desk s) (now (a .out)) (a .put) (i .item .given .0 .0) (a .number) (i .item .given .0 .1 .0) (length (now (a .input))) within (done .turn),
@@ -87,10 +96,11 @@ turn-spec =
     (λ c. search needs)
     (λ c. search needs)
     (λ c κs. search needs)
+    tell-requires
     returns-3
-    (λ c. search needs)
-    (λ c. search needs)
-    (λ c. search needs)
-    (λ c. search needs)
-    (λ c. search needs)
+    (λ c. told c .tell .kept .1 .1 .1 .0)
+    (λ c. asked (told c .before .before) .ask .kept .1 .1 .1 .0)
+    (λ c. asked (told c .before .before) .ask .kept .1 .1 .1 .1 .0)
+    (λ c. asked (told c .before .before) .ask .kept .1 .1 .1 .1 .1 .0)
+    (λ c. asked (told c .before .before) .ask .kept .1 .1 .1 .1 .1 .1 .0)
     returns-4)

@@ -1,4 +1,4 @@
--- `replaying::turns::act` meets its contract.
+-- `replaying::turns::ask` meets its contract.
 -- Assumes nothing.
 use borrow.Author.Needs.{needs}
 use mathlib.Core.Path.{refl, sym}
@@ -6,22 +6,22 @@ use denote.Ref.{now}
 use Rattle.replaying.specs.Desk.{Desk}
 use Rattle.replaying.specs.Turns.{deskOf}
 use lib.Seq.{length-take-le}
-use Rattle.replaying.proofs.Ways.{acted-event, acted-taking, acted-none}
-use Rattle.replaying.proofs.turns.act.Statement.{statement}
-use Rattle.replaying.proofs.turns.act.Tie as tie
+use Rattle.replaying.proofs.Ways.{asks-event, asks-taking, asks-nothing}
+use Rattle.replaying.proofs.turns.ask.Statement.{statement}
+use Rattle.replaying.proofs.turns.ask.Tie as tie
 
 -- the places, each from one behind it: the function's start, an event's call and its item, a taking's call and the length lent to it
-abbrev start : tie.After-slice-known5 → tie.Start
-start c = c .before .before .before .before .before
+abbrev start : tie.After-slice-known4 → tie.Start
+start c = c .before .before .before .before
 
-abbrev event : tie.After-slice-known9 → tie.After-event
-event c = c .before .before .before .before .before .before .before .before .before .before
+abbrev event : tie.After-slice-known7 → tie.After-event
+event c = c .before .before .before .before .before .before
 
 abbrev event-item : tie.After-event → tie.After-item
 event-item c = c .before .before .before .before .before .before .before
 
-abbrev taking : tie.After-slice-known12 → tie.After-take
-taking c = c .before .before .before .before .before .before .before .before
+abbrev taking : tie.After-slice-known9 → tie.After-take
+taking c = c .before .before .before .before
 
 abbrev lent : tie.After-take-arg4 → tie.After-least
 lent c = c .before .before .before .before
@@ -43,46 +43,37 @@ returns c =
     let e = event c in
     let i = event-item e in
     let s = start (i .before .before) in
-    let a = s .args in
-    let (row, ends) = c .before .before .tell .ensures in
-    (acted-event (desk s) (now (a .out)) (a .put) (a .item) (a .number) (a .behind) (i .item .given .1) (e .event .ensures) row, ends)
+    asks-event (desk s) (s .args .item) (i .item .given .1) (e .event .ensures)
 
 returns-2 : tie.Need-returns-2
 returns-2 c =
     let t = taking c in
     let l = lent (t .before) in
     let s = taking-start l in
-    let a = s .args in
-    let (row, ends) = c .before .before .tell2 .ensures in
-    (acted-taking (desk s) (now (a .out)) (a .put) (a .item) (a .number) (a .behind) (l .before .before .item2 .given .1) (l .least .ensures .1) (t .take .ensures) refl row, ends)
+    asks-taking (desk s) (s .args .item) (l .before .before .item2 .given .1) (l .least .ensures .1) (t .take .ensures) refl
 
 returns-3 : tie.Need-returns-3
 returns-3 c =
     let s = start (c .before .before) in
-    let a = s .args in
-    (acted-none (desk s) (now (a .out)) (a .put) (a .item) (a .number) (a .behind) (c .enum-told .given .1), tt)
+    asks-nothing (desk s) (s .args .item) (c .enum-told .given .1)
 
-pub act-spec : {M : Type 1} → statement M
-act-spec =
+pub ask-spec : {M : Type 1} → statement M
+ask-spec =
     tie.close
     (tie.spec
     (λ c. search needs)
-    (λ c κs. search needs)
     (λ c κs. search needs)
     (λ c. search needs)
     (λ c κs. search needs)
     (λ c. search needs)
     slice-aggregate-take
     (λ c κs. search needs)
-    (λ c κs. search needs)
     (λ c. search needs)
-    (λ c. search needs)
-    (λ c. search needs)
-    (λ c. search needs)
-    (λ c. search needs)
+    (λ c. event c .event .kept .1 .1 .1 .0)
+    (λ c. event c .event .kept .1 .1 .1 .1 .0)
+    (λ c. event c .event .kept .1 .1 .1 .1 .1 .0)
     returns
-    (λ c. search needs)
-    (λ c. search needs)
+    (λ c. taking c .take .kept .1 .1 .1 .0)
     (λ c. search needs)
     returns-2
     returns-3)
