@@ -218,14 +218,6 @@ fn change(
     ledger
 }
 
-fn changed(state: State, letter: u8, line: u32, n: u32, bytes: &mut [u8]) -> State {
-    let ledger = state.ledger;
-    State {
-        ledger: change(ledger, letter, line, n, bytes),
-        lent: state.lent,
-    }
-}
-
 fn lend(state: State, n: u32) -> State {
     heading(b'L', 0, n as u64);
     end();
@@ -243,7 +235,22 @@ fn fresh(state: State) -> State {
     }
 }
 
-// A storing, a judging or a taking on a line with so many bytes; how many of the journal's bytes are lent; a fresh start.
+// How many of the journal's bytes are lent; a fresh start; a change of the journal.
+fn changed(state: State, letter: u8, line: u32, n: u32, bytes: &mut [u8]) -> State {
+    if letter == b'L' {
+        return lend(state, n);
+    }
+    if letter == b'F' {
+        return fresh(state);
+    }
+    let ledger = state.ledger;
+    State {
+        ledger: change(ledger, letter, line, n, bytes),
+        lent: state.lent,
+    }
+}
+
+// A storing, a judging or a taking on a line with so many bytes, or a change.
 fn act(
     state: State,
     words: Words,
@@ -270,12 +277,6 @@ fn act(
     }
     if letter == b'T' {
         return take(state, (line % 256) as u8, n as usize, bytes, buffer);
-    }
-    if letter == b'L' {
-        return lend(state, n);
-    }
-    if letter == b'F' {
-        return fresh(state);
     }
     changed(state, letter, line, n, bytes)
 }
