@@ -47,24 +47,20 @@ fn wide(b: u8) -> u64
 }
 
 fn word(n: u64) {
-    let space = [b' '];
-    io::write_all(1, &space);
+    io::write_all(1, b" ");
     io::print_decimal(1, n);
 }
 
 fn heading(letter: u8, line: u64, n: u64) {
-    let start = [letter];
-    io::write_all(1, &start);
+    io::write_all(1, &[letter]);
     word(line);
     word(n);
-    let colon = [b':'];
-    io::write_all(1, &colon);
+    io::write_all(1, b":");
 }
 
 // The end in use, the line's used count and next serial, and the bytes of the journal.
 fn ledger_left(ledger: journal::Ledger, line: u8, bytes: &[u8]) {
-    let bar = [b' ', b'|'];
-    io::write_all(1, &bar);
+    io::write_all(1, b" |");
     word(ledger.in_use as u64);
     let l = line as usize;
     if l < 8 {
@@ -75,8 +71,7 @@ fn ledger_left(ledger: journal::Ledger, line: u8, bytes: &[u8]) {
 }
 
 fn end() {
-    let newline = [b'\n'];
-    io::write_all(1, &newline);
+    io::write_all(1, b"\n");
 }
 
 fn store(state: State, line: u8, n: usize, at: usize, bytes: &mut [u8], text: &[u8]) -> State {
@@ -174,72 +169,53 @@ fn poke(bytes: &mut [u8], at: usize, value: u8) {
 fn with_used(ledger: journal::Ledger, line: usize, n: u32) -> journal::Ledger {
     heading(b'U', line as u64, n as u64);
     end();
-    let mut used = ledger.used;
-    let serials = ledger.serials;
+    let mut after = ledger;
     if line < 8 {
-        used[line] = n;
+        after.used[line] = n;
     }
-    journal::Ledger {
-        in_use: ledger.in_use,
-        used,
-        serials,
-    }
+    after
 }
 
 fn with_serial(ledger: journal::Ledger, line: usize, n: u16) -> journal::Ledger {
     heading(b'N', line as u64, n as u64);
     end();
-    let used = ledger.used;
-    let mut serials = ledger.serials;
+    let mut after = ledger;
     if line < 8 {
-        serials[line] = n;
+        after.serials[line] = n;
     }
-    journal::Ledger {
-        in_use: ledger.in_use,
-        used,
-        serials,
-    }
+    after
 }
 
 fn with_in_use(ledger: journal::Ledger, n: usize) -> journal::Ledger {
     heading(b'I', 0, n as u64);
     end();
-    let used = ledger.used;
-    let serials = ledger.serials;
-    journal::Ledger {
-        in_use: n,
-        used,
-        serials,
-    }
+    let mut after = ledger;
+    after.in_use = n;
+    after
 }
 
 // What no caller does, to break the journal: a byte, the end in use, a used count, a serial.
-fn change(state: State, letter: u8, line: u32, n: u32, bytes: &mut [u8]) -> State {
-    let ledger = state.ledger;
-    let lent = state.lent;
+fn change(
+    ledger: journal::Ledger,
+    letter: u8,
+    line: u32,
+    n: u32,
+    bytes: &mut [u8],
+) -> journal::Ledger {
     if letter == b'P' {
         poke(bytes, line as usize, (n % 256) as u8);
-        return state;
+        return ledger;
     }
     if letter == b'I' {
-        return State {
-            ledger: with_in_use(ledger, n as usize),
-            lent,
-        };
+        return with_in_use(ledger, n as usize);
     }
     if letter == b'U' {
-        return State {
-            ledger: with_used(ledger, line as usize, n),
-            lent,
-        };
+        return with_used(ledger, line as usize, n);
     }
     if letter == b'N' {
-        return State {
-            ledger: with_serial(ledger, line as usize, (n % 65536) as u16),
-            lent,
-        };
+        return with_serial(ledger, line as usize, (n % 65536) as u16);
     }
-    state
+    ledger
 }
 
 fn lend(state: State, n: u32) -> State {
@@ -259,7 +235,22 @@ fn fresh(state: State) -> State {
     }
 }
 
-// A storing, a judging or a taking on a line with so many bytes; how many of the journal's bytes are lent; a fresh start.
+// How many of the journal's bytes are lent; a fresh start; a change of the journal.
+fn changed(state: State, letter: u8, line: u32, n: u32, bytes: &mut [u8]) -> State {
+    if letter == b'L' {
+        return lend(state, n);
+    }
+    if letter == b'F' {
+        return fresh(state);
+    }
+    let ledger = state.ledger;
+    State {
+        ledger: change(ledger, letter, line, n, bytes),
+        lent: state.lent,
+    }
+}
+
+// A storing, a judging or a taking on a line with so many bytes, or a change.
 fn act(
     state: State,
     words: Words,
@@ -287,13 +278,7 @@ fn act(
     if letter == b'T' {
         return take(state, (line % 256) as u8, n as usize, bytes, buffer);
     }
-    if letter == b'L' {
-        return lend(state, n);
-    }
-    if letter == b'F' {
-        return fresh(state);
-    }
-    change(state, letter, line, n, bytes)
+    changed(state, letter, line, n, bytes)
 }
 
 // One byte of a step: a capital or # starts one, a space the next number.

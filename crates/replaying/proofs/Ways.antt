@@ -25,8 +25,8 @@ use Rattle.looking.specs.declared.Kind.{Kind}
 use Rattle.calls.specs.Calls.{Calling, Taken}
 use Rattle.numbers.specs.declared.Answered.{Answered}
 use Rattle.replaying.specs.Lines.{nextOf}
-use Rattle.replaying.specs.Desk.{rowRoom, Desk, Asked, eventAsked, takingAsked}
-use Rattle.replaying.specs.Turns.{AfterTurn, AfterAsking, stopped, acted, onLine, turnOf, columnsOf, askedBy, turnBy, outBy, Leaves, Asks, RowPut, Telling, ReadIn}
+use Rattle.replaying.specs.Desk.{rowRoom, Desk, eventAsked, takingAsked}
+use Rattle.replaying.specs.Turns.{AfterTurn, AfterAsking, stopped, acted, onLine, turnOf, askedBy, turnBy, outBy, Leaves, Asks, RowPut, Telling, ReadIn}
 use Rattle.replaying.specs.declared.Columns.{Columns}
 use Rattle.replaying.specs.declared.Columns.the-variants.{Row, NoRow}
 use Rattle.replaying.specs.declared.Next.{Next}
