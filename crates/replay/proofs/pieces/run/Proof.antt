@@ -46,10 +46,6 @@ turn c = tested c .before
 abbrev start : tie.At-loop Inv-loop μ-loop → tie.Start Inv-loop μ-loop
 start c = c .before .before .before .before .before .before .before .before
 
--- this turn's start, from where the loop goes on or ends
-abbrev turn-ended : tie.After-struct-known Inv-loop μ-loop → tie.At-loop Inv-loop μ-loop
-turn-ended c = turn (ran (advanced c .before))
-
 -- the test that let this turn begin
 abbrev test : tie.After-struct-known Inv-loop μ-loop → tie.In-loop Inv-loop μ-loop
 test c = tested (ran (advanced c .before))
