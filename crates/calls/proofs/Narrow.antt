@@ -12,7 +12,7 @@ use Rattle.memory.specs.Sizes.{lines, journalSize}
 use Rattle.memory.specs.Tests.{unless}
 use Rattle.faults.specs.Faults.{isMessage}
 use Rattle.header.specs.Entry.{Entry}
-use Rattle.chain.specs.Entries.{sizes, before, from}
+use Rattle.journal.specs.Entries.{sizes, before, from}
 use Rattle.journal.specs.Chain.{chain}
 use Rattle.room.specs.Room.{todaysShares}
 use Rattle.journal.specs.Storage.{grown}

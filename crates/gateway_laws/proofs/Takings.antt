@@ -11,7 +11,7 @@ use lib.ListN.{length}
 use Rattle.memory.specs.Sizes.{lines, journalSize}
 use Rattle.memory.proofs.Tests.{clash}
 use Rattle.header.specs.Entry.{Entry}
-use Rattle.chain.specs.Entries.{sizes, before, from}
+use Rattle.journal.specs.Entries.{sizes, before, from}
 use Rattle.journal.specs.Chain.{chain}
 use Rattle.journal.specs.Removal.{AfterTaking, afterTaking, takeAt, takeOldest, takeFrom, takeOf as takeEntry}
 use Rattle.journal.specs.declared.Ledger.{Ledger}

@@ -11,11 +11,11 @@ use lib.Seq.{drop-drop}
 use borrow.Author.Tests.{eq-eqb, ne-eqb}
 use Rattle.memory.specs.Sizes.{lines}
 use Rattle.header.specs.Entry.{Entry, size, starts, first}
-use Rattle.chain.specs.Entries.{sizes, total, behind, entries}
+use Rattle.journal.specs.Entries.{sizes, total, behind, entries}
 use Rattle.room.specs.Room.{sumTo}
 use Rattle.header.proofs.Starts.{starts-facts}
 use Rattle.header.proofs.Single.{Sound, sound-first, size-first}
-use Rattle.chain.proofs.Chains.{some-inj, no-some, entries-nil, entries-go, entries-stop}
+use Rattle.journal.proofs.Chains.{some-inj, no-some, entries-nil, entries-go, entries-stop}
 use Rattle.journal.proofs.Oldest.{cons-inj, nil-cons}
 use Rattle.room.proofs.Totals.{sum-swap}
 

@@ -9,10 +9,10 @@ use native.Mathlib.Omega.{arith}
 use lib.ListN.{length, take, drop, take-append-drop, drop-of-length-le}
 use lib.Seq.{drop-append-le, length-take-le, take-add}
 use Rattle.header.specs.Entry.{Entry, encode, size, starts, first, Bytes}
-use Rattle.chain.specs.Entries.{sizes, behind, entries, flatten}
+use Rattle.journal.specs.Entries.{sizes, behind, entries, flatten}
 use Rattle.header.proofs.Starts.{Starts, starts-facts, starts-of}
 use Rattle.header.proofs.Single.{Sound, starts-append, first-append, starts-cut, first-cut, encode-long, encode-starts, encode-first, spelt-first}
-use Rattle.chain.proofs.Chains.{entries-nil, entries-go, prepend, prepend-nil}
+use Rattle.journal.proofs.Chains.{entries-nil, entries-go, prepend, prepend-nil}
 use Rattle.journal.proofs.Inside.{Opens, entries-cons, entries-end}
 
 behind-prepend : (e : Entry) (es : List Entry) (o : Option (List Entry)) → behind e (prepend es o) ≡ prepend (e ∷ es) o

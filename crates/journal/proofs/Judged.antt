@@ -12,9 +12,8 @@ use Rattle.memory.specs.Sizes.{lines, messageLimit, journalSize}
 use Rattle.memory.specs.Tests.{unless}
 use Rattle.header.specs.Header.{entrySize}
 use Rattle.header.specs.Entry.{isText}
-use Rattle.chain.specs.Entries.{total}
-use Rattle.chain.specs.Chain.{isSome}
-use Rattle.journal.specs.Chain.{chain}
+use Rattle.journal.specs.Entries.{total}
+use Rattle.journal.specs.Chain.{chain, isSome}
 use Rattle.room.specs.Room.{sumTo, claims, fits, raised}
 use Rattle.journal.specs.Answers.{isFits}
 use Rattle.journal.specs.Verdicts.{judgeOf}
@@ -40,17 +39,14 @@ module _ (d : Ledger) (sh : List ℕ) (l n : ℕ) (j : List ℕ) where
       unfolding judgeOf
       judged-text h = rw (lt-ltb l lines line, eq-eqb (length j) journalSize long, no-text n h)
 
-      pub judged-broken : isSome (chain d j) ≡ false → unless (isText n) Malformed Broken ≡ judgeOf d sh l n j
-      unfolding judgeOf
-      judged-broken h = rw (lt-ltb l lines line, eq-eqb (length j) journalSize long, h)
+      module _ (low : 1 ≤ n) (high : n ≤ messageLimit) where
+        pub judged-broken : isSome (chain d j) ≡ false → Broken ≡ judgeOf d sh l n j
+        unfolding judgeOf
+        judged-broken h = rw (lt-ltb l lines line, eq-eqb (length j) journalSize long, text-of n low high, h)
 
-      pub judged-whole : isSome (chain d j) ≡ true → unless (isText n) Malformed (unless (fits sh (raised (d .used) l (entrySize n))) NoRoom Fits) ≡ judgeOf d sh l n j
-      unfolding judgeOf
-      judged-whole h = rw (lt-ltb l lines line, eq-eqb (length j) journalSize long, h)
-
-      pub judged-room : 1 ≤ n → n ≤ messageLimit → (b : Bool) → isSome (chain d j) ≡ true → fits sh (raised (d .used) l (entrySize n)) ≡ b → cond b Fits NoRoom ≡ judgeOf d sh l n j
-      unfolding judgeOf
-      judged-room low high b h f = rw (lt-ltb l lines line, eq-eqb (length j) journalSize long, text-of n low high, h, f)
+        pub judged-room : (b : Bool) → isSome (chain d j) ≡ true → fits sh (raised (d .used) l (entrySize n)) ≡ b → cond b Fits NoRoom ≡ judgeOf d sh l n j
+        unfolding judgeOf
+        judged-room b h f = rw (lt-ltb l lines line, eq-eqb (length j) journalSize long, text-of n low high, h, f)
 
 -- ---- what it means that an entry fits
 

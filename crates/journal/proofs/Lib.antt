@@ -1,8 +1,8 @@
+pub mod Chains
 pub mod Oldest
 pub mod Inside
 pub mod Joined
 pub mod Wholes
-pub mod Finds
 pub mod Judged
 pub mod Storings
 pub mod Takings

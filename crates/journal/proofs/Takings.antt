@@ -1,41 +1,35 @@
 -- Taking: what the code did is what the definition says.
 -- Assumes nothing.
-use mathlib.Core.Path.{_≡_, refl, sym, ap, subst, _∙_}
+use mathlib.Core.Path.{_≡_, refl, sym, ap, _∙_}
 use mathlib.Core.List.{List, [], _∷_, _++_}
 use mathlib.Core.Bool.{Bool, true, false, true≢false}
 use mathlib.Core.Option.{Option, none, some}
 use Prim.Native.Nat.{ℕ, _+_, _-_, _<_, _≤_}
 use native.Mathlib.Omega.{arith}
-use native.Mathlib.Decide.{ℕ-discrete}
 use lib.ListN.{length, take, drop, getD, set, length-drop}
 use lib.Dec.{leb}
 use lib.Seq.{length-take-le, take-take, drop-drop}
 use borrow.Author.Tests.{le-leb, lt-leb, lt-ltb, le-ltb, eq-eqb, ne-eqb}
 use Rattle.memory.specs.Sizes.{lines, messageLimit, journalSize}
 use Rattle.memory.specs.Parts.{part, splice}
-use Rattle.memory.specs.Moves.{later, copied, Copied, ClosedUp}
-use Rattle.memory.proofs.Parts.{drop-take, part-lent}
+use Rattle.memory.specs.Moves.{Copied, ClosedUp}
+use Rattle.memory.proofs.Parts.{drop-take}
 use Rattle.memory.proofs.Moves.{copied-fits, closed-fits}
 use Rattle.header.specs.Header.{headSize, entrySize, headOf}
 use Rattle.header.specs.Entry.{Entry, size, first, firstHead}
-use Rattle.chain.specs.Entries.{sizes, entries, before, from}
-use Rattle.chain.specs.Chain.{isSome, foundOf}
-use Rattle.chain.specs.declared.Found.{Found}
-use Rattle.chain.proofs.Founds.{no-line, wrong-size}
-use Rattle.journal.specs.Chain.{chain}
-use Rattle.journal.specs.Removal.{shrunkBy, shrunk, without, takeAt, takeOf, rest, Stands, TakenOut, TakenAt, TakenFrom, TakenOldest}
+use Rattle.journal.specs.Entries.{sizes, entries, before, from}
+use Rattle.journal.specs.Chain.{chain, isSome}
+use Rattle.journal.specs.Removal.{shrunk, without, takeAt, takeOf, rest, Stands, TakenAt, TakenFrom}
 use Rattle.header.specs.declared.Header.{Header}
 use Rattle.journal.specs.declared.Ledger.{Ledger}
 use Rattle.journal.specs.declared.Taking.{Taking}
-use Rattle.journal.specs.declared.Took.{Took}
 use Rattle.journal.specs.declared.Took.the-variants.{Taken, NothingWaiting, BufferShort, Broken, NoLine, WrongSize}
 use Rattle.header.proofs.Starts.{starts-facts}
 use Rattle.header.proofs.Single.{size-pos, size-first, text-first, first-is}
-use Rattle.chain.proofs.Chains.{sizes-append}
+use Rattle.journal.proofs.Chains.{sizes-append}
 use Rattle.journal.proofs.Oldest.{before-from, total-oldest}
 use Rattle.journal.proofs.Inside.{entries-cons, entries-drop}
 use Rattle.journal.proofs.Wholes.{Kept}
-use Rattle.journal.proofs.Finds.{told-broken, told-whole}
 
 -- ---- at a place
 
@@ -74,30 +68,26 @@ module _ (d : Ledger) (l at : ℕ) (j : List ℕ) (s : Stands d l at j) (h : Hea
       let e : leb (length (first (rest d at j) .text)) (length b) ≡ false = lt-leb (length (first (rest d at j) .text)) (length b) (omega (arith, text-long)) in
       record { result = rw e; after = rw e; lent = rw e }
 
-  pub taken-at : (b j′ b′ : List ℕ) (d′ : Ledger) (n : ℕ) → n ≡ entrySize (h .count) → h .count ≤ length b → TakenOut at (h .count) (d .in_use) j b j′ b′ → d′ ≡ shrunkBy d l n
-      → TakenAt d l at j b (record { ledger = d′; answer = Taken (h .count) (h .serial) }) j′ b′
+  pub taken-at : (b : List ℕ) (r₁ r₂ : Bool) (b′ j′ : List ℕ) (start n gap : ℕ) → start ≡ at + headSize (h .count) → n ≡ entrySize (h .count) → gap ≡ entrySize (h .count)
+      → h .count ≤ length b → Copied b 0 (take (start + h .count - start) (drop start j)) r₁ b′ → ClosedUp j at gap (d .in_use) r₂ j′
+      → TakenAt d l at j b (record {
+        ledger = record { in_use = d .in_use - n; used = set (d .used) l (getD (d .used) l 0 - n); serials = d .serials };
+        answer = Taken (h .count) (h .serial);
+      }) j′ b′
   unfolding takeAt shrunk without first
-  taken-at b j′ b′ d′ n q k out less =
+  taken-at b r₁ r₂ b′ j′ start n gap e q g k c₁ c₂ =
       let x = bounds in
       let y : leb (length (first (rest d at j) .text)) (length b) ≡ true = le-leb (length (first (rest d at j) .text)) (length b) (omega (arith, text-long)) in
-      let start : ℕ = at + headSize (h .count) in
-      let text : part j start (h .count) ≡ first (rest d at j) .text = sym (text-is start refl ∙ part-lent j start (h .count)) in
-      let lent : b′ ≡ copied b 0 (first (rest d at j) .text) = out .lent ∙ ap (copied b 0) text in
+      let t : length (take (start + h .count - start) (drop start j)) ≡ h .count = ap length (sym (text-is start e)) ∙ text-long in
+      let b-is : b′ ≡ splice b 0 (take (start + h .count - start) (drop start j)) = copied-fits b 0 (take (start + h .count - start) (drop start j)) c₁ (omega arith) .1 in
+      let j-is = closed-fits j at gap (d .in_use) c₂ (x .inside) (omega (arith, x .fits, g)) .1 in
       let z : first (rest d at j) .serial ≡ h .serial = rw head in
       let m : size (first (rest d at j)) ≡ n = x .long ∙ sym q in
       record {
-        result = rw (less, y, m, text-long, z);
-        after = rw (y, x .long) (out .after);
-        lent = rw y (copied-fits b 0 (first (rest d at j) .text) (record { answer = refl; after = lent }) (omega (arith, text-long)) .1);
+        result = rw (y, m, text-long, z);
+        after = rw (y, x .long, ← g) j-is;
+        lent = rw y (b-is ∙ ap (λ (u : List ℕ). splice b 0 u) (sym (text-is start e)));
       }
-
--- the text copied and the gap closed up
-pub taken-out : (at n end : ℕ) (j b : List ℕ) (head : ℕ) (r₁ r₂ : Bool) (j′ b′ : List ℕ) → head ≡ headSize n → at + entrySize n ≤ end → end ≤ length j
-    → Copied b 0 (take (at + head + n - (at + head)) (drop (at + head) j)) r₁ b′ → ClosedUp j at (head + n) end r₂ j′ → TakenOut at n end j b j′ b′
-taken-out at n end j b head r₁ r₂ j′ b′ e fits inside c₁ c₂ = record {
-  after = closed-fits j at (head + n) end c₂ inside (omega arith) .1 ∙ ap (λ (k : ℕ). splice j at (later j at (k + n) end)) e;
-  lent = c₁ .after ∙ ap (copied b 0) (part-lent j (at + head) n ∙ ap (λ (k : ℕ). part j (at + k) n) e);
-}
 
 -- ---- the oldest entry
 
@@ -193,28 +183,3 @@ module _ (d : Ledger) (l : ℕ) (j b : List ℕ) where
       let e₁ = eq-eqb (length j) journalSize s in
       let e₂ = is-none (chain d j) n in
       record { result = rw (e₀, e₁, e₂); after = rw (e₀, e₁, e₂); lent = rw (e₀, e₁, e₂) }
-
-  -- by what was found: 40, 41 and 43 leave everything, and a place is the line's oldest entry's
-  module _ (r : Taking) where
-    left-as : (a : Took) → r ≡ record { ledger = d; answer = a } → TakenFrom d l j b (record { ledger = d; answer = a }) j b → TakenFrom d l j b r j b
-    left-as a e t = subst (λ (x : Taking). TakenFrom d l j b x j b) (sym e) t
-
-    pub found-no-line : foundOf (d .in_use) (d .used) l j ≡ Found.NoLine → r ≡ record { ledger = d; answer = NoLine } → TakenFrom d l j b r j b
-    found-no-line h e = left-as NoLine e (taken-line (no-line (d .in_use) (d .used) l j h))
-
-    pub found-wrong-size : foundOf (d .in_use) (d .used) l j ≡ Found.WrongSize → r ≡ record { ledger = d; answer = WrongSize } → TakenFrom d l j b r j b
-    found-wrong-size h e = let (line, size) = wrong-size (d .in_use) (d .used) l j h in left-as WrongSize e (taken-size line size)
-
-    pub found-broken : foundOf (d .in_use) (d .used) l j ≡ Found.Broken → r ≡ record { ledger = d; answer = Broken } → TakenFrom d l j b r j b
-    found-broken h e = let (line, long, cut) = told-broken d l j h in left-as Broken e (taken-broken line long cut)
-
-    pub found-whole : (o : ℕ) (j′ b′ : List ℕ) → foundOf (d .in_use) (d .used) l j ≡ Found.Whole o → TakenOldest d l o j b r j′ b′ → TakenFrom d l j b r j′ b′
-    found-whole o j′ b′ h t =
-        let k = told-whole d l j o h in
-        elim (ℕ-discrete o (d .in_use)) [
-          | yes q ↦ let (e₁, e₂, e₃) = t .none-waits q in rw (e₁, e₂, e₃) (none-waits d l o j (k .line) (k .long) (k .entries) (k .place) b q)
-          | no q ↦ one-waits d l o j (k .line) (k .long) (k .entries) (k .place) b r j′ b′ (an-oldest d l o j (k .line) (k .long) (k .entries) (k .place) q) (t .one-waits q)
-        ]
-
-pub found-stands : (d : Ledger) (l : ℕ) (j : List ℕ) (o : ℕ) → foundOf (d .in_use) (d .used) l j ≡ Found.Whole o → (o ≡ d .in_use → ⊥) → Stands d l o j
-found-stands d l j o h q = let k = told-whole d l j o h in an-oldest d l o j (k .line) (k .long) (k .entries) (k .place) q .stands

@@ -1,18 +1,49 @@
 -- The journal that a ledger tells of: whole, or broken (answer 43).
 -- Assumes nothing.
+use Prim.Native.Nat.{ℕ, zero, suc, _<_}
+use mathlib.Core.Path.{_≡_}
 use mathlib.Core.List.{List}
-use mathlib.Core.Option.{Option}
-use lib.ListN.{replicate}
+use mathlib.Core.Bool.{Bool, true, false, cond, _&&_}
+use mathlib.Core.Option.{Option, none, some}
+use lib.ListN.{length, take, getD, replicate}
+use lib.Dec.{leb, eqb}
 use Rattle.memory.specs.Sizes.{lines}
 use Rattle.header.specs.Entry.{Entry}
-use Rattle.chain.specs.Chain.{chainOf}
+use Rattle.journal.specs.Entries.{entries, sizes, total, before}
 use Rattle.journal.specs.declared.Ledger.{Ledger}
-use Prim.Native.Nat.{ℕ}
 
 -- no entries, and every line's next serial is 0
 abbrev pub freshLedger : Ledger
 freshLedger = record { in_use = 0; used = replicate lines 0; serials = replicate lines 0 }
 
--- the entries waiting; none exactly if the journal is broken
+-- the test holds of every number below n
+abbrev pub every : ℕ → (ℕ → Bool) → Bool
+every zero p = true
+every (suc n) p = p n && every n p
+
+-- the used counts are the sums of the lines' entries
+abbrev pub agree : List ℕ → List Entry → Bool
+agree used es = every lines (λ l. eqb (getD used l 0) (total l es))
+
+abbrev pub counted : List ℕ → Option (List Entry) → Option (List Entry)
+counted used none = none
+counted used (some es) = cond (agree used es) (some es) none
+
+-- the entries waiting; none exactly if the journal is broken: the bytes in use exceed it, are no whole chain, or its sums are not the used counts
 unfoldable pub chain : Ledger → List ℕ → Option (List Entry)
-chain d j = chainOf (d .in_use) (d .used) j
+chain d j = cond (leb (d .in_use) (length j)) (counted (d .used) (entries (take (d .in_use) j))) none
+
+abbrev pub isSome : {A : Type 0} → Option A → Bool
+isSome none = false
+isSome (some a) = true
+
+-- what one walk over bytes finds: whether they are a whole chain; and then each line's sum, and where the oldest entry of line l stands
+pub record Walked (bs : List ℕ) (l : ℕ) (whole : Bool) (sums : List ℕ) (oldest : ℕ) : Type 0 where
+  pub is-whole : whole ≡ isSome (entries bs)
+  pub summed : (es : List Entry) → entries bs ≡ some es → (k : ℕ) → k < lines → getD sums k 0 ≡ total k es
+  pub stands : (es : List Entry) → entries bs ≡ some es → oldest ≡ sizes (before l es)
+
+-- what a look at the journal finds: whether it is whole; and then where the oldest entry of line l stands
+pub record Seen (d : Ledger) (l : ℕ) (j : List ℕ) (whole : Bool) (oldest : ℕ) : Type 0 where
+  pub is-whole : whole ≡ isSome (chain d j)
+  pub stands : (es : List Entry) → chain d j ≡ some es → oldest ≡ sizes (before l es)

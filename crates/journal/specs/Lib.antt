@@ -1,3 +1,4 @@
+pub mod Entries
 pub mod Chain
 pub mod Answers
 pub mod Verdicts

@@ -8,8 +8,7 @@ use Rattle.memory.specs.Sizes.{lines, journalSize}
 use Rattle.memory.specs.Tests.{unless}
 use Rattle.header.specs.Header.{entrySize}
 use Rattle.header.specs.Entry.{isText}
-use Rattle.chain.specs.Chain.{isSome}
-use Rattle.journal.specs.Chain.{chain}
+use Rattle.journal.specs.Chain.{chain, isSome}
 use Rattle.room.specs.Room.{fits, raised}
 use Rattle.journal.specs.declared.Ledger.{Ledger}
 use Rattle.journal.specs.declared.Verdict.{Verdict}

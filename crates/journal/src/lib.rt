@@ -5,18 +5,10 @@ ghost use Rattle.journal.specs.Chain.{freshLedger};
 ghost use Rattle.journal.specs.Answers.{isFits};
 ghost use Rattle.journal.specs.Verdicts.{judgeOf};
 ghost use Rattle.journal.specs.Storage.{Stored};
-ghost use Rattle.journal.specs.Removal.{Stands, TakenFrom, TakenOldest};
-ghost use Prim.Native.Nat.{_≤_, _<_};
-ghost use lib.ListN.{getD};
-ghost use Rattle.memory.specs.Sizes.{lines, journalSize};
-ghost use Rattle.memory.specs.Tests.{unless};
-ghost use Rattle.header.specs.Header.{entrySize};
-ghost use Rattle.header.specs.Entry.{isText};
-ghost use Rattle.room.specs.Room.{fits, raised};
-ghost use Rattle.journal.specs.declared.Verdict.the-variants.{Fits, NoRoom, Broken, Malformed};
-use chain::Found;
+ghost use Rattle.journal.specs.Removal.{TakenFrom};
 
-mod entry; // entry.rt: one entry written, and one taken out
+mod chain;
+mod entry;
 
 // What is known of the journal's bytes: how many are in use, and each line's used count and next serial.
 pub struct Ledger {
@@ -71,48 +63,29 @@ pub struct Taking {
 pub fn judge(ledger: Ledger, shares: [u16; 8], line: u8, length: usize, journal: &[u8]) -> Verdict
     ensures { λ r. ⌜ r ≡ judgeOf ledger shares line length (now (journal .entry)) ⌝ }
 {
-    let used = ledger.used;
-    match chain::find(ledger.in_use, used, line, journal) {
-        Found::NoLine => Verdict::NoLine,
-        Found::WrongSize => Verdict::WrongSize,
-        Found::Broken => judge_broken(length),
-        Found::Whole(_) => judge_room(used, shares, line as usize, length),
+    let l = line as usize;
+    if memory::LINES <= l {
+        return Verdict::NoLine;
     }
-}
-
-// A length that is no text's is told before a broken journal, since no such entry could be read back.
-fn judge_broken(length: usize) -> Verdict
-    ensures { λ r. ⌜ r ≡ unless (isText length) Malformed Broken ⌝ }
-{
-    if !is_text(length) {
+    if journal.len() != memory::JOURNAL_SIZE {
+        return Verdict::WrongSize;
+    }
+    if length < 1 {
         return Verdict::Malformed;
     }
-    Verdict::Broken
-}
-
-// Whether a text of `length` bytes has room on the line.
-fn judge_room(mut used: [u32; 8], shares: [u16; 8], line: usize, length: usize) -> Verdict
-    requires { ⌜ (line < lines) × (getD used line 0 ≤ journalSize) ⌝ }
-    ensures { λ r. ⌜ r ≡ unless (isText length) Malformed (unless (fits shares (raised used line (entrySize length))) NoRoom Fits) ⌝ }
-{
-    if !is_text(length) {
+    if memory::MESSAGE_LIMIT < length {
         return Verdict::Malformed;
     }
-    used[line] += header::entry_size(length as u32) as u32;
+    let seen = chain::look(ledger, l, journal);
+    if !seen.whole {
+        return Verdict::Broken;
+    }
+    let mut used = ledger.used;
+    used[l] += header::entry_size(length as u32) as u32;
     if !room::has_room(used, shares) {
         return Verdict::NoRoom;
     }
     Verdict::Fits
-}
-
-// Whether a text may have this length.
-fn is_text(length: usize) -> bool
-    ensures { λ r. ⌜ r ≡ isText length ⌝ }
-{
-    if length < 1 {
-        return false;
-    }
-    length <= memory::MESSAGE_LIMIT
 }
 
 fn is_fits(verdict: Verdict) -> bool
@@ -150,35 +123,32 @@ pub fn store(ledger: Ledger, shares: [u16; 8], line: u8, text: &[u8], journal: &
 pub fn take(ledger: Ledger, line: u8, journal: &mut [u8], buffer: &mut [u8]) -> Taking
     ensures { λ r. ⌜ TakenFrom ledger line (now (journal .entry)) (now (buffer .entry)) r (now (journal .exit)) (now (buffer .exit)) ⌝ }
 {
-    let used = ledger.used;
-    match chain::find(ledger.in_use, used, line, journal) {
-        Found::NoLine => left(ledger, Took::NoLine),
-        Found::WrongSize => left(ledger, Took::WrongSize),
-        Found::Broken => left(ledger, Took::Broken),
-        Found::Whole(at) => take_oldest(ledger, line as usize, at, journal, buffer),
+    let l = line as usize;
+    if memory::LINES <= l {
+        return Taking {
+            ledger,
+            answer: Took::NoLine,
+        };
     }
-}
-
-// The line's oldest entry stands at `at`, or the line has none.
-fn take_oldest(
-    ledger: Ledger,
-    line: usize,
-    at: usize,
-    journal: &mut [u8],
-    buffer: &mut [u8],
-) -> Taking
-    requires { ⌜ ((at ≡ ledger .in_use → ⊥) → Stands ledger line at (now journal)) ⌝ }
-    ensures { λ r. ⌜ TakenOldest ledger line at (now (journal .entry)) (now (buffer .entry)) r (now (journal .exit)) (now (buffer .exit)) ⌝ }
-{
+    if journal.len() != memory::JOURNAL_SIZE {
+        return Taking {
+            ledger,
+            answer: Took::WrongSize,
+        };
+    }
+    let seen = chain::look(ledger, l, journal);
+    if !seen.whole {
+        return Taking {
+            ledger,
+            answer: Took::Broken,
+        };
+    }
+    let at = seen.oldest;
     if at == ledger.in_use {
-        return left(ledger, Took::NothingWaiting);
+        return Taking {
+            ledger,
+            answer: Took::NothingWaiting,
+        };
     }
-    entry::take_at(ledger, line, at, journal, buffer)
-}
-
-// Nothing changed.
-fn left(ledger: Ledger, answer: Took) -> Taking
-    ensures { λ r. ⌜ r ≡ record { ledger = ledger; answer = answer } ⌝ }
-{
-    Taking { ledger, answer }
+    entry::take_at(ledger, l, at, journal, buffer)
 }

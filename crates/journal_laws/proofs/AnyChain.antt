@@ -12,7 +12,7 @@ use borrow.Author.Tests.{le-leb, leb-true}
 use Rattle.memory.specs.Sizes.{lines, journalSize}
 use Rattle.header.specs.Header.{serialCount, entrySize}
 use Rattle.header.specs.Entry.{Entry}
-use Rattle.chain.specs.Entries.{sizes, total, before, from}
+use Rattle.journal.specs.Entries.{sizes, total, before, from}
 use Rattle.journal.specs.Chain.{chain}
 use Rattle.room.specs.Room.{sumTo, claim, claims, raised}
 use Rattle.journal.specs.Answers.{isFits}

@@ -14,8 +14,8 @@ use Rattle.memory.specs.Sizes.{lines, messageLimit, journalSize}
 use Rattle.memory.specs.Parts.{splice}
 use Rattle.header.specs.Header.{entrySize}
 use Rattle.header.specs.Entry.{Entry}
-use Rattle.chain.specs.Entries.{sizes, before, from}
-use Rattle.chain.specs.Chain.{isSome}
+use Rattle.journal.specs.Entries.{sizes, before, from}
+use Rattle.journal.specs.Chain.{isSome}
 use Rattle.room.specs.Room.{fits, raised}
 use Rattle.journal.specs.Answers.{isFits, verdictNumber, tookPaper}
 use Rattle.journal.specs.Verdicts.{judgeOf}

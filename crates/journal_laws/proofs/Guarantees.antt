@@ -12,7 +12,7 @@ use borrow.Author.Tests.{le-leb, lt-leb}
 use Rattle.memory.specs.Sizes.{lines, messageLimit, journalSize}
 use Rattle.header.specs.Header.{entrySize}
 use Rattle.header.specs.Entry.{Entry, size}
-use Rattle.chain.specs.Entries.{sizes, before, from}
+use Rattle.journal.specs.Entries.{sizes, before, from}
 use Rattle.journal.specs.Chain.{freshLedger}
 use Rattle.room.specs.Room.{share, todaysShares, sumTo, claim, claims, fits, raised}
 use Rattle.journal.specs.Verdicts.{judgeOf}

@@ -17,14 +17,14 @@ use Rattle.memory.specs.Moves.{later}
 use Rattle.memory.proofs.Parts.{drop-take, length-part, length-splice, take-through}
 use Rattle.header.specs.Header.{serialCount, entrySize}
 use Rattle.header.specs.Entry.{Entry, encode, size}
-use Rattle.chain.specs.Entries.{sizes, total, entries, before, from}
+use Rattle.journal.specs.Entries.{sizes, total, entries, before, from}
 use Rattle.journal.specs.Chain.{freshLedger}
 use Rattle.room.specs.Room.{sumTo, claim, claims, fits, raised}
 use Rattle.journal.specs.Storage.{newEntry, grown, appended}
 use Rattle.journal.specs.Removal.{shrunk, without}
 use Rattle.journal_laws.specs.Held.{Held}
 use Rattle.journal.specs.declared.Ledger.{Ledger}
-use Rattle.chain.proofs.Chains.{entries-nil, sizes-append, total-append, sums-more}
+use Rattle.journal.proofs.Chains.{entries-nil, sizes-append, total-append, sums-more}
 use Rattle.journal.proofs.Oldest.{before-from, from-line}
 use Rattle.room.proofs.Totals.{sum-same, lowered-own, lowered-other, claims-le}
 use Rattle.header.proofs.Single.{Sound, encode-long}

@@ -17,7 +17,7 @@ use Rattle.memory.specs.Parts.{splice}
 use Rattle.memory.proofs.Parts.{part-start, part-splice}
 use Rattle.header.specs.Header.{serialCount}
 use Rattle.header.specs.Entry.{Entry}
-use Rattle.chain.specs.Entries.{before, from}
+use Rattle.journal.specs.Entries.{before, from}
 use Rattle.journal.specs.Chain.{freshLedger}
 use Rattle.room.specs.Room.{sumTo}
 use Rattle.journal.specs.Answers.{isFits}

@@ -12,7 +12,7 @@ use lib.Seq.{set-getD, getD-set-same}
 use Rattle.memory.specs.Sizes.{lines, journalSize}
 use Rattle.memory.specs.Tests.{unless}
 use Rattle.header.specs.Entry.{Entry}
-use Rattle.chain.specs.Entries.{sizes, before, from}
+use Rattle.journal.specs.Entries.{sizes, before, from}
 use Rattle.journal.specs.Chain.{chain}
 use Rattle.journal.specs.Storage.{grown}
 use Rattle.journal.specs.Removal.{AfterTaking, shrunk, takeAt, takeOldest, takeFrom, takeOf}

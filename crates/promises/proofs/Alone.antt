@@ -11,7 +11,7 @@ use lib.ListN.{length, getD}
 use Rattle.memory.specs.Sizes.{lines}
 use Rattle.header.specs.Header.{entrySize}
 use Rattle.header.specs.Entry.{Entry, size}
-use Rattle.chain.specs.Entries.{total}
+use Rattle.journal.specs.Entries.{total}
 use Rattle.room.specs.Room.{raised}
 use Rattle.journal_laws.specs.Runs.{Numbered, numbered, only, texts, waiting}
 use Rattle.journal_laws.proofs.Guarantees.{today-reaches, today-no-more}

@@ -11,7 +11,7 @@ use Rattle.memory.specs.Sizes.{lines, frameLimit}
 use Rattle.memory.specs.Parts.{splice}
 use Rattle.faults.specs.Faults.{isMessage}
 use Rattle.header.specs.Entry.{Entry}
-use Rattle.chain.specs.Entries.{from}
+use Rattle.journal.specs.Entries.{from}
 use Rattle.room.specs.Room.{todaysShares}
 use Rattle.journal.specs.Removal.{AfterTaking}
 use Rattle.journal_laws.specs.Held.{Held}

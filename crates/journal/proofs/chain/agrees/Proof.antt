@@ -1,4 +1,4 @@
--- `agrees` meets its contract. The loop's invariant: the lines from i on agree.
+-- `chain::agrees` meets its contract. The loop's invariant: the lines from i on agree.
 -- Assumes nothing.
 use mathlib.Core.Path.{_≡_, refl, sym, _∙_}
 use mathlib.Core.List.{List}
@@ -9,10 +9,10 @@ use lib.ListN.{getD}
 use lib.Dec.{eqb}
 use borrow.Author.Tests.{eq-eqb, ne-eqb}
 use Rattle.memory.specs.Sizes.{lines}
-use Rattle.chain.specs.Chain.{every}
-use Rattle.chain.proofs.Founds.{every-yes, every-no}
-use Rattle.chain.proofs.agrees.Statement.{statement}
-use Rattle.chain.proofs.agrees.Tie as tie
+use Rattle.journal.specs.Chain.{every}
+use Rattle.journal.proofs.Wholes.{every-yes, every-no}
+use Rattle.journal.proofs.chain.agrees.Statement.{statement}
+use Rattle.journal.proofs.chain.agrees.Tie as tie
 
 abbrev same : List ℕ → List ℕ → ℕ → Bool
 same a b l = eqb (getD a l 0) (getD b l 0)

@@ -1,4 +1,4 @@
--- `walk` meets its contract. The loop's invariant: the walk has passed the entries `done`, `sums` are their sums, and `oldest` is the room
+-- `chain::walk` meets its contract. The loop's invariant: the walk has passed the entries `done`, `sums` are their sums, and `oldest` is the room
 -- of those before the line's first.
 -- Assumes nothing.
 use mathlib.Core.Path.{_≡_, refl, sym, ap, _∙_}
@@ -14,11 +14,11 @@ use lib.ListN.{getD-replicate, length, drop, getD, length-set}
 use Rattle.memory.specs.Sizes.{lines}
 use Rattle.room.specs.Room.{raised}
 use Rattle.header.specs.Entry.{Entry, first, firstHead}
-use Rattle.chain.specs.Entries.{entries, sizes, total, before}
-use Rattle.chain.proofs.Chains.{Passed, walk-start, walk-end, walk-short, walk-none, walk-step, sums-more, Stepped, rest-of, no-some, some-inj, total-le}
-use Rattle.chain.proofs.Oldest.{all-before, same-before}
-use Rattle.chain.proofs.walk.Statement.{statement}
-use Rattle.chain.proofs.walk.Tie as tie
+use Rattle.journal.specs.Entries.{entries, sizes, total, before}
+use Rattle.journal.proofs.Chains.{Passed, walk-start, walk-end, walk-short, walk-none, walk-step, sums-more, Stepped, rest-of, no-some, some-inj, total-le}
+use Rattle.journal.proofs.Oldest.{all-before, same-before}
+use Rattle.journal.proofs.chain.walk.Statement.{statement}
+use Rattle.journal.proofs.chain.walk.Tie as tie
 
 record Counted (s : List ℕ) (line : ℕ) (sums : List ℕ) (oldest at : ℕ) : Type 0 where
   done : List Entry

@@ -15,7 +15,7 @@ use borrow.Author.Tests.{eq-eqb, ne-eqb}
 use Rattle.memory.specs.Sizes.{lines, messageLimit}
 use Rattle.header.specs.Header.{leastHead, entrySize, headOf}
 use Rattle.header.specs.Entry.{Entry, size, starts, first, firstHead}
-use Rattle.chain.specs.Entries.{sizes, total, behind, chainIn, entries}
+use Rattle.journal.specs.Entries.{sizes, total, behind, chainIn, entries}
 use Rattle.room.specs.Room.{raised}
 use Rattle.header.specs.declared.Header.{Header}
 use Rattle.header.proofs.Heads.{head-size-low, line-below}

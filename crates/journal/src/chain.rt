@@ -1,10 +1,10 @@
-// The journal's entries, one behind the other: whether they are whole, and where a line's oldest stands.
+// One walk over the journal's entries, from header to header.
 ghost use mathlib.Core.Path.{_≡_};
 ghost use Prim.Native.Nat.{_≤_, _<_};
 ghost use lib.ListN.{length, getD};
 ghost use lib.Dec.{eqb};
 ghost use Rattle.memory.specs.Sizes.{lines, journalSize};
-ghost use Rattle.chain.specs.Chain.{every, Walked, foundOf};
+ghost use Rattle.journal.specs.Chain.{every, Walked, Seen};
 
 // Whether bytes are a whole chain of entries; and if so, the room of each line's entries, and where a line's oldest entry stands.
 struct Sums {
@@ -59,35 +59,35 @@ fn agrees(a: [u32; 8], b: [u32; 8]) -> bool
     true
 }
 
-// Where a line's oldest entry stands, or the end in use where it has none; or document 01's 43, 40 and 41.
-pub enum Found {
-    Whole(usize),
-    Broken,
-    NoLine,
-    WrongSize,
+// Whether the journal is what the ledger says of it; and if so, where the line's oldest entry stands, or the end in use where it has none.
+pub struct Found {
+    pub whole: bool,
+    pub oldest: usize,
 }
 
-// Whether the journal's first `in_use` bytes are a whole chain with these used counts; and if so, where the line's oldest entry stands.
-pub fn find(in_use: usize, used: [u32; 8], line: u8, journal: &[u8]) -> Found
-    ensures { λ r. ⌜ r ≡ foundOf in_use used line (now (journal .entry)) ⌝ }
+pub fn look(ledger: crate::Ledger, line: usize, journal: &[u8]) -> Found
+    requires { ⌜ (length (now journal) ≡ journalSize) × (line < lines) ⌝ }
+    ensures { λ r. ⌜ Seen ledger line (now (journal .entry)) (r .whole) (r .oldest) ⌝ }
 {
-    let l = line as usize;
-    if memory::LINES <= l {
-        return Found::NoLine;
-    }
-    if journal.len() != memory::JOURNAL_SIZE {
-        return Found::WrongSize;
-    }
+    let in_use = ledger.in_use;
     if journal.len() < in_use {
-        return Found::Broken;
+        return Found {
+            whole: false,
+            oldest: 0,
+        };
     }
-    let walked = walk(&journal[..in_use], l);
+    let walked = walk(&journal[..in_use], line);
     if !walked.whole {
-        return Found::Broken;
+        return Found {
+            whole: false,
+            oldest: 0,
+        };
     }
+    let used = ledger.used;
     let sums = walked.sums;
-    if !agrees(used, sums) {
-        return Found::Broken;
+    let oldest = walked.oldest;
+    Found {
+        whole: agrees(used, sums),
+        oldest,
     }
-    Found::Whole(walked.oldest)
 }

@@ -1,4 +1,0 @@
-pub mod Chains
-pub mod Oldest
-pub mod Founds
-pub mod OneOutcome
