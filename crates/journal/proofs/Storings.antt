@@ -3,10 +3,10 @@
 use mathlib.Core.Path.{_≡_, refl, sym, ap, _∙_}
 use mathlib.Core.List.{List}
 use mathlib.Core.Bool.{Bool, true, false, cond}
-use Prim.Native.Nat.{ℕ, _+_, _%_, _<_, _≤_}
+use Prim.Native.Nat.{ℕ, _+_, _<_, _≤_}
 use native.Mathlib.Omega.{arith}
-use lib.ListN.{length, getD, set}
-use Rattle.memory.specs.Sizes.{lines}
+use lib.ListN.{length}
+use Rattle.memory.specs.Sizes.{lines, messageLimit, journalSize}
 use Rattle.memory.specs.Parts.{splice}
 use Rattle.memory.specs.Moves.{Copied}
 use Rattle.packed.specs.Fields.{FieldWritten}
@@ -16,7 +16,7 @@ use Rattle.header.specs.Header.{serialCount, headSize, entrySize, headNumber, h
 use Rattle.header.specs.Entry.{encode}
 use Rattle.journal.specs.Answers.{isFits}
 use Rattle.journal.specs.Verdicts.{judgeOf}
-use Rattle.journal.specs.Storage.{grown, appended, afterStoring, storeOf, Stored, Ready, Appended}
+use Rattle.journal.specs.Storage.{written, grown, appended, afterStoring, storeOf, Stored, Ready, Appended}
 use Rattle.journal.specs.declared.Ledger.{Ledger}
 use Rattle.journal.specs.declared.Verdict.{Verdict}
 use Rattle.header.proofs.Heads.{length-header}
@@ -26,26 +26,21 @@ use Rattle.journal.proofs.Judged.{fits-facts, fits-journal}
 
 -- ---- the entry written
 
-pub grown-is : (d : Ledger) (l n m k s : ℕ) → m ≡ d .in_use + k → k ≡ entrySize n → s ≡ (getD (d .serials) l 0 + 1) % serialCount
-    → record { in_use = m; used = set (d .used) l (getD (d .used) l 0 + k); serials = set (d .serials) l s } ≡ grown d l n
-unfolding grown
-grown-is d l n m k s e f q = rw (e, f, q)
-
 -- the header and the text behind it are the entry
-pub two-writes : (d : Ledger) (l : ℕ) (t j : List ℕ) (at h n : ℕ) (r₁ r₂ : Bool) (j₁ j₂ : List ℕ) → Ready d l t j → getD (d .serials) l 0 < serialCount
-    → h ≡ headSize (length t) → n ≡ headNumber l (length t) (getD (d .serials) l 0) → at ≡ d .in_use + h
-    → FieldWritten j (d .in_use) h n r₁ j₁ → Copied j₁ at t r₂ j₂ → j₂ ≡ appended d l t j
-unfolding appended encode
-two-writes d l t j at h n r₁ r₂ j₁ j₂ y q hs ns bs w₁ w₂ =
+pub two-writes : (l s at : ℕ) (t j : List ℕ) (bt h n : ℕ) (r₁ r₂ : Bool) (j₁ j₂ : List ℕ)
+    → (l < lines) × (length t ≤ messageLimit) × (length j ≡ journalSize) × (at + entrySize (length t) ≤ length j) → s < serialCount
+    → h ≡ headSize (length t) → n ≡ headNumber l (length t) s → bt ≡ at + h
+    → FieldWritten j at h n r₁ j₁ → Copied j₁ bt t r₂ j₂ → j₂ ≡ written l s at t j
+unfolding encode
+two-writes l s at t j bt h n r₁ r₂ j₁ j₂ (line, most, size, fits) q hs ns bs w₁ w₂ =
     let k = length t in
-    let s = getD (d .serials) l 0 in
     let long : length (header l k s) ≡ h = length-header l k s ∙ sym hs in
-    let room : d .in_use + h + k ≤ length j = omega (arith, y .room) in
-    let is₁ : j₁ ≡ splice j (d .in_use) (header l k s) = head-written l k s (y .line) (y .most) q j (d .in_use) h n hs ns (omega arith) w₁ in
-    let long₁ : length j₁ ≡ length j = ap length is₁ ∙ length-splice j (d .in_use) (header l k s) (omega arith) in
-    let is₂ : j₂ ≡ splice j₁ at t = copied-fits j₁ at t w₂ (omega arith) .1 in
-    let behind : at ≡ d .in_use + length (header l k s) = omega arith in
-    is₂ ∙ rw (is₁, behind, splice-join j (d .in_use) (header l k s) t (omega arith))
+    let room : at + h + k ≤ length j = omega (arith, fits, hs) in
+    let is₁ : j₁ ≡ splice j at (header l k s) = head-written l k s line most q j at h n hs ns (omega arith) w₁ in
+    let long₁ : length j₁ ≡ length j = ap length is₁ ∙ length-splice j at (header l k s) (omega arith) in
+    let is₂ : j₂ ≡ splice j₁ bt t = copied-fits j₁ bt t w₂ (omega arith) .1 in
+    let behind : bt ≡ at + length (header l k s) = omega arith in
+    is₂ ∙ rw (is₁, behind, splice-join j at (header l k s) t (omega arith))
 
 -- ---- the verdict and what follows it
 

@@ -12,14 +12,14 @@ use lib.Seq.{length-take-le, take-take, drop-drop}
 use borrow.Author.Tests.{le-leb, lt-leb, lt-ltb, le-ltb, eq-eqb, ne-eqb}
 use Rattle.memory.specs.Sizes.{lines, messageLimit, journalSize}
 use Rattle.memory.specs.Parts.{part, splice}
-use Rattle.memory.specs.Moves.{Copied, ClosedUp}
-use Rattle.memory.proofs.Parts.{drop-take}
+use Rattle.memory.specs.Moves.{later, copied, Copied, ClosedUp}
+use Rattle.memory.proofs.Parts.{drop-take, part-lent}
 use Rattle.memory.proofs.Moves.{copied-fits, closed-fits}
 use Rattle.header.specs.Header.{headSize, entrySize, headOf}
 use Rattle.header.specs.Entry.{Entry, size, first, firstHead}
 use Rattle.journal.specs.Entries.{sizes, entries, before, from}
 use Rattle.journal.specs.Chain.{chain, isSome}
-use Rattle.journal.specs.Removal.{shrunk, without, takeAt, takeOf, rest, Stands, TakenAt, TakenFrom}
+use Rattle.journal.specs.Removal.{shrunkBy, shrunk, without, takeAt, takeOf, rest, Stands, TakenOut, TakenAt, TakenFrom}
 use Rattle.header.specs.declared.Header.{Header}
 use Rattle.journal.specs.declared.Ledger.{Ledger}
 use Rattle.journal.specs.declared.Taking.{Taking}
@@ -68,26 +68,30 @@ module _ (d : Ledger) (l at : ℕ) (j : List ℕ) (s : Stands d l at j) (h : Hea
       let e : leb (length (first (rest d at j) .text)) (length b) ≡ false = lt-leb (length (first (rest d at j) .text)) (length b) (omega (arith, text-long)) in
       record { result = rw e; after = rw e; lent = rw e }
 
-  pub taken-at : (b : List ℕ) (r₁ r₂ : Bool) (b′ j′ : List ℕ) (start n gap : ℕ) → start ≡ at + headSize (h .count) → n ≡ entrySize (h .count) → gap ≡ entrySize (h .count)
-      → h .count ≤ length b → Copied b 0 (take (start + h .count - start) (drop start j)) r₁ b′ → ClosedUp j at gap (d .in_use) r₂ j′
-      → TakenAt d l at j b (record {
-        ledger = record { in_use = d .in_use - n; used = set (d .used) l (getD (d .used) l 0 - n); serials = d .serials };
-        answer = Taken (h .count) (h .serial);
-      }) j′ b′
+  pub taken-at : (b j′ b′ : List ℕ) (d′ : Ledger) (n : ℕ) → n ≡ entrySize (h .count) → h .count ≤ length b → TakenOut at (h .count) (d .in_use) j b j′ b′ → d′ ≡ shrunkBy d l n
+      → TakenAt d l at j b (record { ledger = d′; answer = Taken (h .count) (h .serial) }) j′ b′
   unfolding takeAt shrunk without first
-  taken-at b r₁ r₂ b′ j′ start n gap e q g k c₁ c₂ =
+  taken-at b j′ b′ d′ n q k out less =
       let x = bounds in
       let y : leb (length (first (rest d at j) .text)) (length b) ≡ true = le-leb (length (first (rest d at j) .text)) (length b) (omega (arith, text-long)) in
-      let t : length (take (start + h .count - start) (drop start j)) ≡ h .count = ap length (sym (text-is start e)) ∙ text-long in
-      let b-is : b′ ≡ splice b 0 (take (start + h .count - start) (drop start j)) = copied-fits b 0 (take (start + h .count - start) (drop start j)) c₁ (omega arith) .1 in
-      let j-is = closed-fits j at gap (d .in_use) c₂ (x .inside) (omega (arith, x .fits, g)) .1 in
+      let start : ℕ = at + headSize (h .count) in
+      let text : part j start (h .count) ≡ first (rest d at j) .text = sym (text-is start refl ∙ part-lent j start (h .count)) in
+      let lent : b′ ≡ copied b 0 (first (rest d at j) .text) = out .lent ∙ ap (copied b 0) text in
       let z : first (rest d at j) .serial ≡ h .serial = rw head in
       let m : size (first (rest d at j)) ≡ n = x .long ∙ sym q in
       record {
-        result = rw (y, m, text-long, z);
-        after = rw (y, x .long, ← g) j-is;
-        lent = rw y (b-is ∙ ap (λ (u : List ℕ). splice b 0 u) (sym (text-is start e)));
+        result = rw (less, y, m, text-long, z);
+        after = rw (y, x .long) (out .after);
+        lent = rw y (copied-fits b 0 (first (rest d at j) .text) (record { answer = refl; after = lent }) (omega (arith, text-long)) .1);
       }
+
+-- the text copied and the gap closed up
+pub taken-out : (at n end : ℕ) (j b : List ℕ) (head : ℕ) (r₁ r₂ : Bool) (j′ b′ : List ℕ) → head ≡ headSize n → at + entrySize n ≤ end → end ≤ length j
+    → Copied b 0 (take (at + head + n - (at + head)) (drop (at + head) j)) r₁ b′ → ClosedUp j at (head + n) end r₂ j′ → TakenOut at n end j b j′ b′
+taken-out at n end j b head r₁ r₂ j′ b′ e fits inside c₁ c₂ = record {
+  after = closed-fits j at (head + n) end c₂ inside (omega arith) .1 ∙ ap (λ (k : ℕ). splice j at (later j at (k + n) end)) e;
+  lent = c₁ .after ∙ ap (copied b 0) (part-lent j (at + head) n ∙ ap (λ (k : ℕ). part j (at + k) n) e);
+}
 
 -- ---- the oldest entry
 

@@ -8,9 +8,10 @@ use mathlib.Core.Option.{Option, none, some}
 use lib.ListN.{length, take, drop, getD, set}
 use lib.Dec.{leb, ltb, eqb}
 use Rattle.memory.specs.Sizes.{lines, journalSize}
-use Rattle.memory.specs.Parts.{splice}
-use Rattle.memory.specs.Moves.{later}
+use Rattle.memory.specs.Parts.{part, splice}
+use Rattle.memory.specs.Moves.{later, copied}
 use Rattle.memory.specs.Tests.{unless}
+use Rattle.header.specs.Header.{headSize, entrySize}
 use Rattle.header.specs.Entry.{Entry, starts, first, size}
 use Rattle.journal.specs.Entries.{sizes, before, from}
 use Rattle.journal.specs.Chain.{chain}
@@ -19,13 +20,17 @@ use Rattle.journal.specs.declared.Taking.{Taking}
 use Rattle.journal.specs.declared.Took.{Took}
 use Rattle.journal.specs.declared.Took.the-variants.{Taken, NothingWaiting, BufferShort, Broken, NoLine, WrongSize}
 
--- the ledger without an entry of line l: its serial stays used
-unfoldable pub shrunk : Ledger → ℕ → Entry → Ledger
-shrunk d l e = record {
-  in_use = d .in_use - size e;
-  used = set (d .used) l (getD (d .used) l 0 - size e);
+-- the ledger without an entry of this size on line l: its serial stays used
+abbrev pub shrunkBy : Ledger → ℕ → ℕ → Ledger
+shrunkBy d l n = record {
+  in_use = d .in_use - n;
+  used = set (d .used) l (getD (d .used) l 0 - n);
   serials = d .serials;
 }
+
+-- and without an entry
+unfoldable pub shrunk : Ledger → ℕ → Entry → Ledger
+shrunk d l e = shrunkBy d l (size e)
 
 -- the journal after the entry at `at` is taken: later entries close up, and from the new end in use on every byte keeps its value
 unfoldable pub without : Ledger → ℕ → Entry → List ℕ → List ℕ
@@ -69,6 +74,11 @@ pub record TakenFrom (d : Ledger) (l : ℕ) (j b : List ℕ) (r : Taking) (j′ 
 -- the bytes in use from `at` on
 abbrev pub rest : Ledger → ℕ → List ℕ → List ℕ
 rest d at j = drop at (take (d .in_use) j)
+
+-- what taking out an entry with a text of n bytes at `at` does to the journal and the buffer
+pub record TakenOut (at n end : ℕ) (j b j′ b′ : List ℕ) : Type 0 where
+  pub after : j′ ≡ splice j at (later j at (entrySize n) end)
+  pub lent : b′ ≡ copied b 0 (part j (at + headSize n) n)
 
 -- what the taking of the entry at `at` asks
 pub record Stands (d : Ledger) (l at : ℕ) (j : List ℕ) : Type 0 where

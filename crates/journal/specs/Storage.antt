@@ -20,15 +20,23 @@ use Rattle.journal.specs.declared.Storing.{Storing}
 abbrev pub newEntry : Ledger → ℕ → List ℕ → Entry
 newEntry d l t = record { line = l; serial = getD (d .serials) l 0; text = t }
 
--- the ledger after it: the serial is then advanced, and wraps
-unfoldable pub grown : Ledger → ℕ → ℕ → Ledger
-grown d l n = record {
-  in_use = d .in_use + entrySize n;
-  used = raised (d .used) l (entrySize n);
+-- the ledger after it, by the entry's size: the serial is then advanced, and wraps
+abbrev pub grownBy : Ledger → ℕ → ℕ → Ledger
+grownBy d l size = record {
+  in_use = d .in_use + size;
+  used = raised (d .used) l size;
   serials = set (d .serials) l ((getD (d .serials) l 0 + 1) % serialCount);
 }
 
--- the journal after it: the entry stands behind the bytes in use, and every other byte keeps its value
+-- and by its text's length
+unfoldable pub grown : Ledger → ℕ → ℕ → Ledger
+grown d l n = grownBy d l (entrySize n)
+
+-- an entry at a place of the journal: every other byte keeps its value
+abbrev pub written : ℕ → ℕ → ℕ → List ℕ → List ℕ → List ℕ
+written l serial at t j = splice j at (encode (record { line = l; serial = serial; text = t }))
+
+-- the journal after it: the entry stands behind the bytes in use
 unfoldable pub appended : Ledger → ℕ → List ℕ → List ℕ → List ℕ
 appended d l t j = splice j (d .in_use) (encode (newEntry d l t))
 

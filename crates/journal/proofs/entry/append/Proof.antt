@@ -1,54 +1,39 @@
--- `entry::append` meets its contract: the header and the text are written one behind the other, and the ledger is the grown one.
+-- `entry::append` meets its contract: the entry is written, and the ledger is the grown one.
 -- Assumes nothing.
-use mathlib.Core.Path.{refl}
 use borrow.Author.Needs.{needs}
-use denote.Ref.{now}
-use lib.ListN.{length}
-use Rattle.journal.proofs.Storings.{grown-is, two-writes}
+use mathlib.Core.Path.{ap, _∙_}
+use native.Mathlib.Omega.{arith}
+use Prim.Native.Nat.{ℕ}
+use Rattle.journal.specs.Storage.{grownBy, grown, appended}
 use Rattle.journal.proofs.entry.append.Statement.{statement}
 use Rattle.journal.proofs.entry.append.Tie as tie
 
+-- where the function was entered, from behind the writing
+abbrev start : tie.After-write → tie.Start
+start c = c .before .before .before .before .before
+
+grow-requires : tie.Need-grow-requires
+grow-requires c κs =
+    let begun = start (c .before .before .before) in
+    (begun .pre .line, omega (arith, c .entry-size .ensures .0, begun .pre .room, begun .pre .long), begun .pre .counted)
+
 returns : tie.Need-returns
+unfolding grown appended
 returns c =
-    let copied = c .before .before in
-    let written = copied .before .before .before .before in
-    let spelt = written .before in
-    let advanced = spelt .before .before in
-    let headed = advanced .before .before .before in
-    let sized = headed .before in
-    let start = sized .before .before .before in
-    let a = start .args in
-    let d = a .ledger in
-    let t = now (a .text) in
-    record {
-      result = grown-is d (a .line) (length t) _ _ _ refl (sized .entry-size .ensures .0) (advanced .wrapping-add-u16 .ensures);
-      after =
-          two-writes d (a .line) t (now (a .journal)) _ _ _ _ _ _ _ (start .pre) (spelt .number .ensures .1) (headed .head-size .ensures .0) (spelt .number .ensures .0) refl
-          (written .write-field .ensures) (copied .copy-at .ensures);
-    }
+    let sized = c .before in
+    let written = sized .before .before .before in
+    let a = start written .args in
+    record { result = c .grow .ensures ∙ ap (λ (n : ℕ). grownBy (a .ledger) (a .line) n) (sized .entry-size .ensures .0); after = written .write .ensures }
 
 pub append-spec : {M : Type 1} → statement M
 append-spec =
     tie.close
     (tie.spec
     (λ c. search needs)
-    (λ c κs. search needs)
-    (λ c κs. search needs)
-    (λ c. search needs)
-    (λ c. search needs)
-    (λ c. search needs)
-    (λ c. search needs)
-    (λ c. search needs)
-    (λ c. search needs)
     (λ c. search needs)
     (λ c κs. search needs)
     (λ c. search needs)
-    (λ c. search needs)
-    (λ c. search needs)
     (λ c κs. search needs)
-    (λ c κs. search needs)
-    (λ c. search needs)
-    (λ c κs. search needs)
-    (λ c. search needs)
+    grow-requires
     (λ c. search needs)
     returns)
