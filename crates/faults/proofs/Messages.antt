@@ -2,7 +2,7 @@
 -- Assumes nothing.
 use mathlib.Core.Path.{_≡_, refl, ap, sym, _∙_}
 use mathlib.Core.Bool.{Bool, true, false, cond, _&&_}
-use mathlib.Core.List.{List, [], _∷_, _++_, append-assoc}
+use mathlib.Core.List.{List, [], _∷_, _++_}
 use Prim.Native.Nat.{ℕ, _+_, _<_, _≤_}
 use native.Mathlib.Omega.{arith}
 use lib.Dec.{leb, eqb}
@@ -32,7 +32,7 @@ use Rattle.faults.specs.declared.Checked.{Checked}
 use Rattle.faults.specs.declared.Checked.the-variants.{NotText, Faulty}
 use Rattle.kinds.proofs.Naming.{letter, l-names}
 use Rattle.records.proofs.Scans.{before-length, before-first}
-use Rattle.records.proofs.Joined.{every-at, no-cr, joined-append, joined-records, joined-begins}
+use Rattle.records.proofs.Joined.{every-at, no-cr, joined-records, joined-begins}
 
 -- what the four tests of a message passed
 pub record Sound (d : Delimiters) (m : List ℕ) : Type 0 where
@@ -211,10 +211,6 @@ module _ (d : Delimiters) (m : List ℕ) (h : isMessageBy d m ≡ true) where
     -- no record has a CR
     pub cut-no-cr : all isNotCr r ≡ true
     cut-no-cr = every-at (all isNotCr) rs r ss (rw cut at (no-cr m))
-
-    -- the two parts are the message
-    pub cut-whole : joined (rs ++ r ∷ []) ++ joined ss ≡ m
-    cut-whole = sym (joined-append (rs ++ r ∷ []) ss) ∙ ap joined (append-assoc rs (r ∷ []) ss ∙ sym cut) ∙ message-joined
 
     -- the first part is decided exactly if nothing is cut off: else its last record does not begin with L
     pub cut-decided : endsWithL (joined (rs ++ r ∷ [])) ≡ none ss

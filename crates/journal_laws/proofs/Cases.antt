@@ -60,10 +60,6 @@ module _ (sh : List ℕ) (d : Ledger) (l : ℕ) (t j : List ℕ) (es : List Entr
     unfolding storeOf
     store-fits f = record { line = line; is = rw (← (held-judged true f)); held = store-held sh d l t j es h line low high f }
 
-    pub store-full : fits sh (raised (d .used) l (entrySize (length t))) ≡ false → storeOf d sh l t j ≡ afterStoring d NoRoom j
-    unfolding storeOf
-    store-full f = rw (← (held-judged false f))
-
     decided : (b : Bool) → fits sh (raised (d .used) l (entrySize (length t))) ≡ b → Stores sh d l t j es ⊎ Stays sh d l t j
     decided true f = inl (store-fits f)
     decided false f = inr (stays NoRoom (held-judged false f) refl refl refl)

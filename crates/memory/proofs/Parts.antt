@@ -6,8 +6,8 @@ use Prim.Native.Nat.{ℕ, zero, suc, _+_, _-_, _≤_, _<_}
 use native.Mathlib.Nat.{add-assoc, add-zero, zero-add, sub-zero, zero-sub}
 use native.Mathlib.Numerals.{add-one}
 use native.Mathlib.Omega.{arith}
-use lib.ListN.{length, take, drop, getD, set, length-append, length-take, length-drop, take-append-drop}
-use lib.Seq.{take-append-le, drop-append-le, take-append-add, drop-append-add, take-at, drop-at, take-take, drop-drop, take-add, take-nil, length-take-le, set-split, getD-take, getD-drop, sets, sets-eq}
+use lib.ListN.{length, take, drop, set, length-append, length-take, length-drop, take-append-drop}
+use lib.Seq.{take-append-le, drop-append-le, take-append-add, drop-append-add, take-at, drop-at, take-take, drop-drop, take-add, take-nil, length-take-le, set-split, sets, sets-eq}
 use Rattle.memory.specs.Parts.{part, splice}
 
 -- a take and then a drop, the other way round
@@ -97,10 +97,6 @@ module _ {A : Type 0} where
   unfolding splice
   splice-nil d at = rw (add-zero at) (take-append-drop at d)
 
-  -- a byte is the first of those from its place on
-  first-of : (d : List A) (k : ℕ) (z : A) → getD d k z ≡ getD (drop k d) 0 z
-  first-of d k z = sym (getD-drop k d 0 z ∙ ap (λ (n : ℕ). getD d n z) (add-zero k))
-
   -- what stands in front of a splice, in it and behind it
   module _ (d : List A) (at : ℕ) (s : List A) (h : at + length s ≤ length d) where
     front-long : length (take at d) ≡ at
@@ -139,10 +135,6 @@ module _ {A : Type 0} where
     pub part-behind : (k m : ℕ) → at + length s ≤ k → part (splice d at s) k m ≡ part d k m
     unfolding part
     part-behind k m g = ap (take m) (drop-splice k g)
-
-    -- the same of a single byte
-    pub getD-behind : (k : ℕ) (z : A) → at + length s ≤ k → getD (splice d at s) k z ≡ getD d k z
-    getD-behind k z g = first-of (splice d at s) k z ∙ ap (λ (l : List A). getD l 0 z) (drop-splice k g) ∙ sym (first-of d k z)
 
     -- the first n bytes, with the splice inside them
     pub take-around : (n : ℕ) → at + length s ≤ n → n ≤ length d → take n (splice d at s) ≡ splice (take n d) at s
@@ -204,10 +196,6 @@ module _ {A : Type 0} where
   set-behind d at s v h =
       let long : length (splice d at s) ≡ length d = length-splice d at s (omega arith) in
       set-splice (splice d at s) (at + length s) v (omega arith) ∙ splice-join d at s (v ∷ []) (omega arith)
-
-  pub getD-part : (d : List A) (at n k : ℕ) (z : A) → k < n → getD (part d at n) k z ≡ getD d (at + k) z
-  unfolding part
-  getD-part d at n k z h = rw (getD-take n (drop at d) k z h, getD-drop at d k z)
 
   -- single stores one behind the other are one write
   pub sets-splice : (d : List A) (at : ℕ) (s : List A) → at + length s ≤ length d → sets d at s ≡ splice d at s
