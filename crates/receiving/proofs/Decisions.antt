@@ -1,6 +1,6 @@
 -- What deciding a complete text comes to, by the journal's answer.
 -- Assumes nothing.
-use mathlib.Core.Path.{_≡_, refl, sym, ap, _∙_}
+use mathlib.Core.Path.{_≡_, refl, sym, ap, subst, _∙_}
 use mathlib.Core.Bool.{true, false}
 use mathlib.Core.List.{List}
 use Prim.Native.Nat.{ℕ}
@@ -18,8 +18,13 @@ use Rattle.receiving.specs.Verdicts.{objectionTo, roomVerdict, decisionO
 use Rattle.receiving.specs.Settled.{ledgerAfter, journalAfter}
 use Rattle.receiving.specs.Decided.{outcomeVerdict, Decision}
 use Rattle.receiving.specs.declared.deciding.Outcome.{Outcome}
+use Rattle.receiving.specs.declared.deciding.Decided.{Decided}
 use Rattle.looking.specs.declared.Verdict.{Verdict}
 use Rattle.looking.specs.declared.Verdict.the-variants.{Against}
+
+-- a decision is known by its text
+pub decided-as : {d : Ledger} {i : ℕ} {s t j : List ℕ} {r : Decided} {j′ : List ℕ} → s ≡ t → Decision d i s j r j′ → Decision d i t j r j′
+decided-as {d} {i} {s} {t} {j} {r} {j′} e h = subst (λ (x : List ℕ). Decision d i x j r j′) e h
 
 -- the answer to a text that is no message has the number of an objection
 pub objection-number : (text : List ℕ) → isObjection (numberOf (objectionTo text)) ≡ true

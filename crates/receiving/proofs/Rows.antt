@@ -8,7 +8,7 @@ use Rattle.line.specs.declared.Line.{Line}
 use Rattle.looking.specs.Views.{Ready}
 use Rattle.looking.specs.Fitting.{Fitting, Quiet, writes}
 use Rattle.receiving.specs.Settled.{Settled}
-use Rattle.receiving.specs.Decided.{Closed}
+use Rattle.receiving.specs.Decided.{outcomeVerdict}
 use Rattle.receiving.specs.declared.deciding.Outcome.{Outcome}
 use Rattle.looking.specs.declared.Kind.{Kind}
 use Rattle.looking.specs.declared.Verdict.{Verdict}
@@ -26,5 +26,5 @@ quiet-as e s = subst Quiet e s
 pub ready-as : {v w : Verdict} {l : Line} {i : ℕ} {u f : List ℕ} → v ≡ w → writes w ≡ true → Fitting v l × Quiet v × (writes v ≡ true → Ready l i u f) → Ready l i u f
 ready-as e t p = p .2 (ap writes e ∙ t)
 
-pub closed-as : {o p : Outcome} {k : Kind} {l : Line} {i : ℕ} {f : List ℕ} {r : Line} {f′ : List ℕ} → o ≡ p → Closed p k l i f r f′ → Closed o k l i f r f′
-closed-as {o} {p} {k} {l} {i} {f} {r} {f′} e s = subst (λ (x : Outcome). Closed x k l i f r f′) (sym e) s
+pub closed-as : {o p : Outcome} (n : ℕ) {k : Kind} {l : Line} {i : ℕ} {u f : List ℕ} {r : Line} {u′ f′ : List ℕ} → o ≡ p → Settled (outcomeVerdict p n) k l i u f r u′ f′ → Settled (outcomeVerdict o n) k l i u f r u′ f′
+closed-as n e s = settled-as (ap (λ (x : Outcome). outcomeVerdict x n) e) s

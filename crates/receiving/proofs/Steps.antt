@@ -29,7 +29,7 @@ use Rattle.receiving.specs.Verdicts.{objectionTo, roomVerdict, decisionO
 use Rattle.receiving.specs.Settled.{lineAfter, textsAfter, framesAfter, ledgerAfter, journalAfter, Settled}
 use Rattle.receiving.specs.declared.completing.Tested.{Tested}
 use Rattle.receiving.specs.declared.completing.Tested.the-variants.{Refused}
-use Rattle.receiving.specs.Decided.{outcomeVerdict, Completion, Closed}
+use Rattle.receiving.specs.Decided.{outcomeVerdict, Completion}
 use Rattle.receiving.specs.Steps.{AfterStep, settle, stepOf, Leaves, memoryOf, Stepping}
 use Rattle.receiving.specs.Alone.{lineAlone, textsAlone, framesAlone, SteppingAlone, testOf, completed, completionOf, decideOf, Deciding, Completing}
 use Rattle.receiving.specs.declared.Alone.{Alone}
@@ -210,17 +210,17 @@ module _ (l : Line) (d : Ledger) (e : Event) (n : ℕ) (j u f : List ℕ) where
 
   module _ (r : Stepped) where
     -- what the decision and its row leave
-    pub decision-settled : (c : Decided) (k : Line) (a : Answer) (j′ u′ f′ : List ℕ) → Completion l d (e .line) n j u f c j′ u′
-        → Closed (c .outcome) (e .kind) l (e .line) f k f′ → ((m : ℕ) → a ≡ answerOf (outcomeVerdict (c .outcome) m)) → r ≡ record { line = k; ledger = c .ledger; answer = a } → Completing l d e n j u f r j′ u′ f′
+    pub decision-settled : (c : Decided) (k : Line) (a : Answer) (j′ u′ f′ : List ℕ) → Completion l d (e .line) n j u f c j′
+        → Settled (outcomeVerdict (c .outcome) n) (e .kind) l (e .line) u f k u′ f′ → ((m : ℕ) → a ≡ answerOf (outcomeVerdict (c .outcome) m)) → r ≡ record { line = k; ledger = c .ledger; answer = a } → Completing l d e n j u f r j′ u′ f′
     decision-settled c k a j′ u′ f′ t s p q =
         let text : ℕ → List ℕ = λ m. joinedText l m (textsOf (e .line) u) (framesOf (e .line) f) in
         let v : Verdict = decisionOf todaysShares d (e .line) n (text n) j in
         let (ledger, journal) = decision-text todaysShares d (e .line) n text j in
-        let is : outcomeVerdict (c .outcome) n ≡ v = t .decision .verdict n in
-        let booked : c .ledger ≡ ledgerAfter v d (e .line) text = t .decision .ledger n ∙ ledger in
+        let is : outcomeVerdict (c .outcome) n ≡ v = t .verdict n in
+        let booked : c .ledger ≡ ledgerAfter v d (e .line) text = t .ledger n ∙ ledger in
         record {
-          result = q ∙ rw (s .line n, p n, booked) (ap (λ (x : Verdict). record { line = lineAfter x l; ledger = ledgerAfter v d (e .line) text; answer = answerOf x }) is);
-          journal = t .decision .journal n ∙ journal;
-          unfinished = t .unfinished ∙ ap (λ (x : Verdict). textsAfter x l (e .line) u f) is;
-          frames = s .frames n ∙ ap (λ (x : Verdict). framesAfter x (e .kind) l (e .line) f) is;
+          result = q ∙ rw (s .line, p n, booked) (ap (λ (x : Verdict). record { line = lineAfter x l; ledger = ledgerAfter v d (e .line) text; answer = answerOf x }) is);
+          journal = t .journal n ∙ journal;
+          unfinished = s .texts ∙ ap (λ (x : Verdict). textsAfter x l (e .line) u f) is;
+          frames = s .frames ∙ ap (λ (x : Verdict). framesAfter x (e .kind) l (e .line) f) is;
         }

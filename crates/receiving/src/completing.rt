@@ -31,7 +31,7 @@ pub fn by_decision(
     let decided = deciding::complete(line, ledger, i, n, journal, unfinished, frames);
     let outcome = decided.outcome;
     let booked = decided.ledger;
-    let after = settling::close(line, i, kind, outcome, frames);
+    let after = settling::close(line, i, kind, n, outcome, unfinished, frames);
     let answer = outcome.answer();
     Stepped {
         line: after,

@@ -2,13 +2,13 @@
 ghost use Prim.Native.Nat.{ℕ, _+_, _<_, _≤_};
 ghost use lib.ListN.{length};
 ghost use mathlib.Core.Path.{_≡_};
-ghost use Rattle.memory.specs.Sizes.{lines};
+ghost use mathlib.Core.List.{_++_};
+ghost use Rattle.memory.specs.Sizes.{lines, messageLimit};
 ghost use Rattle.looking.specs.Views.{Ready};
 ghost use Rattle.looking.specs.Fitting.{TextFits};
 ghost use Rattle.looking.specs.Answers.{answerOf};
 ghost use Rattle.receiving.specs.Verdicts.{objectionTo, roomVerdict};
-ghost use Rattle.receiving.specs.Decided.{outcomeVerdict, putBack, Decision, Completion};
-use super::settling;
+ghost use Rattle.receiving.specs.Decided.{outcomeVerdict, Decision, Completion};
 use answers::Answer;
 use journal::Ledger;
 use line::Line;
@@ -25,46 +25,67 @@ pub struct Decided {
     pub ledger: Ledger,
 }
 
-// Joins the line's text where it lies, and decides. What it was written over is put back where everything is to be left.
+// A text this short is joined in a small place: the place is cleared each time.
+const SHORT: usize = 512;
+
+// Joins the two pieces of the line's text in a place of its own, and decides: both are read, and only the journal is written.
 pub fn complete(
     line: Line,
     ledger: Ledger,
     i: usize,
     n: usize,
     journal: &mut [u8],
-    unfinished: &mut [u8],
+    unfinished: &[u8],
     frames: &[u8],
 ) -> Decided
     requires { ⌜ Ready line i (now unfinished) (now frames) × TextFits line n ⌝ }
-    ensures { λ r. ⌜ Completion line ledger i n (now (journal .entry)) (now (unfinished .entry)) (now (frames .entry)) r (now (journal .exit)) (now (unfinished .exit)) ⌝ }
+    ensures { λ r. ⌜ Completion line ledger i n (now (journal .entry)) (now (unfinished .entry)) (now (frames .entry)) r (now (journal .exit)) ⌝ }
 {
-    let start = i * memory::MESSAGE_LIMIT;
-    let at = start + line.joined as usize;
-    let end = at + n;
-    let mut old = [0u8; memory::FRAME_PART];
-    memory::copy(&mut old, &unfinished[at..end]);
-    settling::write_text(line, i, n, unfinished, frames);
-    let decided = decide(ledger, i, &unfinished[start..end], journal);
-    let outcome = decided.outcome;
-    put_back(outcome, at, &old[..n], unfinished);
-    decided
+    let text = i * memory::MESSAGE_LIMIT;
+    let end = text + line.joined as usize;
+    let start = i * memory::FRAME_PART + 1;
+    let stop = start + n;
+    by_length(
+        ledger,
+        i,
+        &unfinished[text..end],
+        &frames[start..stop],
+        journal,
+    )
 }
 
-// The old bytes stand in their place again where everything is left.
-fn put_back(outcome: Outcome, at: usize, old: &[u8], unfinished: &mut [u8])
-    requires { ⌜ at + length (now old) ≤ length (now unfinished) ⌝ }
-    ensures { λ _. ⌜ now (unfinished .exit) ≡ putBack outcome at (now (old .entry)) (now (unfinished .entry)) ⌝ }
+// A short text is joined in a small place, any other in one of a message's size.
+fn by_length(ledger: Ledger, i: usize, old: &[u8], new: &[u8], journal: &mut [u8]) -> Decided
+    requires { ⌜ (i < lines) × (length (now old) + length (now new) ≤ messageLimit) ⌝ }
+    ensures { λ r. ⌜ Decision ledger i (now (old .entry) ++ now (new .entry)) (now (journal .entry)) r (now (journal .exit)) ⌝ }
 {
-    match outcome {
-        Outcome::Stored => {}
-        Outcome::Against(_) => {}
-        Outcome::Left(_) => {
-            memory::copy_at(unfinished, at, old);
-        }
+    if old.len() + new.len() <= SHORT {
+        let mut place = [0u8; SHORT];
+        return join(&mut place, ledger, i, old, new, journal);
     }
+    let mut place = [0u8; memory::MESSAGE_LIMIT];
+    join(&mut place, ledger, i, old, new, journal)
 }
 
-// The storing judges and stores in one.
+// Joins both pieces at the start of the place, and decides.
+fn join(
+    place: &mut [u8],
+    ledger: Ledger,
+    i: usize,
+    old: &[u8],
+    new: &[u8],
+    journal: &mut [u8],
+) -> Decided
+    requires { ⌜ (i < lines) × (length (now old) + length (now new) ≤ length (now place)) ⌝ }
+    ensures { λ r. ⌜ Decision ledger i (now (old .entry) ++ now (new .entry)) (now (journal .entry)) r (now (journal .exit)) ⌝ }
+{
+    memory::copy(place, old);
+    memory::copy_at(place, old.len(), new);
+    let size = old.len() + new.len();
+    decide(ledger, i, &place[..size], journal)
+}
+
+// The storing judges and stores in one: nothing else is written before its answer is known.
 fn decide(ledger: Ledger, i: usize, text: &[u8], journal: &mut [u8]) -> Decided
     requires { ⌜ i < lines ⌝ }
     ensures { λ r. ⌜ Decision ledger i (now (text .entry)) (now (journal .entry)) r (now (journal .exit)) ⌝ }

@@ -9,7 +9,7 @@ ghost use Rattle.looking.specs.Views.{Ready};
 ghost use Rattle.looking.specs.Fitting.{TextFits, Fitting, Quiet, writes};
 ghost use Rattle.looking.specs.declared.Verdict.the-variants.{Accepts};
 ghost use Rattle.receiving.specs.Settled.{withByte, withText, Settled};
-ghost use Rattle.receiving.specs.Decided.{Closed};
+ghost use Rattle.receiving.specs.Decided.{outcomeVerdict};
 use super::deciding::Outcome;
 use line::Line;
 use looking::Kind;
@@ -68,27 +68,43 @@ fn accept(
     requires { ⌜ Ready line i (now unfinished) (now frames) × TextFits line n ⌝ }
     ensures { λ r. ⌜ Settled (Accepts n) kind line i (now (unfinished .entry)) (now (frames .entry)) r (now (unfinished .exit)) (now (frames .exit)) ⌝ }
 {
-    write_text(line, i, n, unfinished, frames);
-    add_byte(line, i, kind, frames);
+    write_frame(line, i, kind, n, unfinished, frames);
     line.accepted((line.joined as usize + n) as u16)
 }
 
-// What a decision leaves beside the text, which is written already.
-pub fn close(line: Line, i: usize, kind: Kind, outcome: Outcome, frames: &mut [u8]) -> Line
-    requires { ⌜ (i < lines) × (withinLimits line ≡ true) × (length (now frames) ≡ framesSize) ⌝ }
-    ensures { λ r. ⌜ Closed outcome kind line i (now (frames .entry)) r (now (frames .exit)) ⌝ }
+// What a decision leaves.
+pub fn close(
+    line: Line,
+    i: usize,
+    kind: Kind,
+    n: usize,
+    outcome: Outcome,
+    unfinished: &mut [u8],
+    frames: &mut [u8],
+) -> Line
+    requires { ⌜ Ready line i (now unfinished) (now frames) × TextFits line n ⌝ }
+    ensures { λ r. ⌜ Settled (outcomeVerdict outcome n) kind line i (now (unfinished .entry)) (now (frames .entry)) r (now (unfinished .exit)) (now (frames .exit)) ⌝ }
 {
     match outcome {
         Outcome::Stored => {
-            add_byte(line, i, kind, frames);
+            write_frame(line, i, kind, n, unfinished, frames);
             line.accepted(0)
         }
         Outcome::Against(_) => {
-            add_byte(line, i, kind, frames);
+            write_frame(line, i, kind, n, unfinished, frames);
             line.against()
         }
         Outcome::Left(_) => line,
     }
+}
+
+// The frame's text behind the joined text, then its last byte.
+fn write_frame(line: Line, i: usize, kind: Kind, n: usize, unfinished: &mut [u8], frames: &mut [u8])
+    requires { ⌜ Ready line i (now unfinished) (now frames) × TextFits line n ⌝ }
+    ensures { λ _. ⌜ (now (unfinished .exit) ≡ withText line i n (now (unfinished .entry)) (now (frames .entry))) × (now (frames .exit) ≡ withByte kind line i (now (frames .entry))) ⌝ }
+{
+    write_text(line, i, n, unfinished, frames);
+    add_byte(line, i, kind, frames);
 }
 
 // The byte behind those collected.
@@ -106,7 +122,7 @@ fn add_byte(line: Line, i: usize, kind: Kind, frames: &mut [u8])
 }
 
 // The frame's text behind the joined text: the part from there on is lent to the copier.
-pub fn write_text(line: Line, i: usize, n: usize, unfinished: &mut [u8], frames: &[u8])
+fn write_text(line: Line, i: usize, n: usize, unfinished: &mut [u8], frames: &[u8])
     requires { ⌜ Ready line i (now unfinished) (now frames) × TextFits line n ⌝ }
     ensures { λ _. ⌜ now (unfinished .exit) ≡ withText line i n (now (unfinished .entry)) (now (frames .entry)) ⌝ }
 {

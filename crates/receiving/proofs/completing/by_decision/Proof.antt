@@ -11,17 +11,11 @@ use Rattle.receiving.proofs.completing.by_decision.Tie as tie
 abbrev entry : tie.After-complete → tie.Start
 entry c = let asked = c .before .before .before .before in asked .before .before .before .before
 
-close-requires : tie.Need-close-requires
-close-requires c κs =
-    let booked = c .before .before in
-    let r = entry (booked .before .before .before .before) .pre .0 in
-    (r .line, r .within, r .bytes)
-
 returns : tie.Need-returns
 returns c =
-    let closed = c .before .before .before in
+    let closed = c .before .before .before .before .before in
     let booked = closed .before .before .before in
-    let decided = booked .before .before .before .before in
+    let decided = booked .before .before .before in
     let a = entry decided .args in
     decision-settled (a .line) (a .ledger) (a .e) (a .n) (now (a .journal)) (now (a .unfinished)) (now (a .frames)) _ _ _ _ _ _ _ (decided .complete .ensures) (closed .close .ensures) (c .answer .ensures) refl
 
@@ -31,7 +25,7 @@ by-decision-spec =
     (tie.spec
     (λ c. search needs)
     (λ c κs. search needs)
-    close-requires
+    (λ c κs. search needs)
     (λ c κs. search needs)
     (λ c. search needs)
     (λ c. search needs)
