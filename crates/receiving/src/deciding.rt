@@ -25,9 +25,6 @@ pub struct Decided {
     pub ledger: Ledger,
 }
 
-// A text this short is joined in a small place: the place is cleared each time.
-const SHORT: usize = 512;
-
 // Joins the two pieces of the line's text in a place of its own, and decides: both are read, and only the journal is written.
 pub fn complete(
     line: Line,
@@ -45,7 +42,7 @@ pub fn complete(
     let end = text + line.joined as usize;
     let start = i * memory::FRAME_PART + 1;
     let stop = start + n;
-    by_length(
+    by_pieces(
         ledger,
         i,
         &unfinished[text..end],
@@ -54,15 +51,11 @@ pub fn complete(
     )
 }
 
-// A short text is joined in a small place, any other in one of a message's size.
-fn by_length(ledger: Ledger, i: usize, old: &[u8], new: &[u8], journal: &mut [u8]) -> Decided
+// The two pieces of a text, joined in a place of a message's size.
+fn by_pieces(ledger: Ledger, i: usize, old: &[u8], new: &[u8], journal: &mut [u8]) -> Decided
     requires { ⌜ (i < lines) × (length (now old) + length (now new) ≤ messageLimit) ⌝ }
     ensures { λ r. ⌜ Decision ledger i (now (old .entry) ++ now (new .entry)) (now (journal .entry)) r (now (journal .exit)) ⌝ }
 {
-    if old.len() + new.len() <= SHORT {
-        let mut place = [0u8; SHORT];
-        return join(&mut place, ledger, i, old, new, journal);
-    }
     let mut place = [0u8; memory::MESSAGE_LIMIT];
     join(&mut place, ledger, i, old, new, journal)
 }
