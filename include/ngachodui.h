@@ -154,7 +154,12 @@ typedef struct ngachodui_line {
     uint16_t serial;      /* of the line's next message; after 65,535 comes 0 */
 } ngachodui_line;
 
-/* How much of the journal is used, in bytes. Counts that do not agree with the journal are answered 43. */
+/* The numbers: those of all lines. */
+typedef struct ngachodui_numbers {
+    ngachodui_line lines[NGACHODUI_LINES];
+} ngachodui_numbers;
+
+/* The counts: how much of the journal is used, in bytes. Counts that do not agree with the journal are answered 43. */
 typedef struct ngachodui_counts {
     uint32_t used[NGACHODUI_LINES];  /* by each line's messages, 4 counted for each besides its text */
     uint32_t in_use;                 /* by all of them together */
@@ -162,7 +167,7 @@ typedef struct ngachodui_counts {
 
 /* A gateway, beside its three memories. */
 typedef struct ngachodui_state {
-    ngachodui_line lines[NGACHODUI_LINES];
+    ngachodui_numbers numbers;
     ngachodui_counts counts;
 } ngachodui_state;
 
@@ -192,7 +197,7 @@ typedef struct ngachodui_layout {
 #else
 #define NGACHODUI_FACT(fact) struct ngachodui_layout
 #endif
-NGACHODUI_FACT(sizeof(ngachodui_line) * NGACHODUI_LINES == sizeof(uint16_t) * NGACHODUI_NUMBERS);
+NGACHODUI_FACT(sizeof(ngachodui_numbers) == sizeof(uint16_t) * NGACHODUI_NUMBERS);
 NGACHODUI_FACT(sizeof(ngachodui_counts) == sizeof(uint32_t) * NGACHODUI_COUNTS);
 NGACHODUI_FACT(sizeof(ngachodui_answered) == 16);
 NGACHODUI_FACT(sizeof(ngachodui_made) == 16);
@@ -206,7 +211,7 @@ ngachodui_layout ngachodui_sizes(void);
 
 /* Makes every line neutral with next number 1 and serial 0, and the journal empty; the memories may
  * hold anything. Call it once, before all else; later it forgets every message that waits. */
-void ngachodui_fresh(ngachodui_line lines[NGACHODUI_LINES], ngachodui_counts *counts);
+void ngachodui_fresh(ngachodui_numbers *numbers, ngachodui_counts *counts);
 
 /* A byte has come in on a line.
  *
@@ -226,7 +231,7 @@ void ngachodui_fresh(ngachodui_line lines[NGACHODUI_LINES], ngachodui_counts *co
  *   20, 40 to 43  nothing
  * 43 leaves the line inside its frame; 30 seconds free it. */
 ngachodui_answered ngachodui_byte(uint8_t line, uint8_t byte,
-                                  ngachodui_line lines[NGACHODUI_LINES], ngachodui_counts *counts,
+                                  ngachodui_numbers *numbers, ngachodui_counts *counts,
                                   uint8_t *journal, size_t journal_length,
                                   uint8_t *unfinished, size_t unfinished_length,
                                   uint8_t *frames, size_t frames_length);
@@ -238,7 +243,7 @@ ngachodui_answered ngachodui_byte(uint8_t line, uint8_t byte,
  * clock in common: tell each one, as often as is convenient, at least every few seconds while its
  * transfer is open. */
 ngachodui_answered ngachodui_seconds(uint8_t line, uint8_t seconds,
-                                     ngachodui_line lines[NGACHODUI_LINES], ngachodui_counts *counts,
+                                     ngachodui_numbers *numbers, ngachodui_counts *counts,
                                      uint8_t *journal, size_t journal_length,
                                      uint8_t *unfinished, size_t unfinished_length,
                                      uint8_t *frames, size_t frames_length);
@@ -251,7 +256,7 @@ ngachodui_answered ngachodui_seconds(uint8_t line, uint8_t seconds,
  * messages, so the host can see that none is missing. A buffer of NGACHODUI_TEXT_LIMIT bytes is
  * never too short. */
 ngachodui_answered ngachodui_take(uint8_t line,
-                                  const ngachodui_line lines[NGACHODUI_LINES], ngachodui_counts *counts,
+                                  const ngachodui_numbers *numbers, ngachodui_counts *counts,
                                   uint8_t *journal, size_t journal_length,
                                   uint8_t *buffer, size_t buffer_length);
 
@@ -271,14 +276,14 @@ static inline bool ngachodui_start(ngachodui_gateway *gateway)
 {
     if (!ngachodui_is_this_layout())
         return false;
-    ngachodui_fresh(gateway->state.lines, &gateway->state.counts);
+    ngachodui_fresh(&gateway->state.numbers, &gateway->state.counts);
     return true;
 }
 
 /* As ngachodui_byte. */
 static inline ngachodui_answered ngachodui_on_byte(ngachodui_gateway *gateway, uint8_t line, uint8_t byte)
 {
-    return ngachodui_byte(line, byte, gateway->state.lines, &gateway->state.counts,
+    return ngachodui_byte(line, byte, &gateway->state.numbers, &gateway->state.counts,
                           gateway->journal, sizeof gateway->journal,
                           gateway->unfinished, sizeof gateway->unfinished,
                           gateway->frames, sizeof gateway->frames);
@@ -287,7 +292,7 @@ static inline ngachodui_answered ngachodui_on_byte(ngachodui_gateway *gateway, u
 /* As ngachodui_seconds. */
 static inline ngachodui_answered ngachodui_on_seconds(ngachodui_gateway *gateway, uint8_t line, uint8_t seconds)
 {
-    return ngachodui_seconds(line, seconds, gateway->state.lines, &gateway->state.counts,
+    return ngachodui_seconds(line, seconds, &gateway->state.numbers, &gateway->state.counts,
                              gateway->journal, sizeof gateway->journal,
                              gateway->unfinished, sizeof gateway->unfinished,
                              gateway->frames, sizeof gateway->frames);
@@ -297,7 +302,7 @@ static inline ngachodui_answered ngachodui_on_seconds(ngachodui_gateway *gateway
 static inline ngachodui_answered ngachodui_on_take(ngachodui_gateway *gateway, uint8_t line,
                                                    uint8_t *buffer, size_t buffer_length)
 {
-    return ngachodui_take(line, gateway->state.lines, &gateway->state.counts,
+    return ngachodui_take(line, &gateway->state.numbers, &gateway->state.counts,
                           gateway->journal, sizeof gateway->journal, buffer, buffer_length);
 }
 

@@ -64,7 +64,7 @@ static inline void note(uint64_t value)
 FOR_EACH_SIDE void fresh(enum side side)
 {
     if (side == LIBRARY)
-        ngachodui_fresh(library.state.lines, &library.state.counts);
+        ngachodui_fresh(&library.state.numbers, &library.state.counts);
     else if (side == PLAIN)
         plain = plain_fresh();
 }
@@ -348,7 +348,7 @@ static void fill_journal(unsigned entries)
         memcpy(library.journal + at + 4, text, length);
         at += size;
         library.state.counts.used[line] += (uint32_t)size;
-        library.state.lines[line].serial++;
+        library.state.numbers.lines[line].serial++;
         plain.ledger.used[line] += (uint32_t)size;
         plain.ledger.serials[line]++;
     }
@@ -360,7 +360,7 @@ static void fill_journal(unsigned entries)
 FOR_EACH_SIDE void taken(enum side side, uint64_t count, unsigned entries)
 {
     plain = plain_fresh();
-    ngachodui_fresh(library.state.lines, &library.state.counts);
+    ngachodui_fresh(&library.state.numbers, &library.state.counts);
     fill_journal(entries);
     save();
     for (uint64_t i = 0; i < count; i++) {

@@ -7,7 +7,8 @@
 #include "ngachodui.h"
 
 static ngachodui_gateway gateway;
-static ngachodui_line *const lines = gateway.state.lines;
+static ngachodui_numbers *const numbers = &gateway.state.numbers;
+static ngachodui_line *const lines = gateway.state.numbers.lines;
 static ngachodui_counts *const counts = &gateway.state.counts;
 static uint8_t buffer[NGACHODUI_TEXT_LIMIT];
 
@@ -164,7 +165,7 @@ static void test_sizes(void)
     start();
     const ngachodui_layout layout = ngachodui_sizes();
     check_number(layout.version, NGACHODUI_VERSION, "the version");
-    check_number(layout.numbers, sizeof gateway.state.lines / (sizeof(uint16_t)), "the numbers of the lines");
+    check_number(layout.numbers, sizeof gateway.state.numbers / (sizeof(uint16_t)), "the numbers of the lines");
     check_number(layout.counts, sizeof gateway.state.counts / (sizeof(uint32_t)), "the counts");
     check_number(layout.journal, sizeof gateway.journal, "the journal's size");
     check_number(layout.unfinished, sizeof gateway.unfinished, "the size of unfinished text");
@@ -175,12 +176,12 @@ static void test_sizes(void)
         const size_t journal = sizeof gateway.journal - (memory == 0);
         const size_t unfinished = sizeof gateway.unfinished - (memory == 1);
         const size_t frames = sizeof gateway.frames - (memory == 2);
-        ngachodui_answered a = ngachodui_byte(0, 0x05, lines, counts, gateway.journal, journal, gateway.unfinished, unfinished, gateway.frames, frames);
+        ngachodui_answered a = ngachodui_byte(0, 0x05, numbers, counts, gateway.journal, journal, gateway.unfinished, unfinished, gateway.frames, frames);
         check_number(a.number, NGACHODUI_WRONG_SIZE, "a byte, and a memory one byte short");
-        a = ngachodui_seconds(0, 1, lines, counts, gateway.journal, journal, gateway.unfinished, unfinished, gateway.frames, frames);
+        a = ngachodui_seconds(0, 1, numbers, counts, gateway.journal, journal, gateway.unfinished, unfinished, gateway.frames, frames);
         check_number(a.number, NGACHODUI_WRONG_SIZE, "seconds, and a memory one byte short");
     }
-    ngachodui_answered a = ngachodui_take(0, lines, counts, gateway.journal, 1, buffer, sizeof buffer);
+    ngachodui_answered a = ngachodui_take(0, numbers, counts, gateway.journal, 1, buffer, sizeof buffer);
     check_number(a.number, NGACHODUI_WRONG_SIZE, "a journal of 1 byte");
     check(memcmp(&before, &gateway.state, sizeof before) == 0, "the state after 41");
 }

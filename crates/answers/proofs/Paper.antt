@@ -54,37 +54,37 @@ first : ℕ → List Answer → Option Answer
 first n [] = none
 first n (a ∷ more) = cond (eqb (numberOf a) n) (some a) (first n more)
 
-told : (a : Answer) → first (numberOf a) (answers (valuesOf a)) ≡ some a
+listed : (a : Answer) → first (numberOf a) (answers (valuesOf a)) ≡ some a
 unfolding first
-told Nothing = refl
-told Opened = refl
-told Accepted = refl
-told Repeated = refl
-told Stored = refl
-told Ended = refl
-told Dropped = refl
-told TimedOut = refl
-told (Taken length serial) = refl
-told Busy = refl
-told Unended = refl
-told Torn = refl
-told WrongCheck = refl
-told BadText = refl
-told BadNumber = refl
-told Refusing = refl
-told OutOfTurn = refl
-told TooLong = refl
-told NoCr = refl
-told NoMessage = refl
-told NoRoom = refl
-told NoLine = refl
-told WrongSize = refl
-told BeyondLimits = refl
-told Broken = refl
-told NothingWaiting = refl
-told BufferShort = refl
-told Malformed = refl
-told NotFitting = refl
+listed Nothing = refl
+listed Opened = refl
+listed Accepted = refl
+listed Repeated = refl
+listed Stored = refl
+listed Ended = refl
+listed Dropped = refl
+listed TimedOut = refl
+listed (Taken length serial) = refl
+listed Busy = refl
+listed Unended = refl
+listed Torn = refl
+listed WrongCheck = refl
+listed BadText = refl
+listed BadNumber = refl
+listed Refusing = refl
+listed OutOfTurn = refl
+listed TooLong = refl
+listed NoCr = refl
+listed NoMessage = refl
+listed NoRoom = refl
+listed NoLine = refl
+listed WrongSize = refl
+listed BeyondLimits = refl
+listed Broken = refl
+listed NothingWaiting = refl
+listed BufferShort = refl
+listed Malformed = refl
+listed NotFitting = refl
 
 -- each answer of a list passes a test
 abbrev pub passes : (Answer → Bool) → List Answer → Bool
@@ -104,12 +104,12 @@ found test a n (b ∷ more) p q = by-number (eqb (numberOf b) n) q (found test a
 
 -- a test that each answer of the list passes, whatever values stand in it, every answer passes
 pub every-answer : (test : Answer → Bool) → ((vs : List ℕ) → passes test (answers vs) ≡ true) → (a : Answer) → test a ≡ true
-every-answer test h a = found test a (numberOf a) (answers (valuesOf a)) (h (valuesOf a)) (told a)
+every-answer test h a = found test a (numberOf a) (answers (valuesOf a)) (h (valuesOf a)) (listed a)
 
 -- no two answers share number and values
 pub paper-injective : (a b : Answer) → numberOf a ≡ numberOf b → valuesOf a ≡ valuesOf b → a ≡ b
 paper-injective a b n v =
-    let same : some a ≡ some b = sym (told a) ∙ ap₂ (λ (m : ℕ) (vs : List ℕ). first m (answers vs)) n v ∙ told b in
+    let same : some a ≡ some b = sym (listed a) ∙ ap₂ (λ (m : ℕ) (vs : List ℕ). first m (answers vs)) n v ∙ listed b in
     cc same
 
 -- an objection gets NAK; it is not 4, which stores, nor 31, which is for want of room, nor 41 to 43, which tell of memory, a record or a journal

@@ -13,7 +13,7 @@ pub call-once : (ns us : List ℕ) (e : Event) (j u f : List ℕ) {r q : Answere
 call-once ns us e j u f a b = (
   a .result ∙ sym (b .result),
   a .numbers ∙ sym (b .numbers),
-  a .used ∙ sym (b .used),
+  a .counts ∙ sym (b .counts),
   a .journal ∙ sym (b .journal),
   a .unfinished ∙ sym (b .unfinished),
   a .frames ∙ sym (b .frames),
@@ -22,4 +22,4 @@ call-once ns us e j u f a b = (
 -- `take`
 pub take-once : (ns us : List ℕ) (i : ℕ) (j b : List ℕ) {r q : Answered} {us₁ j₁ b₁ us₂ j₂ b₂ : List ℕ} → Taken ns us i j b r us₁ j₁ b₁ → Taken ns us i j b q us₂ j₂ b₂
     → (r ≡ q) × (us₁ ≡ us₂) × (j₁ ≡ j₂) × (b₁ ≡ b₂)
-take-once ns us i j b x y = (x .result ∙ sym (y .result), x .used ∙ sym (y .used), x .journal ∙ sym (y .journal), x .buffer ∙ sym (y .buffer))
+take-once ns us i j b x y = (x .result ∙ sym (y .result), x .counts ∙ sym (y .counts), x .journal ∙ sym (y .journal), x .buffer ∙ sym (y .buffer))

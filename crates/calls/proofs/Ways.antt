@@ -35,12 +35,12 @@ use Rattle.looking.specs.declared.Kind.{Kind}
 use Rattle.looking.specs.declared.Kind.the-variants.{Byte, Seconds}
 use Rattle.looking.specs.declared.Verdict.{Verdict}
 use Rattle.looking.specs.declared.Verdict.the-variants.{Collects, Begins}
-use Rattle.numbers.specs.Plain.{waiting, inside, begins, insideAt, firstAt, numberAt, stateOf, withLine, withSerial, withUsed, withinNumbers, onlyCollects, oneMore, quick, lineOf, ledgerOf, told}
-use Rattle.calls.specs.Calls.{AfterCall, refused, putBack, callOf, Called, Calling, Stepping, Deciding, PutBack, Narrow, Taken, toldTaking}
+use Rattle.numbers.specs.Plain.{waiting, inside, begins, insideAt, firstAt, numberAt, stateOf, withLine, withSerial, withUsed, withinNumbers, onlyCollects, oneMore, quick, lineOf, ledgerOf, inNumbers}
+use Rattle.calls.specs.Calls.{AfterCall, refused, putBack, callOf, Called, Calling, Stepping, Deciding, PutBack, Narrow, Taken, takingInNumbers}
 use Rattle.numbers.specs.Changes.{isWithin, recordOf, isCollected, Collected, isBegun, Begun, recordAfter, serialAfter, countsAfter}
 use Rattle.numbers.specs.declared.Answered.{Answered}
 use Rattle.numbers.proofs.Changes.{within-facts}
-use Rattle.numbers.proofs.Numbers.{told-within, used-back, serial-back, count-back, begun-back}
+use Rattle.numbers.proofs.Numbers.{line-within, used-back, serial-back, count-back, begun-back}
 use Rattle.journal.proofs.Takings.{taken-line}
 use Rattle.receiving.proofs.Steps.{step-after, alone-asks, step-decides}
 use Rattle.calls.proofs.Narrow.{decide-narrow, taking-narrow}
@@ -49,19 +49,19 @@ as-called : {s t : AfterCall} {r : Answered} {ns us j u f : List ℕ} → s ≡ 
 as-called {s} {t} {r} {ns} {us} {j} {u} {f} q c = subst (λ (x : AfterCall). Called x r ns us j u f) (sym q) c
 
 module _ (ns us : List ℕ) (e : Event) (j u f : List ℕ) where
-  same : (a : Answer) (r : Answered) → r ≡ told a → Called (refused a ns us (memoryOf j u f)) r ns us j u f
-  same a r q = record { result = q; numbers = refl; used = refl; journal = refl; unfinished = refl; frames = refl }
+  same : (a : Answer) (r : Answered) → r ≡ inNumbers a → Called (refused a ns us (memoryOf j u f)) r ns us j u f
+  same a r q = record { result = q; numbers = refl; counts = refl; journal = refl; unfinished = refl; frames = refl }
 
   -- 40, 41 and 42
-  pub no-line : (r : Answered) → lines ≤ e .line → r ≡ told NoLine → Calling ns us e j u f r ns us j u f
+  pub no-line : (r : Answered) → lines ≤ e .line → r ≡ inNumbers NoLine → Calling ns us e j u f r ns us j u f
   unfolding callOf
   no-line r h q = as-called (rw (le-ltb (e .line) lines h)) (same NoLine r q)
 
-  pub wrong-size : (r : Answered) → e .line < lines → rightLengths (length j) (length u) (length f) ≡ false → r ≡ told WrongSize → Calling ns us e j u f r ns us j u f
+  pub wrong-size : (r : Answered) → e .line < lines → rightLengths (length j) (length u) (length f) ≡ false → r ≡ inNumbers WrongSize → Calling ns us e j u f r ns us j u f
   unfolding callOf
   wrong-size r h s q = as-called (rw (lt-ltb (e .line) lines h, s)) (same WrongSize r q)
 
-  pub beyond : (r : Answered) → e .line < lines → rightLengths (length j) (length u) (length f) ≡ true → withinNumbers ns (e .line) ≡ false → r ≡ told BeyondLimits → Calling ns us e j u f r ns us j u f
+  pub beyond : (r : Answered) → e .line < lines → rightLengths (length j) (length u) (length f) ≡ true → withinNumbers ns (e .line) ≡ false → r ≡ inNumbers BeyondLimits → Calling ns us e j u f r ns us j u f
   unfolding callOf
   beyond r h s w q = as-called (rw (lt-ltb (e .line) lines h, s, w)) (same BeyondLimits r q)
 
@@ -76,19 +76,19 @@ module _ (ns us : List ℕ) (l : Line) (e : Event) (j u f : List ℕ) where
   -- an outcome of the gateway, put back
   put-back : {x : AfterStep} {s : Stepped} {ns′ us′ j′ u′ f′ : List ℕ} {r : Answered} → Leaves x s j′ u′ f′ → PutBack ns us (e .line) s r ns′ us′ → Called (putBack ns us (e .line) x) r ns′ us′ j′ u′ f′
   put-back y p = record {
-    result = p .result ∙ ap (λ (z : Stepped). told (z .answer)) (y .result);
+    result = p .result ∙ ap (λ (z : Stepped). inNumbers (z .answer)) (y .result);
     numbers = p .numbers ∙ ap (λ (z : Stepped). withSerial (withLine ns (e .line) (z .line)) (e .line) (z .ledger)) (y .result);
-    used = p .used ∙ ap (λ (z : Stepped). withUsed us (e .line) (z .ledger)) (y .result);
+    counts = p .counts ∙ ap (λ (z : Stepped). withUsed us (e .line) (z .ledger)) (y .result);
     journal = y .journal;
     unfinished = y .unfinished;
     frames = y .frames;
   }
 
   -- a step that is done on the line alone: the ledger stays
-  pub put-after : {t : Alone} {v : Verdict} {ns′ u′ f′ : List ℕ} {r : Answered} → e .line < lines → SteppingAlone l e (length j) u f t u′ f′ → t .look ≡ Done v → ns′ ≡ withLine ns (e .line) (t .line) → r ≡ told (answerOf v)
+  pub put-after : {t : Alone} {v : Verdict} {ns′ u′ f′ : List ℕ} {r : Answered} → e .line < lines → SteppingAlone l e (length j) u f t u′ f′ → t .look ≡ Done v → ns′ ≡ withLine ns (e .line) (t .line) → r ≡ inNumbers (answerOf v)
       → Stepping ns us l e j u f r ns′ us j u′ f′
   put-after {t} {v} h x k m q =
-      put-back (step-after l (ledgerOf ns us) e j u f t v x k refl) (record { result = q; numbers = m ∙ sym (serial-back ns us (e .line) (t .line) h); used = sym (used-back ns us (e .line) h) })
+      put-back (step-after l (ledgerOf ns us) e j u f t v x k refl) (record { result = q; numbers = m ∙ sym (serial-back ns us (e .line) (t .line) h); counts = sym (used-back ns us (e .line) h) })
 
   -- a message that is decided
   pub put-decided : (n : ℕ) {d : Ledger} {s : Stepped} {ns′ us′ j′ u′ f′ : List ℕ} {r : Answered} → d ≡ ledgerOf ns us → Leaves (decideOf todaysShares l d e n (memoryOf j u f)) s j′ u′ f′ → PutBack ns us (e .line) s r ns′ us′
@@ -112,11 +112,11 @@ pub put-record-there : (ns : List ℕ) (i : ℕ) (l : Line) {ns′ : List ℕ} �
 put-record-there ns i l h e = e ∙ there i ns (withLine ns i l) h
 
 pub put-there : (ns us : List ℕ) (i : ℕ) (s : Stepped) {ns₁ ns₂ us′ : List ℕ} {r : Answered} → i < lines → ns₁ ≡ recordAfter ns i (s .line) → ns₂ ≡ serialAfter ns₁ i (getD (s .ledger .serials) i 0)
-    → us′ ≡ countsAfter us i (getD (s .ledger .used) i 0) (s .ledger .in_use) → r ≡ told (s .answer) → PutBack ns us i s r ns₂ us′
+    → us′ ≡ countsAfter us i (getD (s .ledger .used) i 0) (s .ledger .in_use) → r ≡ inNumbers (s .answer) → PutBack ns us i s r ns₂ us′
 put-there ns us i s {ns₁} h p q o t = record {
   result = t;
   numbers = q ∙ there i ns₁ (withSerial ns₁ i (s .ledger)) h ∙ ap (λ (x : List ℕ). withSerial x i (s .ledger)) (put-record-there ns i (s .line) h p);
-  used = o ∙ there i us (withUsed us i (s .ledger)) h;
+  counts = o ∙ there i us (withUsed us i (s .ledger)) h;
 }
 
 -- the ledger after a deciding still fits
@@ -153,13 +153,13 @@ module _ (ns us : List ℕ) (i b : ℕ) (j u f : List ℕ) (h : i < lines) (s : 
 
   collects : quick ns i b ≡ true → verdictOf todaysShares (lineOf ns i) (ledgerOf ns us) here j u f ≡ Collects
   unfolding verdictOf ownWork byteLook insideLook
-  collects q = rw (lt-ltb i lines h, s, told-within ns i (quick-within ns i b q), no-end ns i b q .0, no-end ns i b q .1, is-inside ns i b q)
+  collects q = rw (lt-ltb i lines h, s, line-within ns i (quick-within ns i b q), no-end ns i b q .0, no-end ns i b q .1, is-inside ns i b q)
 
-  by-quick : {r : Answered} {ns′ f′ : List ℕ} → quick ns i b ≡ true → r ≡ told Nothing → ns′ ≡ oneMore ns i → f′ ≡ set f (frameStart i + numberAt ns i 1) b → Calling ns us here j u f r ns′ us j u f′
+  by-quick : {r : Answered} {ns′ f′ : List ℕ} → quick ns i b ≡ true → r ≡ inNumbers Nothing → ns′ ≡ oneMore ns i → f′ ≡ set f (frameStart i + numberAt ns i 1) b → Calling ns us here j u f r ns′ us j u f′
   by-quick q p n g = by-step ns us here j u f h s (quick-within ns i b q) (as-called (stepped Collects (collects q)) (record {
     result = p;
     numbers = n ∙ sym (count-back ns us i h (quick-within ns i b q) (numberAt ns i 1 + 1));
-    used = sym (used-back ns us i h);
+    counts = sym (used-back ns us i h);
     journal = refl;
     unfinished = refl;
     frames = g;
@@ -171,7 +171,7 @@ module _ (ns us : List ℕ) (i b : ℕ) (j u f : List ℕ) (h : i < lines) (s : 
 
   -- and one that was, or was not
   module _ {t : Bool} {ns₁ f₁ : List ℕ} (x : Collected ns i b f t ns₁ f₁) where
-    pub by-collected : {r : Answered} → t ≡ true → r ≡ told Nothing → Calling ns us here j u f r ns₁ us j u f₁
+    pub by-collected : {r : Answered} → t ≡ true → r ≡ inNumbers Nothing → Calling ns us here j u f r ns₁ us j u f₁
     by-collected p q =
         let is : isCollected ns i b f ≡ true = sym (x .result) ∙ p in
         by-quick (collected-quick is) q (x .numbers ∙ rw is) (x .frames ∙ rw is)
@@ -195,15 +195,15 @@ module _ (ns us : List ℕ) (e : Event) (j u f : List ℕ) (h : e .line < lines)
   begin-verdict (Byte b) p q =
       let stx-is = and-left (is stx b) (eqb (firstAt ns (e .line)) waiting) q in
       let between = eqb-true (firstAt ns (e .line)) waiting (and-right (is stx b) (eqb (firstAt ns (e .line)) waiting) q) in
-      rw (lt-ltb (e .line) lines h, s, told-within ns (e .line) w, p, between, stx-is)
+      rw (lt-ltb (e .line) lines h, s, line-within ns (e .line) w, p, between, stx-is)
   begin-verdict (Seconds n) p q = clash cc
 
-  by-begin : {ns′ : List ℕ} → begins ns (e .line) (e .kind) ≡ true → ns′ ≡ insideAt ns (e .line) → Calling ns us e j u f (told Nothing) ns′ us j u f
+  by-begin : {ns′ : List ℕ} → begins ns (e .line) (e .kind) ≡ true → ns′ ≡ insideAt ns (e .line) → Calling ns us e j u f (inNumbers Nothing) ns′ us j u f
   unfolding stepOf
   by-begin q n = by-step ns us e j u f h s w (as-called (ap (λ (x : Verdict). putBack ns us (e .line) (settle x (lineOf ns (e .line)) (ledgerOf ns us) e (memoryOf j u f))) (begin-verdict (e .kind) refl q)) (record {
     result = refl;
     numbers = n ∙ sym (begun-back ns us (e .line) h w);
-    used = sym (used-back ns us (e .line) h);
+    counts = sym (used-back ns us (e .line) h);
     journal = refl;
     unfinished = refl;
     frames = refl;
@@ -215,7 +215,7 @@ module _ (ns us : List ℕ) (e : Event) (j u f : List ℕ) (s : rightLengths (le
   unfolding isBegun
   starts is = and-right (ltb (e .line) lines) (begins ns (e .line) (e .kind)) is
 
-  pub by-begun : {r : Answered} → t ≡ true → r ≡ told Nothing → Calling ns us e j u f r ns₁ us j u f
+  pub by-begun : {r : Answered} → t ≡ true → r ≡ inNumbers Nothing → Calling ns us e j u f r ns₁ us j u f
   by-begun p q =
       let is : isBegun ns (e .line) (e .kind) ≡ true = sym (x .result) ∙ p in
       let (h, within) = within-facts ns (e .line) w in
@@ -233,10 +233,10 @@ module _ (ns us : List ℕ) (e : Event) (j u f : List ℕ) (s : rightLengths (le
       let (h, within) = within-facts ns (e .line) w in
       by-step ns us e j u f h s within y
 
--- the record that the numbers tell
-pub record-told : (ns us : List ℕ) (e : Event) (j u f : List ℕ) {l : Line} {r : Answered} {ns′ us′ j′ u′ f′ : List ℕ} → isWithin ns (e .line) ≡ true → l ≡ recordOf ns (e .line) → Stepping ns us l e j u f r ns′ us′ j′ u′ f′
+-- the record that the numbers stand for
+pub record-read : (ns us : List ℕ) (e : Event) (j u f : List ℕ) {l : Line} {r : Answered} {ns′ us′ j′ u′ f′ : List ℕ} → isWithin ns (e .line) ≡ true → l ≡ recordOf ns (e .line) → Stepping ns us l e j u f r ns′ us′ j′ u′ f′
     → Stepping ns us (lineOf ns (e .line)) e j u f r ns′ us′ j′ u′ f′
-record-told ns us e j u f {l} {r} {ns′} {us′} {j′} {u′} {f′} w q c =
+record-read ns us e j u f {l} {r} {ns′} {us′} {j′} {u′} {f′} w q c =
     let k : l ≡ lineOf ns (e .line) = q ∙ rw w in
     subst (λ (x : Line). Stepping ns us x e j u f r ns′ us′ j′ u′ f′) k c
 
@@ -246,24 +246,24 @@ module _ (ns us : List ℕ) (i : ℕ) (j b : List ℕ) where
   narrow-taken d q w = subst (λ (x : Taking). Narrow (x .ledger)) (sym q) (taking-narrow d i j b w)
 
   -- 40, before the ledger is read
-  pub taken-nowhere : {r : Answered} → lines ≤ i → r ≡ told NoLine → Taken ns us i j b r us j b
-  unfolding toldTaking
+  pub taken-nowhere : {r : Answered} → lines ≤ i → r ≡ inNumbers NoLine → Taken ns us i j b r us j b
+  unfolding takingInNumbers
   taken-nowhere h a =
       let n = taken-line (ledgerOf ns us) i j b h in
       record {
-        result = a ∙ ap (λ (z : Taking). toldTaking (z .answer)) (n .result);
-        used = rw (le-ltb i lines h);
+        result = a ∙ ap (λ (z : Taking). takingInNumbers (z .answer)) (n .result);
+        counts = rw (le-ltb i lines h);
         journal = n .after;
         buffer = n .lent;
       }
 
-  pub taken-there : {d : Ledger} {t : Taking} {us′ j′ b′ : List ℕ} {r : Answered} → i < lines → d ≡ ledgerOf ns us → TakenFrom d i j b t j′ b′ → r ≡ toldTaking (t .answer) → us′ ≡ countsAfter us i (getD (t .ledger .used) i 0) (t .ledger .in_use)
+  pub taken-there : {d : Ledger} {t : Taking} {us′ j′ b′ : List ℕ} {r : Answered} → i < lines → d ≡ ledgerOf ns us → TakenFrom d i j b t j′ b′ → r ≡ takingInNumbers (t .answer) → us′ ≡ countsAfter us i (getD (t .ledger .used) i 0) (t .ledger .in_use)
       → Taken ns us i j b r us′ j′ b′
   taken-there {d} {t} {us′} {j′} {b′} {r} h p x q o =
       let y : TakenFrom (ledgerOf ns us) i j b t j′ b′ = rw (← p) x in
       record {
-        result = q ∙ ap (λ (z : Taking). toldTaking (z .answer)) (y .result);
-        used = rw (lt-ltb i lines h) (o ∙ there i us (withUsed us i (t .ledger)) h ∙ ap (λ (z : Taking). withUsed us i (z .ledger)) (y .result));
+        result = q ∙ ap (λ (z : Taking). takingInNumbers (z .answer)) (y .result);
+        counts = rw (lt-ltb i lines h) (o ∙ there i us (withUsed us i (t .ledger)) h ∙ ap (λ (z : Taking). withUsed us i (z .ledger)) (y .result));
         journal = y .after;
         buffer = y .lent;
       }

@@ -20,26 +20,26 @@ use Rattle.receiving.specs.Alone.{decideOf}
 use Rattle.looking.specs.declared.Event.{Event}
 use Rattle.taking.specs.Taking.{tookAnswer}
 use Rattle.receiving.specs.declared.Stepped.{Stepped}
-use Rattle.numbers.specs.Plain.{withinNumbers, lineOf, withLine, ledgerOf, withSerial, withUsed, told}
+use Rattle.numbers.specs.Plain.{withinNumbers, lineOf, withLine, ledgerOf, withSerial, withUsed, inNumbers}
 use Rattle.numbers.specs.declared.Answered.{Answered}
 
 -- the answer, the numbers and the lent memory after an event
 pub record AfterCall : Type 0 where
   pub answered : Answered
   pub numbers : List ℕ
-  pub used : List ℕ
+  pub counts : List ℕ
   pub memory : Memory
 
 -- nothing changed
 abbrev pub refused : Answer → List ℕ → List ℕ → Memory → AfterCall
-refused a ns us m = record { answered = told a; numbers = ns; used = us; memory = m }
+refused a ns us m = record { answered = inNumbers a; numbers = ns; counts = us; memory = m }
 
 -- the step's outcome put back into the numbers
 abbrev pub putBack : List ℕ → List ℕ → ℕ → AfterStep → AfterCall
 putBack ns us i s = record {
-  answered = told (s .stepped .answer);
+  answered = inNumbers (s .stepped .answer);
   numbers = withSerial (withLine ns i (s .stepped .line)) i (s .stepped .ledger);
-  used = withUsed us i (s .stepped .ledger);
+  counts = withUsed us i (s .stepped .ledger);
   memory = s .memory;
 }
 
@@ -55,7 +55,7 @@ callOf ns us e m =
 pub record Called (s : AfterCall) (r : Answered) (ns us j u f : List ℕ) : Type 0 where
   pub result : r ≡ s .answered
   pub numbers : ns ≡ s .numbers
-  pub used : us ≡ s .used
+  pub counts : us ≡ s .counts
   pub journal : j ≡ s .memory .journal
   pub unfinished : u ≡ s .memory .unfinished
   pub frames : f ≡ s .memory .frames
@@ -76,25 +76,25 @@ abbrev pub Narrow : Ledger → Type 0
 Narrow d = d .in_use < 2 ^ 32
 
 pub record PutBack (ns us : List ℕ) (i : ℕ) (s : Stepped) (r : Answered) (ns′ us′ : List ℕ) : Type 0 where
-  pub result : r ≡ told (s .answer)
+  pub result : r ≡ inNumbers (s .answer)
   pub numbers : ns′ ≡ withSerial (withLine ns i (s .line)) i (s .ledger)
-  pub used : us′ ≡ withUsed us i (s .ledger)
+  pub counts : us′ ≡ withUsed us i (s .ledger)
 
 -- the answer to a taking: for 8 the text's length and the serial
-unfoldable pub toldTaking : Took → Answered
-toldTaking (Took.Taken n serial) = record { number = numberOf (Answer.Taken n serial); reply = 0; serial = serial; place = 0; digits = 0; length = n }
-toldTaking Took.NothingWaiting = told (tookAnswer Took.NothingWaiting)
-toldTaking Took.BufferShort = told (tookAnswer Took.BufferShort)
-toldTaking Took.Broken = told (tookAnswer Took.Broken)
-toldTaking Took.NoLine = told (tookAnswer Took.NoLine)
-toldTaking Took.WrongSize = told (tookAnswer Took.WrongSize)
+unfoldable pub takingInNumbers : Took → Answered
+takingInNumbers (Took.Taken n serial) = record { number = numberOf (Answer.Taken n serial); reply = 0; serial = serial; place = 0; digits = 0; length = n }
+takingInNumbers Took.NothingWaiting = inNumbers (tookAnswer Took.NothingWaiting)
+takingInNumbers Took.BufferShort = inNumbers (tookAnswer Took.BufferShort)
+takingInNumbers Took.Broken = inNumbers (tookAnswer Took.Broken)
+takingInNumbers Took.NoLine = inNumbers (tookAnswer Took.NoLine)
+takingInNumbers Took.WrongSize = inNumbers (tookAnswer Took.WrongSize)
 
--- a taking: the journal's, of the ledger that the numbers tell; on no line (40) nothing is written
+-- a taking: the journal's, of the ledger that the numbers stand for; on no line (40) nothing is written
 abbrev pub usedAfter : List ℕ → ℕ → AfterTaking → List ℕ
 usedAfter us i t = unless (ltb i lines) us (withUsed us i (t .taking .ledger))
 
 pub record Taken (ns us : List ℕ) (i : ℕ) (j b : List ℕ) (r : Answered) (us′ j′ b′ : List ℕ) : Type 0 where
-  pub result : r ≡ toldTaking (takeOf (ledgerOf ns us) i j b .taking .answer)
-  pub used : us′ ≡ usedAfter us i (takeOf (ledgerOf ns us) i j b)
+  pub result : r ≡ takingInNumbers (takeOf (ledgerOf ns us) i j b .taking .answer)
+  pub counts : us′ ≡ usedAfter us i (takeOf (ledgerOf ns us) i j b)
   pub journal : j′ ≡ takeOf (ledgerOf ns us) i j b .journal
   pub buffer : b′ ≡ takeOf (ledgerOf ns us) i j b .buffer

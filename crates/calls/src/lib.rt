@@ -7,9 +7,9 @@ ghost use lib.ListN.{length};
 ghost use Rattle.looking.specs.Lent.{rightLengths};
 ghost use Rattle.looking.specs.Answers.{answerOf};
 ghost use Rattle.memory.specs.Sizes.{lines};
-ghost use Rattle.numbers.specs.Plain.{told as Plain·told, lineOf, withLine};
+ghost use Rattle.numbers.specs.Plain.{inNumbers as Plain·inNumbers, lineOf, withLine};
 ghost use Rattle.numbers.specs.Changes.{isWithin};
-ghost use Rattle.calls.specs.Calls.{Calling, Stepping, Deciding, PutBack, Narrow, Taken, toldTaking};
+ghost use Rattle.calls.specs.Calls.{Calling, Stepping, Deciding, PutBack, Narrow, Taken, takingInNumbers};
 use answers::Answer;
 use journal::Took;
 use layout::COUNTS;
@@ -30,29 +30,29 @@ pub fn byte(
     line: u8,
     byte: u8,
     numbers: &mut [u16; NUMBERS],
-    used: &mut [u32; COUNTS],
+    counts: &mut [u32; COUNTS],
     journal: &mut [u8],
     unfinished: &mut [u8],
     frames: &mut [u8],
 ) -> Answered
-    ensures { λ r. ⌜ Calling (now (numbers .entry)) (now (used .entry)) (record { line = line; kind = Byte byte }) (now (journal .entry)) (now (unfinished .entry)) (now (frames .entry))
-        r (now (numbers .exit)) (now (used .exit)) (now (journal .exit)) (now (unfinished .exit)) (now (frames .exit)) ⌝ }
+    ensures { λ r. ⌜ Calling (now (numbers .entry)) (now (counts .entry)) (record { line = line; kind = Byte byte }) (now (journal .entry)) (now (unfinished .entry)) (now (frames .entry))
+        r (now (numbers .exit)) (now (counts .exit)) (now (journal .exit)) (now (unfinished .exit)) (now (frames .exit)) ⌝ }
 {
     let i = line as usize;
     if memory::LINES <= i {
-        return numbers::told(Answer::NoLine);
+        return numbers::in_numbers(Answer::NoLine);
     }
     if !looking::are_right(journal.len(), unfinished.len(), frames.len()) {
-        return numbers::told(Answer::WrongSize);
+        return numbers::in_numbers(Answer::WrongSize);
     }
     if numbers::collect(i, byte, numbers, frames) {
-        return numbers::told(Answer::Nothing);
+        return numbers::in_numbers(Answer::Nothing);
     }
     let e = Event {
         line,
         kind: Kind::Byte(byte),
     };
-    event(e, numbers, used, journal, unfinished, frames)
+    event(e, numbers, counts, journal, unfinished, frames)
 }
 
 // Seconds have passed on a line.
@@ -60,64 +60,64 @@ pub fn seconds(
     line: u8,
     seconds: u8,
     numbers: &mut [u16; NUMBERS],
-    used: &mut [u32; COUNTS],
+    counts: &mut [u32; COUNTS],
     journal: &mut [u8],
     unfinished: &mut [u8],
     frames: &mut [u8],
 ) -> Answered
-    ensures { λ r. ⌜ Calling (now (numbers .entry)) (now (used .entry)) (record { line = line; kind = Seconds seconds }) (now (journal .entry)) (now (unfinished .entry)) (now (frames .entry))
-        r (now (numbers .exit)) (now (used .exit)) (now (journal .exit)) (now (unfinished .exit)) (now (frames .exit)) ⌝ }
+    ensures { λ r. ⌜ Calling (now (numbers .entry)) (now (counts .entry)) (record { line = line; kind = Seconds seconds }) (now (journal .entry)) (now (unfinished .entry)) (now (frames .entry))
+        r (now (numbers .exit)) (now (counts .exit)) (now (journal .exit)) (now (unfinished .exit)) (now (frames .exit)) ⌝ }
 {
     let i = line as usize;
     if memory::LINES <= i {
-        return numbers::told(Answer::NoLine);
+        return numbers::in_numbers(Answer::NoLine);
     }
     if !looking::are_right(journal.len(), unfinished.len(), frames.len()) {
-        return numbers::told(Answer::WrongSize);
+        return numbers::in_numbers(Answer::WrongSize);
     }
     let e = Event {
         line,
         kind: Kind::Seconds(seconds),
     };
-    event(e, numbers, used, journal, unfinished, frames)
+    event(e, numbers, counts, journal, unfinished, frames)
 }
 
-// An event past 40 and 41: numbers that tell no record are 42; STX between frames only begins one, and needs no record; any other is stepped.
+// An event past 40 and 41: numbers that are no record are 42; STX between frames only begins one, and needs no record; any other is stepped.
 fn event(
     e: Event,
     numbers: &mut [u16; NUMBERS],
-    used: &mut [u32; COUNTS],
+    counts: &mut [u32; COUNTS],
     journal: &mut [u8],
     unfinished: &mut [u8],
     frames: &mut [u8],
 ) -> Answered
     requires { ⌜ (e .line < lines) × (rightLengths (length (now journal)) (length (now unfinished)) (length (now frames)) ≡ true) ⌝ }
-    ensures { λ r. ⌜ Calling (now (numbers .entry)) (now (used .entry)) e (now (journal .entry)) (now (unfinished .entry)) (now (frames .entry))
-        r (now (numbers .exit)) (now (used .exit)) (now (journal .exit)) (now (unfinished .exit)) (now (frames .exit)) ⌝ }
+    ensures { λ r. ⌜ Calling (now (numbers .entry)) (now (counts .entry)) e (now (journal .entry)) (now (unfinished .entry)) (now (frames .entry))
+        r (now (numbers .exit)) (now (counts .exit)) (now (journal .exit)) (now (unfinished .exit)) (now (frames .exit)) ⌝ }
 {
     let i = e.line as usize;
     if !numbers::is_within(numbers, i) {
-        return numbers::told(Answer::BeyondLimits);
+        return numbers::in_numbers(Answer::BeyondLimits);
     }
     let kind = e.kind;
     if numbers::begin(i, kind, numbers) {
-        return numbers::told(Answer::Nothing);
+        return numbers::in_numbers(Answer::Nothing);
     }
-    step(e, numbers, used, journal, unfinished, frames)
+    step(e, numbers, counts, journal, unfinished, frames)
 }
 
-// The step on the line alone, its record told from the numbers and put back into them; a message that is complete is decided.
+// The step on the line alone, its record read from the numbers and put back into them; a message that is complete is decided.
 fn step(
     e: Event,
     numbers: &mut [u16; NUMBERS],
-    used: &mut [u32; COUNTS],
+    counts: &mut [u32; COUNTS],
     journal: &mut [u8],
     unfinished: &mut [u8],
     frames: &mut [u8],
 ) -> Answered
     requires { ⌜ (e .line < lines) × (isWithin (now numbers) (e .line) ≡ true) ⌝ }
-    ensures { λ r. ⌜ Stepping (now (numbers .entry)) (now (used .entry)) (lineOf (now (numbers .entry)) (e .line)) e (now (journal .entry)) (now (unfinished .entry)) (now (frames .entry))
-        r (now (numbers .exit)) (now (used .exit)) (now (journal .exit)) (now (unfinished .exit)) (now (frames .exit)) ⌝ }
+    ensures { λ r. ⌜ Stepping (now (numbers .entry)) (now (counts .entry)) (lineOf (now (numbers .entry)) (e .line)) e (now (journal .entry)) (now (unfinished .entry)) (now (frames .entry))
+        r (now (numbers .exit)) (now (counts .exit)) (now (journal .exit)) (now (unfinished .exit)) (now (frames .exit)) ⌝ }
 {
     let i = e.line as usize;
     let record = numbers::record_of(numbers, i);
@@ -125,37 +125,37 @@ fn step(
     let look = alone.look;
     match look {
         Look::Done(v) => leave(e.line, alone.line, v, numbers),
-        Look::Decides(n) => decide(record, e, n, numbers, used, journal, unfinished, frames),
+        Look::Decides(n) => decide(record, e, n, numbers, counts, journal, unfinished, frames),
     }
 }
 
 // What a step on the line alone leaves: its record put back, and its answer.
 fn leave(i: u8, line: Line, v: Verdict, numbers: &mut [u16; NUMBERS]) -> Answered
     requires { ⌜ i < lines ⌝ }
-    ensures { λ r. ⌜ (now (numbers .exit) ≡ withLine (now (numbers .entry)) i line) × (r ≡ Plain·told (answerOf v)) ⌝ }
+    ensures { λ r. ⌜ (now (numbers .exit) ≡ withLine (now (numbers .entry)) i line) × (r ≡ Plain·inNumbers (answerOf v)) ⌝ }
 {
     numbers::put_record(numbers, i as usize, line);
-    numbers::told(v.answer())
+    numbers::in_numbers(v.answer())
 }
 
-// A message that is complete: the ledger told from the numbers, the decision, and its outcome put back into the numbers.
+// A message that is complete: the ledger read from the numbers, the decision, and its outcome put back into the numbers.
 fn decide(
     line: Line,
     e: Event,
     n: usize,
     numbers: &mut [u16; NUMBERS],
-    used: &mut [u32; COUNTS],
+    counts: &mut [u32; COUNTS],
     journal: &mut [u8],
     unfinished: &mut [u8],
     frames: &mut [u8],
 ) -> Answered
     requires { ⌜ e .line < lines ⌝ }
-    ensures { λ r. ⌜ Deciding (now (numbers .entry)) (now (used .entry)) line e n (now (journal .entry)) (now (unfinished .entry)) (now (frames .entry))
-        r (now (numbers .exit)) (now (used .exit)) (now (journal .exit)) (now (unfinished .exit)) (now (frames .exit)) ⌝ }
+    ensures { λ r. ⌜ Deciding (now (numbers .entry)) (now (counts .entry)) line e n (now (journal .entry)) (now (unfinished .entry)) (now (frames .entry))
+        r (now (numbers .exit)) (now (counts .exit)) (now (journal .exit)) (now (unfinished .exit)) (now (frames .exit)) ⌝ }
 {
-    let ledger = numbers::ledger_of(numbers, used);
+    let ledger = numbers::ledger_of(numbers, counts);
     let s = receiving::decide(line, ledger, e, n, journal, unfinished, frames);
-    put_back(e.line, s, numbers, used)
+    put_back(e.line, s, numbers, counts)
 }
 
 // The outcome of a decision put back: the line's record, its serial, its used count with the bytes in use; and the answer.
@@ -163,45 +163,45 @@ fn put_back(
     line: u8,
     s: Stepped,
     numbers: &mut [u16; NUMBERS],
-    used: &mut [u32; COUNTS],
+    counts: &mut [u32; COUNTS],
 ) -> Answered
     requires { ⌜ (line < lines) × Narrow (s .ledger) ⌝ }
-    ensures { λ r. ⌜ PutBack (now (numbers .entry)) (now (used .entry)) line s r (now (numbers .exit)) (now (used .exit)) ⌝ }
+    ensures { λ r. ⌜ PutBack (now (numbers .entry)) (now (counts .entry)) line s r (now (numbers .exit)) (now (counts .exit)) ⌝ }
 {
     let i = line as usize;
     let booked = s.ledger;
     let answer = s.answer;
     numbers::put_record(numbers, i, s.line);
     numbers::put_serial(numbers, i, booked.serials[i]);
-    numbers::put_used(used, i, booked.used[i], booked.in_use as u32);
-    numbers::told(answer)
+    numbers::put_used(counts, i, booked.used[i], booked.in_use as u32);
+    numbers::in_numbers(answer)
 }
 
 // The text of a line's oldest entry goes to the start of the buffer.
 pub fn take(
     line: u8,
     numbers: &[u16; NUMBERS],
-    used: &mut [u32; COUNTS],
+    counts: &mut [u32; COUNTS],
     journal: &mut [u8],
     buffer: &mut [u8],
 ) -> Answered
-    ensures { λ r. ⌜ Taken (now (numbers .entry)) (now (used .entry)) line (now (journal .entry)) (now (buffer .entry)) r (now (used .exit)) (now (journal .exit)) (now (buffer .exit)) ⌝ }
+    ensures { λ r. ⌜ Taken (now (numbers .entry)) (now (counts .entry)) line (now (journal .entry)) (now (buffer .entry)) r (now (counts .exit)) (now (journal .exit)) (now (buffer .exit)) ⌝ }
 {
     let i = line as usize;
     if memory::LINES <= i {
-        return numbers::told(Answer::NoLine);
+        return numbers::in_numbers(Answer::NoLine);
     }
-    let ledger = numbers::ledger_of(numbers, used);
+    let ledger = numbers::ledger_of(numbers, counts);
     let taking = journal::take(ledger, line, journal, buffer);
     let booked = taking.ledger;
     let took = taking.answer;
-    numbers::put_used(used, i, booked.used[i], booked.in_use as u32);
-    told_taking(took)
+    numbers::put_used(counts, i, booked.used[i], booked.in_use as u32);
+    taking_in_numbers(took)
 }
 
 // The answer to a taking; only 8 has values.
-fn told_taking(took: Took) -> Answered
-    ensures { λ r. ⌜ r ≡ toldTaking took ⌝ }
+fn taking_in_numbers(took: Took) -> Answered
+    ensures { λ r. ⌜ r ≡ takingInNumbers took ⌝ }
 {
     match took {
         Took::Taken(length, serial) => Answered {
@@ -212,10 +212,10 @@ fn told_taking(took: Took) -> Answered
             digits: 0,
             length,
         },
-        Took::NothingWaiting => numbers::told(taking::answer_to(took)),
-        Took::BufferShort => numbers::told(taking::answer_to(took)),
-        Took::Broken => numbers::told(taking::answer_to(took)),
-        Took::NoLine => numbers::told(taking::answer_to(took)),
-        Took::WrongSize => numbers::told(taking::answer_to(took)),
+        Took::NothingWaiting => numbers::in_numbers(taking::answer_to(took)),
+        Took::BufferShort => numbers::in_numbers(taking::answer_to(took)),
+        Took::Broken => numbers::in_numbers(taking::answer_to(took)),
+        Took::NoLine => numbers::in_numbers(taking::answer_to(took)),
+        Took::WrongSize => numbers::in_numbers(taking::answer_to(took)),
     }
 }

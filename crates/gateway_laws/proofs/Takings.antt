@@ -53,10 +53,10 @@ pub taking-refused : (g : Gateway) (i : ℕ) (j b : List ℕ) → classOf (takeO
     → takeOf g i j b ≡ record { handled = record { gateway = g; answer = takeOf g i j b .handled .answer }; journal = j; buffer = b }
 unfolding takeOf
 taking-refused g i j b h =
-    ap told (unmoved (g .ledger) j b i h)
+    ap answered (unmoved (g .ledger) j b i h)
   where
-    told : AfterTaking → AfterTake
-    told x = record {
+    answered : AfterTaking → AfterTake
+    answered x = record {
       handled = record { gateway = record { lines = g .lines; ledger = x .taking .ledger }; answer = tookAnswer (x .taking .answer) };
       journal = x .journal;
       buffer = x .buffer;

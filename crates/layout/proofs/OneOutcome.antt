@@ -7,4 +7,4 @@ use Rattle.layout.specs.Layout.{Fresh}
 
 -- `fresh`
 pub fresh-once : {ns₁ us₁ ns₂ us₂ : List ℕ} → Fresh ns₁ us₁ → Fresh ns₂ us₂ → (ns₁ ≡ ns₂) × (us₁ ≡ us₂)
-fresh-once a b = (a .numbers ∙ sym (b .numbers), a .used ∙ sym (b .used))
+fresh-once a b = (a .numbers ∙ sym (b .numbers), a .counts ∙ sym (b .counts))

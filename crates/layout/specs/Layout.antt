@@ -55,4 +55,4 @@ freshNumbers (suc n) = freshLine ++ freshNumbers n
 -- every line fresh, the journal empty
 pub record Fresh (ns us : List ℕ) : Type 0 where
   pub numbers : ns ≡ freshNumbers lines
-  pub used : us ≡ replicate (lines + 1) 0
+  pub counts : us ≡ replicate (lines + 1) 0

@@ -1,7 +1,7 @@
-// What a host keeps in plain numbers (include/ngachodui.h calls the numbers `lines` and the used counts `counts`):
+// What a host keeps in plain numbers:
 //   numbers  eight for each line: state (0 neutral, 1 waiting, 2 inside), collected, joined, seconds, next number,
 //            last number (0 for none, else one more than it), refusing (0 or 1), the serial of its next entry
-//   used     each line's used count, then how many bytes of the journal are in use
+//   counts   each line's used count, then how many bytes of the journal are in use
 ghost use mathlib.Core.Path.{_≡_};
 ghost use Rattle.layout.specs.Layout.{layout, Fresh};
 
@@ -42,8 +42,8 @@ pub struct Layout {
 }
 
 // Every line fresh, the journal empty: each next number is 1, and all other numbers are 0.
-pub fn fresh(numbers: &mut [u16; NUMBERS], used: &mut [u32; COUNTS])
-    ensures { λ _. ⌜ Fresh (now (numbers .exit)) (now (used .exit)) ⌝ }
+pub fn fresh(numbers: &mut [u16; NUMBERS], counts: &mut [u32; COUNTS])
+    ensures { λ _. ⌜ Fresh (now (numbers .exit)) (now (counts .exit)) ⌝ }
 {
     *numbers = [0u16; NUMBERS];
     numbers[0 * FIELDS + NEXT] = 1;
@@ -54,7 +54,7 @@ pub fn fresh(numbers: &mut [u16; NUMBERS], used: &mut [u32; COUNTS])
     numbers[5 * FIELDS + NEXT] = 1;
     numbers[6 * FIELDS + NEXT] = 1;
     numbers[7 * FIELDS + NEXT] = 1;
-    *used = [0u32; COUNTS];
+    *counts = [0u32; COUNTS];
 }
 
 // The layout, for a host to compare with its own.

@@ -1,4 +1,4 @@
-pub mod Told
+pub mod Branches
 pub mod Tests
 pub mod Table
 pub mod Parts

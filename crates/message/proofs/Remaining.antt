@@ -47,7 +47,7 @@ l-behind s Terminator n h = refl
 l-behind s Comment n h = not-behind-l (s .other) Comment h
 l-behind s Manufacturer n h = not-behind-l (s .other) Manufacturer h
 
--- the last record: its place may be told behind it
+-- the last record: its place may be known behind it
 last-kind : (s : Counts) (l : Letter) (n place : ℕ)
     → isFaultless (after (kindStep s true l n) place (λ t. Message)) ≡ fineAnd (kindStep s false l n) (λ t. isTerminator (t .other))
 unfolding kindStep

@@ -1,4 +1,4 @@
--- The rest of a text behind some of its records: whether they and it are a message, and what an array of counts tells of those passed.
+-- The rest of a text behind some of its records: whether they and it are a message, and what an array of counts holds of those passed.
 -- Assumes nothing.
 use Prim.Native.Nat.{ℕ, _<_}
 use mathlib.Core.Path.{_≡_}
@@ -31,19 +31,19 @@ goOn d s (r ∷ rs) = fineAnd (recordStep d s false r) (λ t. goOn d t rs)
 unfoldable pub rightRest : Delimiters → Counts → List ℕ → Bool
 rightRest d s text = all allowed text && goOn d s (records text)
 
--- the counts that the last other record's row and an array tell, a count for each row
+-- the counts that the last other record's row and an array hold, a count for each row
 abbrev pub countsOf : ℕ → List ℕ → Counts
 countsOf other ns =
     record { other = kindAt other; patients = getD ns 1 0; queries = getD ns 4 0; orders = getD ns 2 0; results = getD ns 3 0; comments = getD ns 6 0; manufacturers = getD ns 7 0 }
 
 -- a row and a count for each of the eight; as nothing follows L, none was counted unless it is the last
-abbrev pub Telling : ℕ → List ℕ → Type 0
-Telling other ns = (other < 8) × (length ns ≡ 8) × ((other ≡ 5 → ⊥) → getD ns 5 0 ≡ 0)
+abbrev pub Tally : ℕ → List ℕ → Type 0
+Tally other ns = (other < 8) × (length ns ≡ 8) × ((other ≡ 5 → ⊥) → getD ns 5 0 ≡ 0)
 
--- a record's step as a row and an array tell it: row 8 where it is wrong
+-- a record's step as a row and an array hold it: row 8 where it is wrong
 abbrev pub LedTo : Step → ℕ → List ℕ → Type 0
 LedTo (Wrong f) other ns = other ≡ 8
-LedTo (Fine s) other ns = (s ≡ countsOf other ns) × Telling other ns
+LedTo (Fine s) other ns = (s ≡ countsOf other ns) × Tally other ns
 
 -- each entry of a table of followers is its rule's
 abbrev pub Follows : List (List Bool) → Type 0

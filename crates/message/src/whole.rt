@@ -11,7 +11,7 @@ ghost use Rattle.records.specs.Fields.{before};
 ghost use Rattle.records.specs.Records.{endsWithCr};
 ghost use Rattle.sequence.specs.Numbers.{numberOf, started, counted};
 ghost use Rattle.faults.specs.Faults.{recordStep};
-ghost use Rattle.message.specs.Rest.{breaks, rightRest, countsOf, Telling, LedTo, Follows};
+ghost use Rattle.message.specs.Rest.{breaks, rightRest, countsOf, Tally, LedTo, Follows};
 use kinds::Delimiters;
 
 // The rows of the table of followers; and what stands for none, and for a fault.
@@ -116,8 +116,8 @@ fn number_at(b: u8, text: &[u8]) -> u32
 
 // The counts behind a record of a row with number n, and the row of the last other record: C and M are passed over.
 fn count_on(counts: &mut [u32; 8], other: usize, row: usize, n: u32) -> usize
-    requires { ⌜ (0 < row) × (row < 8) × (other ≡ 5 → ⊥) × Telling other (now counts) ⌝ }
-    ensures { λ r. ⌜ (countsOf r (now (counts .exit)) ≡ counted (countsOf other (now (counts .entry))) (kindAt row) n) × Telling r (now (counts .exit)) ⌝ }
+    requires { ⌜ (0 < row) × (row < 8) × (other ≡ 5 → ⊥) × Tally other (now counts) ⌝ }
+    ensures { λ r. ⌜ (countsOf r (now (counts .exit)) ≡ counted (countsOf other (now (counts .entry))) (kindAt row) n) × Tally r (now (counts .exit)) ⌝ }
 {
     counts[row] = n;
     if TERMINATOR < row {
@@ -145,7 +145,7 @@ fn lead(
     counts: &mut [u32; 8],
     text: &[u8],
 ) -> usize
-    requires { ⌜ (d .field ≡ cr → ⊥) × Follows (now followers) × Telling other (now counts) × (endsWithCr (now text) ≡ true) ⌝ }
+    requires { ⌜ (d .field ≡ cr → ⊥) × Follows (now followers) × Tally other (now counts) × (endsWithCr (now text) ≡ true) ⌝ }
     ensures { λ r. ⌜ LedTo (recordStep d (countsOf other (now (counts .entry))) false (before cr (now (text .entry)))) r (now (counts .exit)) ⌝ }
 {
     let row = row_at(d.field, text);

@@ -16,15 +16,15 @@ pub extern "C" fn ngachodui_byte(
     line: u8,
     byte: u8,
     numbers: &mut [u16; layout::NUMBERS],
-    used: &mut [u32; layout::COUNTS],
+    counts: &mut [u32; layout::COUNTS],
     journal: &mut [u8],
     unfinished: &mut [u8],
     frames: &mut [u8],
 ) -> Answered
-    ensures { λ r. ⌜ Calling (now (numbers .entry)) (now (used .entry)) (record { line = line; kind = Byte byte }) (now (journal .entry)) (now (unfinished .entry)) (now (frames .entry))
-        r (now (numbers .exit)) (now (used .exit)) (now (journal .exit)) (now (unfinished .exit)) (now (frames .exit)) ⌝ }
+    ensures { λ r. ⌜ Calling (now (numbers .entry)) (now (counts .entry)) (record { line = line; kind = Byte byte }) (now (journal .entry)) (now (unfinished .entry)) (now (frames .entry))
+        r (now (numbers .exit)) (now (counts .exit)) (now (journal .exit)) (now (unfinished .exit)) (now (frames .exit)) ⌝ }
 {
-    calls::byte(line, byte, numbers, used, journal, unfinished, frames)
+    calls::byte(line, byte, numbers, counts, journal, unfinished, frames)
 }
 
 // Seconds have passed on a line.
@@ -33,15 +33,15 @@ pub extern "C" fn ngachodui_seconds(
     line: u8,
     seconds: u8,
     numbers: &mut [u16; layout::NUMBERS],
-    used: &mut [u32; layout::COUNTS],
+    counts: &mut [u32; layout::COUNTS],
     journal: &mut [u8],
     unfinished: &mut [u8],
     frames: &mut [u8],
 ) -> Answered
-    ensures { λ r. ⌜ Calling (now (numbers .entry)) (now (used .entry)) (record { line = line; kind = Seconds seconds }) (now (journal .entry)) (now (unfinished .entry)) (now (frames .entry))
-        r (now (numbers .exit)) (now (used .exit)) (now (journal .exit)) (now (unfinished .exit)) (now (frames .exit)) ⌝ }
+    ensures { λ r. ⌜ Calling (now (numbers .entry)) (now (counts .entry)) (record { line = line; kind = Seconds seconds }) (now (journal .entry)) (now (unfinished .entry)) (now (frames .entry))
+        r (now (numbers .exit)) (now (counts .exit)) (now (journal .exit)) (now (unfinished .exit)) (now (frames .exit)) ⌝ }
 {
-    calls::seconds(line, seconds, numbers, used, journal, unfinished, frames)
+    calls::seconds(line, seconds, numbers, counts, journal, unfinished, frames)
 }
 
 // The text of a line's oldest entry goes to the start of the buffer.
@@ -49,24 +49,24 @@ pub extern "C" fn ngachodui_seconds(
 pub extern "C" fn ngachodui_take(
     line: u8,
     numbers: &[u16; layout::NUMBERS],
-    used: &mut [u32; layout::COUNTS],
+    counts: &mut [u32; layout::COUNTS],
     journal: &mut [u8],
     buffer: &mut [u8],
 ) -> Answered
-    ensures { λ r. ⌜ Taken (now (numbers .entry)) (now (used .entry)) line (now (journal .entry)) (now (buffer .entry)) r (now (used .exit)) (now (journal .exit)) (now (buffer .exit)) ⌝ }
+    ensures { λ r. ⌜ Taken (now (numbers .entry)) (now (counts .entry)) line (now (journal .entry)) (now (buffer .entry)) r (now (counts .exit)) (now (journal .exit)) (now (buffer .exit)) ⌝ }
 {
-    calls::take(line, numbers, used, journal, buffer)
+    calls::take(line, numbers, counts, journal, buffer)
 }
 
 // Every line fresh, the journal empty. The version of the layout ends the name: an object of another version finds no such function.
 #[no_mangle]
 pub extern "C" fn ngachodui_fresh_1(
     numbers: &mut [u16; layout::NUMBERS],
-    used: &mut [u32; layout::COUNTS],
+    counts: &mut [u32; layout::COUNTS],
 )
-    ensures { λ _. ⌜ Fresh (now (numbers .exit)) (now (used .exit)) ⌝ }
+    ensures { λ _. ⌜ Fresh (now (numbers .exit)) (now (counts .exit)) ⌝ }
 {
-    layout::fresh(numbers, used);
+    layout::fresh(numbers, counts);
 }
 
 // The layout, for a host to compare with its own.

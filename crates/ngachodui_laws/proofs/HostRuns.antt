@@ -1,4 +1,4 @@
--- A host's run from numbers in order is the gateway's run: the same answers, and at its end the numbers tell the gateway's state. So what is promised of runs holds for hosts.
+-- A host's run from numbers in order is the gateway's run: the same answers, and at its end the numbers stand for the gateway's state. So what is promised of runs holds for hosts.
 -- Assumes nothing.
 use mathlib.Core.Path.{_≡_, refl, sym, ap, subst, _∙_}
 use mathlib.Core.Bool.{Bool, true, false, cond, not, _&&_, _||_}
@@ -23,16 +23,16 @@ use Rattle.gateway_laws.specs.Classes.{Class, quiet, opening, closing, refusing
 use Rattle.gateway_laws.proofs.Rows.{Of, of-class}
 use Rattle.gateway_laws.proofs.Proper.{verdict-proper}
 use Rattle.serial.specs.Serial.{event, taking, annotate, final, Every}
-use Rattle.promises.specs.Machine.{State, Told, GatewayItem, onLine, step, Sound, May}
+use Rattle.promises.specs.Machine.{State, Response, GatewayItem, onLine, step, Sound, May}
 use Rattle.promises.specs.Runs.{RightSizes, fresh, answered, isFault}
 use Rattle.promises.proofs.Runs.{always-sound, never-faulty}
-use Rattle.numbers.specs.Plain.{told}
-use Rattle.ngachodui_laws.specs.Hosting.{Tells}
-use Rattle.ngachodui_laws.specs.HostRuns.{HostState, gatewayState, InOrder, freshHost, HostTold, hostStep, Alike}
+use Rattle.numbers.specs.Plain.{inNumbers}
+use Rattle.ngachodui_laws.specs.Hosting.{Means}
+use Rattle.ngachodui_laws.specs.HostRuns.{HostState, gatewayState, InOrder, freshHost, HostResponse, hostStep, Alike}
 use Rattle.numbers.specs.declared.Answered.{Answered}
 use Rattle.ngachodui_laws.proofs.Hosts.{hosts-the-gateway, taking-hosts, fresh-hosts}
 
--- no event is answered 8, so what an event is told has all that its answer has
+-- no event is answered 8, so an event's answer in numbers has all that its answer has
 abbrev isGiving : Class → Bool
 isGiving quiet = false
 isGiving opening = false
@@ -66,9 +66,9 @@ plain-values false false (v ∷ vs) p q = clash cc
 plain-values false true vs p q = clash cc
 plain-values true eight vs p q = clash cc
 
-tells-event : (a : Answer) → isGiving (classOf a) ≡ false → Tells (told a) a
-unfolding told
-tells-event a h = record {
+means-event : (a : Answer) → isGiving (classOf a) ≡ false → Means (inNumbers a) a
+unfolding inNumbers
+means-event a h = record {
   number = refl;
   reply = refl;
   values = plain-values (isGiving (classOf a)) (eqb (numberOf a) 8) (valuesOf a) (every-answer isPlain (λ vs. refl) a) h;
@@ -87,25 +87,25 @@ event-gives g e m = by-line (ltb (e .line) lines)
 -- one call
 pub record OneCall (s : HostState) (e : GatewayItem) : Type 0 where
   pub state : gatewayState ((hostStep s e) .1) ≡ (step (gatewayState s) e) .1
-  pub tells : Tells ((hostStep s e) .0 .answered) ((step (gatewayState s) e) .0 .answer)
+  pub means : Means ((hostStep s e) .0 .answered) ((step (gatewayState s) e) .0 .answer)
   pub buffer : (hostStep s e) .0 .buffer ≡ (step (gatewayState s) e) .0 .buffer
   pub in-order : InOrder ((hostStep s e) .1)
 
 pub one-call : (s : HostState) → InOrder s → (e : GatewayItem) → OneCall s e
 one-call s o (event i k) =
     let g = gatewayState s .gateway in
-    let h = hosts-the-gateway (s .numbers) (s .used) o (onLine i k) (s .memory) in
+    let h = hosts-the-gateway (s .numbers) (s .counts) o (onLine i k) (s .memory) in
     record {
       state = λ z. record { gateway = h .gateway z; memory = h .memory z };
-      tells = subst (λ (x : Answered). Tells x (eventOf todaysShares g (onLine i k) (s .memory) .handled .answer)) (sym (h .answer)) (tells-event _ (event-gives g (onLine i k) (s .memory)));
+      means = subst (λ (x : Answered). Means x (eventOf todaysShares g (onLine i k) (s .memory) .handled .answer)) (sym (h .answer)) (means-event _ (event-gives g (onLine i k) (s .memory)));
       buffer = refl;
       in-order = h .ordered;
     }
 one-call s o (taking i b) =
-    let h = taking-hosts (s .numbers) (s .used) o i (s .memory .journal) b (record { result = refl; used = refl; journal = refl; buffer = refl }) in
+    let h = taking-hosts (s .numbers) (s .counts) o i (s .memory .journal) b (record { result = refl; counts = refl; journal = refl; buffer = refl }) in
     record {
       state = λ z. record { gateway = h .gateway z; memory = record { journal = h .journal z; unfinished = s .memory .unfinished; frames = s .memory .frames } };
-      tells = h .answer;
+      means = h .answer;
       buffer = h .buffer;
       in-order = h .ordered;
     }
@@ -115,7 +115,7 @@ pub runs-alike : (s : HostState) → InOrder s → (es : List GatewayItem) → A
 runs-alike s o [] = tt
 runs-alike s o (e ∷ es) =
     let c = one-call s o e in
-    (refl, c .tells, c .buffer, subst (λ (x : State). Alike (annotate hostStep ((hostStep s e) .1) es) (annotate step x es)) (c .state) (runs-alike ((hostStep s e) .1) (c .in-order) es))
+    (refl, c .means, c .buffer, subst (λ (x : State). Alike (annotate hostStep ((hostStep s e) .1) es) (annotate step x es)) (c .state) (runs-alike ((hostStep s e) .1) (c .in-order) es))
 
 pub ends-alike : (s : HostState) → InOrder s → (es : List GatewayItem) → gatewayState (final hostStep s es) ≡ final step (gatewayState s) es
 ends-alike s o [] = refl
@@ -127,8 +127,8 @@ pub stays-in-order : (s : HostState) → InOrder s → (es : List GatewayItem) �
 stays-in-order s o [] = o
 stays-in-order s o (e ∷ es) = stays-in-order ((hostStep s e) .1) (one-call s o e .in-order) es
 
--- so the promises of runs from fresh hold for hosts; two of them, told of the host's own numbers
-alike-faultless : (xs : List (GatewayItem × HostTold)) (ys : List (GatewayItem × Told)) → Alike xs ys → Every (λ y. isFault (answered (y .1)) ≡ false) ys → Every (λ x. isFault (x .1 .answered .number) ≡ false) xs
+-- so the promises of runs from fresh hold for hosts; two of them, of the host's own numbers
+alike-faultless : (xs : List (GatewayItem × HostResponse)) (ys : List (GatewayItem × Response)) → Alike xs ys → Every (λ y. isFault (answered (y .1)) ≡ false) ys → Every (λ x. isFault (x .1 .answered .number) ≡ false) xs
 alike-faultless [] [] a f = tt
 alike-faultless [] (y ∷ ys) a f = absurd a
 alike-faultless (x ∷ xs) [] a f = absurd a
@@ -136,7 +136,7 @@ alike-faultless (x ∷ xs) (y ∷ ys) a f = (ap isFault (a .1 .number) ∙ f .0,
 
 module _ (m : Memory) (sizes : RightSizes m) (es : List GatewayItem) (may : Every May es) where
   fresh-in-order : (gatewayState (freshHost m) .gateway ≡ freshGateway) × InOrder (freshHost m)
-  fresh-in-order = fresh-hosts (record { numbers = refl; used = refl })
+  fresh-in-order = fresh-hosts (record { numbers = refl; counts = refl })
 
   fresh-is : gatewayState (freshHost m) ≡ fresh m
   fresh-is = λ z. record { gateway = (fresh-in-order .0) z; memory = m }

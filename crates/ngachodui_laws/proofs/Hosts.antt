@@ -1,4 +1,4 @@
--- A host that calls with plain numbers has the gateway: each call does to the gateway that its numbers tell what the gateway's definition does.
+-- A host that calls with plain numbers has the gateway: each call does to the gateway that its numbers stand for what the gateway's definition does.
 -- Assumes nothing.
 use mathlib.Core.Path.{_≡_, refl, sym, ap, subst, _∙_}
 use mathlib.Core.Bool.{Bool, true, false}
@@ -26,14 +26,14 @@ use Rattle.taking.specs.Taking.{tookAnswer}
 use Rattle.looking.specs.declared.Event.{Event}
 use Rattle.gateway_laws.proofs.Laws.{unchanged, left-unchanged, limits-kept}
 use Rattle.layout.specs.Layout.{freshNumbers, Fresh}
-use Rattle.numbers.specs.Plain.{lineOf, ledgerOf, withinNumbers, withUsed, told}
-use Rattle.calls.specs.Calls.{AfterCall, refused, putBack, callOf, Calling, Taken, toldTaking}
-use Rattle.ngachodui_laws.specs.Hosting.{linesOf, gatewayOf, Ordered, Hosts, Tells, HostsTaking}
+use Rattle.numbers.specs.Plain.{lineOf, ledgerOf, withinNumbers, withUsed, inNumbers}
+use Rattle.calls.specs.Calls.{AfterCall, refused, putBack, callOf, Calling, Taken, takingInNumbers}
+use Rattle.ngachodui_laws.specs.Hosting.{linesOf, gatewayOf, Ordered, Hosts, Means, HostsTaking}
 use Rattle.numbers.specs.declared.Answered.{Answered}
-use Rattle.numbers.proofs.Numbers.{told-within, numbers-back, used-back}
+use Rattle.numbers.proofs.Numbers.{line-within, numbers-back, used-back}
 use Rattle.ngachodui_laws.proofs.Stores.{stored, stored-length, within-other, within-own}
 use Rattle.ngachodui_laws.proofs.Touched.{step-touched, taking-lowered}
-use Rattle.ngachodui_laws.proofs.ToldBack.{line-at, counts-long, used-long, serials-long, gateway-put, taking-put}
+use Rattle.ngachodui_laws.proofs.PutBack.{line-at, counts-long, used-long, serials-long, gateway-put, taking-put}
 
 -- what a step leaves as it was is as it was in the numbers
 pub put-unchanged : (ns us : List ℕ) (i : ℕ) → i < lines → withinNumbers ns i ≡ true → (m : Memory) (a : Answer)
@@ -41,7 +41,7 @@ pub put-unchanged : (ns us : List ℕ) (i : ℕ) → i < lines → withinNumbers
 put-unchanged ns us i h w m a =
     let p : stored ns i (lineOf ns i) (ledgerOf ns us) ≡ ns = numbers-back ns us i h w in
     let q : withUsed us i (ledgerOf ns us) ≡ us = used-back ns us i h in
-    λ z. record { answered = told a; numbers = p z; used = q z; memory = m }
+    λ z. record { answered = inNumbers a; numbers = p z; counts = q z; memory = m }
 
 -- past 40 and 42 an event is the step of its line
 pub call-is : (ns us : List ℕ) (e : Event) (m : Memory) → e .line < lines → withinNumbers ns (e .line) ≡ true
@@ -78,19 +78,19 @@ module _ (ns us : List ℕ) (o : Ordered ns us) (e : Event) (m : Memory) where
     within-after : (k : ℕ) → k < lines → withinNumbers (stored ns (e .line) (step .stepped .line) (step .stepped .ledger)) k ≡ true
     within-after k q = elim (ℕ-discrete k (e .line)) [
       | yes p ↦ rw p (within-own ns (e .line) (step .stepped .line) (step .stepped .ledger) (omega (arith, o .numbers))
-          (limits-kept todaysShares (lineOf ns (e .line)) (ledgerOf ns us) e m (told-within ns (e .line) (o .within (e .line) h))))
+          (limits-kept todaysShares (lineOf ns (e .line)) (ledgerOf ns us) e m (line-within ns (e .line) (o .within (e .line) h))))
       | no n ↦ within-other ns (e .line) (step .stepped .line) (step .stepped .ledger) k n ∙ o .within k q
     ]
 
     by-step : Hosts (putBack ns us (e .line) step) (putLine (gatewayOf ns us) (e .line) step)
     by-step = record {
-      gateway = gateway-put ns us (e .line) h (step .stepped .line) (step .stepped .ledger) (o .numbers) (o .used)
+      gateway = gateway-put ns us (e .line) h (step .stepped .line) (step .stepped .ledger) (o .numbers) (o .counts)
           (step-touched todaysShares (lineOf ns (e .line)) (ledgerOf ns us) e m h (used-long ns us) (serials-long ns us));
       answer = refl;
       memory = refl;
       ordered = record {
         numbers = stored-length ns (e .line) (step .stepped .line) (step .stepped .ledger) ∙ o .numbers;
-        used = counts-long us (e .line) (step .stepped .ledger) ∙ o .used;
+        counts = counts-long us (e .line) (step .stepped .ledger) ∙ o .counts;
         within = within-after;
       };
     }
@@ -108,26 +108,26 @@ module _ (ns us : List ℕ) (o : Ordered ns us) (e : Event) (m : Memory) where
 
 -- so the contract of a byte and of seconds says that the call is the gateway's event
 pub call-hosts : (ns us : List ℕ) → Ordered ns us → (e : Event) (j u f : List ℕ) {r : Answered} {ns′ us′ j′ u′ f′ : List ℕ} → Calling ns us e j u f r ns′ us′ j′ u′ f′
-    → Hosts (record { answered = r; numbers = ns′; used = us′; memory = memoryOf j′ u′ f′ }) (eventOf todaysShares (gatewayOf ns us) e (memoryOf j u f))
+    → Hosts (record { answered = r; numbers = ns′; counts = us′; memory = memoryOf j′ u′ f′ }) (eventOf todaysShares (gatewayOf ns us) e (memoryOf j u f))
 call-hosts ns us o e j u f {r} {ns′} {us′} {j′} {u′} {f′} c =
     let s = callOf ns us e (memoryOf j u f) in
-    let same : _≡_ {A = AfterCall} (record { answered = r; numbers = ns′; used = us′; memory = memoryOf j′ u′ f′ }) s = λ z. record {
+    let same : _≡_ {A = AfterCall} (record { answered = r; numbers = ns′; counts = us′; memory = memoryOf j′ u′ f′ }) s = λ z. record {
       answered = c .result z;
       numbers = c .numbers z;
-      used = c .used z;
+      counts = c .counts z;
       memory = record { journal = c .journal z; unfinished = c .unfinished z; frames = c .frames z };
     } in
     subst (λ (x : AfterCall). Hosts x (eventOf todaysShares (gatewayOf ns us) e (memoryOf j u f))) (sym same) (hosts-the-gateway ns us o e (memoryOf j u f))
 
--- an answer to a taking tells what the gateway's tells
-pub tells : (t : Took) → Tells (toldTaking t) (tookAnswer t)
-unfolding told toldTaking replyOf
-tells (Took.Taken n serial) = record { number = refl; reply = refl; values = refl }
-tells Took.NothingWaiting = record { number = refl; reply = refl; values = refl }
-tells Took.BufferShort = record { number = refl; reply = refl; values = refl }
-tells Took.Broken = record { number = refl; reply = refl; values = refl }
-tells Took.NoLine = record { number = refl; reply = refl; values = refl }
-tells Took.WrongSize = record { number = refl; reply = refl; values = refl }
+-- an answer to a taking means what the gateway's means
+pub means : (t : Took) → Means (takingInNumbers t) (tookAnswer t)
+unfolding inNumbers takingInNumbers replyOf
+means (Took.Taken n serial) = record { number = refl; reply = refl; values = refl }
+means Took.NothingWaiting = record { number = refl; reply = refl; values = refl }
+means Took.BufferShort = record { number = refl; reply = refl; values = refl }
+means Took.Broken = record { number = refl; reply = refl; values = refl }
+means Took.NoLine = record { number = refl; reply = refl; values = refl }
+means Took.WrongSize = record { number = refl; reply = refl; values = refl }
 
 module _ (ns us : List ℕ) (o : Ordered ns us) (i : ℕ) (j b : List ℕ) where
   abbrev taken : AfterTaking
@@ -136,26 +136,26 @@ module _ (ns us : List ℕ) (o : Ordered ns us) (i : ℕ) (j b : List ℕ) where
   -- the used counts after it: as they were on no line, else put back
   used-after : (t : Bool) → ltb i lines ≡ t → ledgerOf ns (unless t us (withUsed us i (taken .taking .ledger))) ≡ taken .taking .ledger
   unfolding takeEntry
-  used-after true h = taking-put ns us i (ltb-true i lines h) (taken .taking .ledger) (o .used) (taking-lowered (ledgerOf ns us) i (ltb-true i lines h) (used-long ns us) j b)
+  used-after true h = taking-put ns us i (ltb-true i lines h) (taken .taking .ledger) (o .counts) (taking-lowered (ledgerOf ns us) i (ltb-true i lines h) (used-long ns us) j b)
   used-after false h = rw h
 
   long-after : (t : Bool) → length (unless t us (withUsed us i (taken .taking .ledger))) ≡ lines + 1
-  long-after true = counts-long us i (taken .taking .ledger) ∙ o .used
-  long-after false = o .used
+  long-after true = counts-long us i (taken .taking .ledger) ∙ o .counts
+  long-after false = o .counts
 
   pub taking-hosts : {r : Answered} {us′ j′ b′ : List ℕ} → Taken ns us i j b r us′ j′ b′ → HostsTaking ns us′ j′ b′ r (takeOf (gatewayOf ns us) i j b)
   unfolding takeOf
   taking-hosts {r} {us′} t =
-      let ledger : ledgerOf ns us′ ≡ taken .taking .ledger = ap (ledgerOf ns) (t .used) ∙ used-after (ltb i lines) refl in
+      let ledger : ledgerOf ns us′ ≡ taken .taking .ledger = ap (ledgerOf ns) (t .counts) ∙ used-after (ltb i lines) refl in
       record {
         gateway = λ z. record { lines = linesOf ns 0 lines; ledger = ledger z };
-        answer = subst (λ (x : Answered). Tells x (tookAnswer (taken .taking .answer))) (sym (t .result)) (tells (taken .taking .answer));
+        answer = subst (λ (x : Answered). Means x (tookAnswer (taken .taking .answer))) (sym (t .result)) (means (taken .taking .answer));
         journal = t .journal;
         buffer = t .buffer;
-        ordered = record { numbers = o .numbers; used = ap length (t .used) ∙ long-after (ltb i lines); within = o .within };
+        ordered = record { numbers = o .numbers; counts = ap length (t .counts) ∙ long-after (ltb i lines); within = o .within };
       }
 
--- fresh numbers tell the fresh gateway, and are in order
+-- fresh numbers stand for the fresh gateway, and are in order
 fresh-within : (k : ℕ) → k < lines → withinNumbers (freshNumbers lines) k ≡ true
 unfolding withinNumbers mostCollected
 fresh-within zero h = refl
@@ -168,16 +168,16 @@ fresh-within (suc (suc (suc (suc (suc (suc zero)))))) h = refl
 fresh-within (suc (suc (suc (suc (suc (suc (suc zero))))))) h = refl
 fresh-within (suc (suc (suc (suc (suc (suc (suc (suc k)))))))) h = absurd (omega arith)
 
-fresh-told : gatewayOf (freshNumbers lines) (replicate (lines + 1) 0) ≡ freshGateway
+fresh-gateway : gatewayOf (freshNumbers lines) (replicate (lines + 1) 0) ≡ freshGateway
 unfolding ledgerOf
-fresh-told = refl
+fresh-gateway = refl
 
 pub fresh-hosts : {ns us : List ℕ} → Fresh ns us → (gatewayOf ns us ≡ freshGateway) × Ordered ns us
 fresh-hosts {ns} {us} f = (
-  ap (λ (x : List ℕ). gatewayOf x us) (f .numbers) ∙ ap (gatewayOf (freshNumbers lines)) (f .used) ∙ fresh-told,
+  ap (λ (x : List ℕ). gatewayOf x us) (f .numbers) ∙ ap (gatewayOf (freshNumbers lines)) (f .counts) ∙ fresh-gateway,
   record {
     numbers = ap length (f .numbers);
-    used = ap length (f .used);
+    counts = ap length (f .counts);
     within = λ k h. ap (λ (x : List ℕ). withinNumbers x k) (f .numbers) ∙ fresh-within k h;
   },
 )

@@ -1,6 +1,6 @@
 pub mod Stores
 pub mod Touched
-pub mod ToldBack
+pub mod PutBack
 pub mod Hosts
 pub mod Refusals
 pub mod HostRuns

@@ -25,12 +25,12 @@ use Rattle.looking.specs.declared.Verdict.the-variants.{Left}
 use Rattle.gateway_laws.specs.Classes.{Class, classOf, quiet, opening, closing, refusing, accepting, storing, against, taking as gives}
 use Rattle.gateway_laws.proofs.Laws.{left-unchanged, refused-unchanged}
 use Rattle.gateway_laws.proofs.Takings.{taking-refused}
-use Rattle.numbers.specs.Plain.{lineOf, ledgerOf, withinNumbers, withUsed, told}
+use Rattle.numbers.specs.Plain.{lineOf, ledgerOf, withinNumbers, withUsed, inNumbers}
 use Rattle.calls.specs.Calls.{AfterCall, refused, putBack, callOf, Taken as TakenBy}
 use Rattle.ngachodui_laws.specs.Hosting.{gatewayOf, isRefusal}
 use Rattle.numbers.specs.declared.Answered.{Answered}
 use Rattle.numbers.proofs.Numbers.{numbers-back, used-back}
-use Rattle.ngachodui_laws.proofs.Hosts.{put-unchanged, tells}
+use Rattle.ngachodui_laws.proofs.Hosts.{put-unchanged, means}
 
 -- 20 and 40 to 47 are the answers that leave everything, but for an event that is ignored or only collected
 abbrev isQuiet : Class → Bool
@@ -62,7 +62,7 @@ not-nothing a h q = let z : false ≡ true = ap (λ (x : Answer). isRefusal (num
 
 -- a call that changes neither number nor byte
 abbrev pub same : List ℕ → List ℕ → Memory → AfterCall → AfterCall
-same ns us m c = record { answered = c .answered; numbers = ns; used = us; memory = m }
+same ns us m c = record { answered = c .answered; numbers = ns; counts = us; memory = m }
 
 module _ (ns us : List ℕ) (e : Event) (m : Memory) where
   abbrev step : AfterStep
@@ -89,7 +89,7 @@ module _ (ns us : List ℕ) (e : Event) (m : Memory) where
 
   -- 20 and 40 to 43: all numbers and all memory are as they were
   pub refusal-leaves : isRefusal (callOf ns us e m .answered .number) ≡ true → callOf ns us e m ≡ same ns us m (callOf ns us e m)
-  unfolding told
+  unfolding inNumbers
   refusal-leaves = by-tests (λ c. isRefusal (c .answered .number) ≡ true → c ≡ same ns us m c) (λ h. refl) (λ h. refl) (λ h. refl) past
     where
       past : e .line < lines → withinNumbers ns (e .line) ≡ true → isRefusal (numberOf (step .stepped .answer)) ≡ true
@@ -105,8 +105,8 @@ module _ (ns us : List ℕ) (e : Event) (m : Memory) where
       p ∙ sym (ap (same ns us m) p))
 
   -- and where the step leaves its record and the ledger, whatever it does to the memory, the numbers are as they were
-  pub record-leaves : step .stepped .line ≡ lineOf ns (e .line) → step .stepped .ledger ≡ ledgerOf ns us → (callOf ns us e m .numbers ≡ ns) × (callOf ns us e m .used ≡ us)
-  record-leaves p q = by-tests (λ c. (c .numbers ≡ ns) × (c .used ≡ us)) (refl, refl) (refl, refl) (refl, refl)
+  pub record-leaves : step .stepped .line ≡ lineOf ns (e .line) → step .stepped .ledger ≡ ledgerOf ns us → (callOf ns us e m .numbers ≡ ns) × (callOf ns us e m .counts ≡ us)
+  record-leaves p q = by-tests (λ c. (c .numbers ≡ ns) × (c .counts ≡ us)) (refl, refl) (refl, refl) (refl, refl)
       (λ h w. (rw (p, q) (numbers-back ns us (e .line) h w), rw q (used-back ns us (e .line) h)))
 
 -- a refused taking: 40, 41, 43, 44 and 45
@@ -114,10 +114,10 @@ pub taking-leaves : (ns us : List ℕ) (i : ℕ) (j b : List ℕ) {r : Answered}
 unfolding takeOf
 taking-leaves ns us i j b {r} {us′} t h =
     let a = takeOf (gatewayOf ns us) i j b .handled .answer in
-    let n : isRefusal (numberOf a) ≡ true = sym (ap isRefusal (ap (λ (x : Answered). x .number) (t .result) ∙ tells (takeEntry (ledgerOf ns us) i j b .taking .answer) .number)) ∙ h in
+    let n : isRefusal (numberOf a) ≡ true = sym (ap isRefusal (ap (λ (x : Answered). x .number) (t .result) ∙ means (takeEntry (ledgerOf ns us) i j b .taking .answer) .number)) ∙ h in
     let s = taking-refused (gatewayOf ns us) i j b (refusal-class a n) in
     let d : takeEntry (ledgerOf ns us) i j b .taking .ledger ≡ ledgerOf ns us = ap (λ (x : AfterTake). x .handled .gateway .ledger) s in
-    (t .used ∙ by-line d (ltb i lines) refl, t .journal ∙ ap (λ (x : AfterTake). x .journal) s, t .buffer ∙ ap (λ (x : AfterTake). x .buffer) s)
+    (t .counts ∙ by-line d (ltb i lines) refl, t .journal ∙ ap (λ (x : AfterTake). x .journal) s, t .buffer ∙ ap (λ (x : AfterTake). x .buffer) s)
   where
     by-line : takeEntry (ledgerOf ns us) i j b .taking .ledger ≡ ledgerOf ns us → (x : Bool) → ltb i lines ≡ x → unless x us (withUsed us i (takeEntry (ledgerOf ns us) i j b .taking .ledger)) ≡ us
     by-line d true q = ap (withUsed us i) d ∙ used-back ns us i (ltb-true i lines q)

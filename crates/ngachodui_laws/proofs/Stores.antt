@@ -83,19 +83,19 @@ module _ (ns : List ℕ) (i : ℕ) (l : Line) (d : Ledger) where
     pub serial-own : numberAt stored i 7 ≡ getD (d .serials) i 0
     serial-own = number-own 7 (omega arith)
 
--- what a record's numbers tell is the record
-state-told : (s : State) → stateOf (stateNumber s) ≡ s
-state-told Neutral = refl
-state-told Waiting = refl
-state-told Inside = refl
+-- what a record's numbers stand for is the record
+state-back : (s : State) → stateOf (stateNumber s) ≡ s
+state-back Neutral = refl
+state-back Waiting = refl
+state-back Inside = refl
 
-last-told : (x : Last) → lastOf (lastNumber x) ≡ x
-last-told NoneYet = refl
-last-told (Number n) = rw add-one
+last-back : (x : Last) → lastOf (lastNumber x) ≡ x
+last-back NoneYet = refl
+last-back (Number n) = rw add-one
 
-flag-told : (b : Bool) → eqb (flag b) 1 ≡ b
-flag-told true = refl
-flag-told false = refl
+flag-back : (b : Bool) → eqb (flag b) 1 ≡ b
+flag-back true = refl
+flag-back false = refl
 
 -- and within the limits if it is
 state-low : (s : State) → stateNumber s ≤ inside
@@ -138,13 +138,13 @@ module _ (ns : List ℕ) (i : ℕ) (l : Line) (d : Ledger) where
   module _ (room : start i + fields ≤ length ns) where
     pub line-own : lineOf (stored ns i l d) i ≡ l
     line-own =
-        let state : stateOf (firstAt (stored ns i l d) i) ≡ l .state = ap stateOf (first-own ns i l d room) ∙ state-told (l .state) in
+        let state : stateOf (firstAt (stored ns i l d) i) ≡ l .state = ap stateOf (first-own ns i l d room) ∙ state-back (l .state) in
         let collected : numberAt (stored ns i l d) i 1 ≡ l .collected = number-own ns i l d room 1 (omega arith) in
         let joined : numberAt (stored ns i l d) i 2 ≡ l .joined = number-own ns i l d room 2 (omega arith) in
         let seconds : numberAt (stored ns i l d) i 3 ≡ l .seconds = number-own ns i l d room 3 (omega arith) in
         let next : numberAt (stored ns i l d) i 4 ≡ l .next = number-own ns i l d room 4 (omega arith) in
-        let last : lastOf (numberAt (stored ns i l d) i 5) ≡ l .last = ap lastOf (number-own ns i l d room 5 (omega arith)) ∙ last-told (l .last) in
-        let refusing : eqb (numberAt (stored ns i l d) i 6) 1 ≡ l .refusing = ap (λ (n : ℕ). eqb n 1) (number-own ns i l d room 6 (omega arith)) ∙ flag-told (l .refusing) in
+        let last : lastOf (numberAt (stored ns i l d) i 5) ≡ l .last = ap lastOf (number-own ns i l d room 5 (omega arith)) ∙ last-back (l .last) in
+        let refusing : eqb (numberAt (stored ns i l d) i 6) 1 ≡ l .refusing = ap (λ (n : ℕ). eqb n 1) (number-own ns i l d room 6 (omega arith)) ∙ flag-back (l .refusing) in
         λ z. record { state = state z; collected = collected z; joined = joined z; seconds = seconds z; next = next z; last = last z; refusing = refusing z }
 
     pub within-own : withinLimits l ≡ true → withinNumbers (stored ns i l d) i ≡ true

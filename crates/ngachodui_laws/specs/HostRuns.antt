@@ -8,52 +8,52 @@ use Rattle.memory.specs.Sizes.{lines}
 use Rattle.journal.specs.Removal.{takeOf as takeEntry}
 use Rattle.receiving.specs.Steps.{Memory, memoryOf}
 use Rattle.serial.specs.Serial.{event, taking}
-use Rattle.promises.specs.Machine.{State, Told, GatewayItem, onLine}
+use Rattle.promises.specs.Machine.{State, Response, GatewayItem, onLine}
 use Rattle.layout.specs.Layout.{freshNumbers}
 use Rattle.numbers.specs.Plain.{ledgerOf}
-use Rattle.calls.specs.Calls.{AfterCall, callOf, usedAfter, toldTaking}
-use Rattle.ngachodui_laws.specs.Hosting.{gatewayOf, Ordered, Tells}
+use Rattle.calls.specs.Calls.{AfterCall, callOf, usedAfter, takingInNumbers}
+use Rattle.ngachodui_laws.specs.Hosting.{gatewayOf, Ordered, Means}
 use Rattle.numbers.specs.declared.Answered.{Answered}
 
--- all that a host keeps, and the state of the gateway that it tells
+-- all that a host keeps, and the state of the gateway that it stands for
 pub record HostState : Type 0 where
   pub numbers : List ℕ
-  pub used : List ℕ
+  pub counts : List ℕ
   pub memory : Memory
 
 abbrev pub gatewayState : HostState → State
-gatewayState s = record { gateway = gatewayOf (s .numbers) (s .used); memory = s .memory }
+gatewayState s = record { gateway = gatewayOf (s .numbers) (s .counts); memory = s .memory }
 
 abbrev pub InOrder : HostState → Type 0
-InOrder s = Ordered (s .numbers) (s .used)
+InOrder s = Ordered (s .numbers) (s .counts)
 
 abbrev pub freshHost : Memory → HostState
-freshHost m = record { numbers = freshNumbers lines; used = replicate (lines + 1) 0; memory = m }
+freshHost m = record { numbers = freshNumbers lines; counts = replicate (lines + 1) 0; memory = m }
 
 -- the answer to a call, and what the buffer of a taking then holds
-pub record HostTold : Type 0 where
+pub record HostResponse : Type 0 where
   pub answered : Answered
   pub buffer : List ℕ
 
 -- an event is a call of `ngachodui_byte` or `ngachodui_seconds`, a taking one of `ngachodui_take`: what their contracts say
-abbrev pub afterCall : AfterCall → HostTold × HostState
-afterCall c = (record { answered = c .answered; buffer = [] }, record { numbers = c .numbers; used = c .used; memory = c .memory })
+abbrev pub afterCall : AfterCall → HostResponse × HostState
+afterCall c = (record { answered = c .answered; buffer = [] }, record { numbers = c .numbers; counts = c .counts; memory = c .memory })
 
-abbrev pub hostStep : HostState → GatewayItem → HostTold × HostState
-hostStep s (event i k) = afterCall (callOf (s .numbers) (s .used) (onLine i k) (s .memory))
+abbrev pub hostStep : HostState → GatewayItem → HostResponse × HostState
+hostStep s (event i k) = afterCall (callOf (s .numbers) (s .counts) (onLine i k) (s .memory))
 hostStep s (taking i b) =
-    let t = takeEntry (ledgerOf (s .numbers) (s .used)) i (s .memory .journal) b in (
-      record { answered = toldTaking (t .taking .answer); buffer = t .buffer },
+    let t = takeEntry (ledgerOf (s .numbers) (s .counts)) i (s .memory .journal) b in (
+      record { answered = takingInNumbers (t .taking .answer); buffer = t .buffer },
       record {
         numbers = s .numbers;
-        used = usedAfter (s .used) i t;
+        counts = usedAfter (s .counts) i t;
         memory = memoryOf (t .journal) (s .memory .unfinished) (s .memory .frames);
       },
     )
 
--- two records of a run: the same items, and answers that tell the same
-abbrev pub Alike : List (GatewayItem × HostTold) → List (GatewayItem × Told) → Type 0
+-- two histories of a run: the same items, and answers that mean the same
+abbrev pub Alike : List (GatewayItem × HostResponse) → List (GatewayItem × Response) → Type 0
 Alike [] [] = Unit {0}
 Alike [] (y ∷ ys) = ⊥
 Alike (x ∷ xs) [] = ⊥
-Alike (x ∷ xs) (y ∷ ys) = (x .0 ≡ y .0) × Tells (x .1 .answered) (y .1 .answer) × (x .1 .buffer ≡ y .1 .buffer) × Alike xs ys
+Alike (x ∷ xs) (y ∷ ys) = (x .0 ≡ y .0) × Means (x .1 .answered) (y .1 .answer) × (x .1 .buffer ≡ y .1 .buffer) × Alike xs ys

@@ -55,7 +55,7 @@ module _ (ns : List ℕ) (i : ℕ) (k : Kind) where
   unfolding isBegun
   begun h q = record { result = rw (lt-ltb i lines h, q); numbers = rw (lt-ltb i lines h, q) }
 
--- numbers that tell a record, or none
+-- numbers that stand for a record, or none
 module _ (ns : List ℕ) (i : ℕ) where
   pub within-nowhere : lines ≤ i → false ≡ isWithin ns i
   unfolding isWithin

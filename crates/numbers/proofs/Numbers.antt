@@ -55,7 +55,7 @@ pub last-some : (n : ℕ) → (n ≡ 0 → ⊥) → Number (n - 1) ≡ lastOf n
 last-some zero h = absurd (h refl)
 last-some (suc n) h = simp unary-clauses
 
--- a record's numbers tell it
+-- a record's numbers stand for it
 pub state-back : (n : ℕ) → n ≤ inside → stateNumber (stateOf n) ≡ n
 state-back zero h = refl
 state-back (suc zero) h = refl
@@ -76,8 +76,8 @@ last-fits : (n : ℕ) → n ≤ mostNumber + 1 → lastWithin (lastOf n) ≡ tru
 last-fits zero h = refl
 last-fits (suc n) h = le-leb n mostNumber (omega arith)
 
-pub told-within : (ns : List ℕ) (i : ℕ) → withinNumbers ns i ≡ true → withinLimits (lineOf ns i) ≡ true
-told-within ns i e =
+pub line-within : (ns : List ℕ) (i : ℕ) → withinNumbers ns i ≡ true → withinLimits (lineOf ns i) ≡ true
+line-within ns i e =
     let w = numbers-facts ns i e in
     within-of (lineOf ns i) (record { collected = w .collected; most = collected-fits (lineOf ns i); joined = w .joined; seconds = w .seconds; next = w .next; last = last-fits (numberAt ns i 5) (w .last) })
 
@@ -120,7 +120,7 @@ in-use-at : (ns us : List ℕ) → ledgerOf ns us .in_use ≡ getD us lines 0
 unfolding ledgerOf
 in-use-at ns us = refl
 
--- the ledger that the numbers tell, put back
+-- the ledger that the numbers stand for, put back
 pub used-back : (ns us : List ℕ) (i : ℕ) → i < lines → withUsed us i (ledgerOf ns us) ≡ us
 used-back ns us i h = rw (again us i (getD (ledgerOf ns us .used) i 0) (used-at ns us i h)) (again us lines (ledgerOf ns us .in_use) (in-use-at ns us))
 
@@ -145,7 +145,7 @@ serial-kept ns i l =
 pub serial-back : (ns us : List ℕ) (i : ℕ) (l : Line) → i < lines → withSerial (withLine ns i l) i (ledgerOf ns us) ≡ withLine ns i l
 serial-back ns us i l h = again (withLine ns i l) (start i + 7) (getD (ledgerOf ns us .serials) i 0) (serial-at ns us i h ∙ sym (serial-kept ns i l))
 
--- the record and the ledger that the numbers tell, put back with another state and another count of collected bytes: the other numbers of the line stay
+-- the record and the ledger that the numbers stand for, put back with another state and another count of collected bytes: the other numbers of the line stay
 module _ (ns us : List ℕ) (i : ℕ) (h : i < lines) (e : withinNumbers ns i ≡ true) where
   abbrev changed : State → ℕ → Line
   changed s count = record {

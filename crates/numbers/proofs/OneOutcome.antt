@@ -6,7 +6,7 @@ use mathlib.Core.List.{List}
 use Prim.Native.Nat.{ℕ}
 use Rattle.journal.specs.declared.Ledger.{Ledger}
 use Rattle.looking.specs.declared.Kind.{Kind}
-use Rattle.numbers.specs.Changes.{Collected, Begun, TellsLedger}
+use Rattle.numbers.specs.Changes.{Collected, Begun, LedgerRead}
 
 -- `collect`
 pub collect-once : (ns : List ℕ) (i b : ℕ) (f : List ℕ) {r q : Bool} {ns₁ f₁ ns₂ f₂ : List ℕ} → Collected ns i b f r ns₁ f₁ → Collected ns i b f q ns₂ f₂ → (r ≡ q) × (ns₁ ≡ ns₂) × (f₁ ≡ f₂)
@@ -17,5 +17,5 @@ pub begin-once : (ns : List ℕ) (i : ℕ) (k : Kind) {r q : Bool} {ns₁ ns₂ 
 begin-once ns i k x y = (x .result ∙ sym (y .result), x .numbers ∙ sym (y .numbers))
 
 -- `ledger_of`
-pub ledger-once : (ns us : List ℕ) {d e : Ledger} → TellsLedger ns us d → TellsLedger ns us e → d ≡ e
+pub ledger-once : (ns us : List ℕ) {d e : Ledger} → LedgerRead ns us d → LedgerRead ns us e → d ≡ e
 ledger-once ns us x y = x .result ∙ sym (y .result)

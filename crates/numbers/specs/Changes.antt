@@ -16,11 +16,11 @@ use Rattle.looking.specs.declared.Kind.{Kind}
 use Rattle.layout.specs.Layout.{collectedAt}
 use Rattle.numbers.specs.Plain.{numberAt, lineOf, withinNumbers, quick, oneMore, begins, insideAt, ledgerOf, withLine, serialPut, countsPut}
 
--- whether a line's numbers tell a record within its limits
+-- whether a line's numbers stand for a record within its limits
 unfoldable pub isWithin : List ℕ → ℕ → Bool
 isWithin ns i = ltb i lines && withinNumbers ns i
 
--- the record that they tell; where they tell none, that of a fresh line
+-- the record that they stand for; where they stand for none, that of a fresh line
 abbrev pub recordOf : List ℕ → ℕ → Line
 recordOf ns i = unless (isWithin ns i) freshLine (lineOf ns i)
 
@@ -42,8 +42,8 @@ pub record Begun (ns : List ℕ) (i : ℕ) (k : Kind) (r : Bool) (ns′ : List �
   pub result : r ≡ isBegun ns i k
   pub numbers : ns′ ≡ unless (isBegun ns i k) ns (insideAt ns i)
 
--- the ledger that the numbers tell; its bytes in use are a number of 32 bits
-pub record TellsLedger (ns us : List ℕ) (d : Ledger) : Type 0 where
+-- the ledger that the numbers stand for; its bytes in use are a number of 32 bits
+pub record LedgerRead (ns us : List ℕ) (d : Ledger) : Type 0 where
   pub result : d ≡ ledgerOf ns us
   pub narrow : d .in_use < 2 ^ 32
 

@@ -59,7 +59,7 @@ lastNumber (Number n) = n + 1
 abbrev pub flag : Bool → ℕ
 flag b = cond b 1 0
 
--- the record that a line's first seven numbers tell
+-- the record that a line's first seven numbers stand for
 abbrev pub lineOf : List ℕ → ℕ → Line
 lineOf ns i = record {
   state = stateOf (firstAt ns i);
@@ -119,7 +119,7 @@ abbrev pub serialsFrom : List ℕ → ℕ → ℕ → List ℕ
 serialsFrom ns i zero = []
 serialsFrom ns i (suc n) = numberAt ns i serialAt ∷ serialsFrom ns (suc i) n
 
--- the ledger that they tell
+-- the ledger that they stand for
 unfoldable pub ledgerOf : List ℕ → List ℕ → Ledger
 ledgerOf ns us = record { in_use = getD us lines 0; used = usedFrom us 0 lines; serials = serialsFrom ns 0 lines }
 
@@ -143,5 +143,5 @@ replyByte Silence = 0
 replyByte (Sent b) = b
 
 -- the answer to an event carries no values
-unfoldable pub told : Answer → Answered
-told a = record { number = numberOf a; reply = replyByte (replyOf (numberOf a)); serial = 0; place = 0; digits = 0; length = 0 }
+unfoldable pub inNumbers : Answer → Answered
+inNumbers a = record { number = numberOf a; reply = replyByte (replyOf (numberOf a)); serial = 0; place = 0; digits = 0; length = 0 }

@@ -1,7 +1,7 @@
 // Records, ledger and answers in plain numbers, as a host keeps them (`layout` says where each stands).
 ghost use mathlib.Core.Path.{_≡_};
-ghost use Rattle.numbers.specs.Plain.{told as Plain·told};
-ghost use Rattle.numbers.specs.Changes.{isWithin, recordOf, Collected, Begun, TellsLedger, recordAfter, serialAfter, countsAfter};
+ghost use Rattle.numbers.specs.Plain.{inNumbers as Plain·inNumbers};
+ghost use Rattle.numbers.specs.Changes.{isWithin, recordOf, Collected, Begun, LedgerRead, recordAfter, serialAfter, countsAfter};
 use answers::Answer;
 use journal::Ledger;
 use layout::COUNTS;
@@ -11,7 +11,7 @@ use layout::SERIAL;
 use line::Line;
 use looking::Kind;
 
-mod plain; // plain.rt: the tests of a line's numbers, and each number told and put
+mod plain; // plain.rt: the tests of a line's numbers, and each number read and put
 
 // An answer: its number in document 01's table, the byte to send back (0 for none), and for 8 the serial and the text's length.
 // The place of a fault and the case of check digits are 0 in this version. With them no byte is left unnamed, so that an answer
@@ -57,7 +57,7 @@ pub fn begin(i: usize, kind: Kind, numbers: &mut [u16; NUMBERS]) -> bool
     true
 }
 
-// Whether a line's numbers tell a record within its limits.
+// Whether a line's numbers stand for a record within its limits.
 pub fn is_within(numbers: &[u16; NUMBERS], i: usize) -> bool
     ensures { λ r. ⌜ r ≡ isWithin (now (numbers .entry)) i ⌝ }
 {
@@ -67,14 +67,14 @@ pub fn is_within(numbers: &[u16; NUMBERS], i: usize) -> bool
     plain::is_within(numbers, i)
 }
 
-// The record that a line's numbers tell; where they tell none, that of a fresh line.
+// The record that a line's numbers stand for; where they stand for none, that of a fresh line.
 pub fn record_of(numbers: &[u16; NUMBERS], i: usize) -> Line
     ensures { λ r. ⌜ r ≡ recordOf (now (numbers .entry)) i ⌝ }
 {
     if !is_within(numbers, i) {
         return Line::fresh();
     }
-    plain::told_line(numbers, i)
+    plain::line_of(numbers, i)
 }
 
 // Puts a record in the place of a line's first seven numbers.
@@ -87,13 +87,13 @@ pub fn put_record(numbers: &mut [u16; NUMBERS], i: usize, line: Line)
     plain::put_line(numbers, i, line);
 }
 
-// The ledger that the numbers tell.
-pub fn ledger_of(numbers: &[u16; NUMBERS], used: &[u32; COUNTS]) -> Ledger
-    ensures { λ r. ⌜ TellsLedger (now (numbers .entry)) (now (used .entry)) r ⌝ }
+// The ledger that the numbers stand for.
+pub fn ledger_of(numbers: &[u16; NUMBERS], counts: &[u32; COUNTS]) -> Ledger
+    ensures { λ r. ⌜ LedgerRead (now (numbers .entry)) (now (counts .entry)) r ⌝ }
 {
     Ledger {
-        in_use: plain::wide(used[memory::LINES]),
-        used: plain::used_of(used),
+        in_use: plain::wide(counts[memory::LINES]),
+        used: plain::used_of(counts),
         serials: plain::serials_of(numbers),
     }
 }
@@ -109,19 +109,19 @@ pub fn put_serial(numbers: &mut [u16; NUMBERS], i: usize, serial: u16)
 }
 
 // Puts a line's used count, and how many bytes are in use.
-pub fn put_used(used: &mut [u32; COUNTS], i: usize, own: u32, all: u32)
-    ensures { λ _. ⌜ now (used .exit) ≡ countsAfter (now (used .entry)) i own all ⌝ }
+pub fn put_used(counts: &mut [u32; COUNTS], i: usize, own: u32, all: u32)
+    ensures { λ _. ⌜ now (counts .exit) ≡ countsAfter (now (counts .entry)) i own all ⌝ }
 {
     if memory::LINES <= i {
         return;
     }
-    used[i] = own;
-    used[memory::LINES] = all;
+    counts[i] = own;
+    counts[memory::LINES] = all;
 }
 
 // The answer to an event.
-pub fn told(answer: Answer) -> Answered
-    ensures { λ r. ⌜ r ≡ Plain·told answer ⌝ }
+pub fn in_numbers(answer: Answer) -> Answered
+    ensures { λ r. ⌜ r ≡ Plain·inNumbers answer ⌝ }
 {
     Answered {
         number: answer.number(),

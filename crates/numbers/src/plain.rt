@@ -1,4 +1,4 @@
-// A line's numbers, tested and told one by one; the line is one of the eight.
+// A line's numbers, tested and read one by one; the line is one of the eight.
 ghost use Prim.Native.Nat.{_+_, _<_, _≤_, _^_};
 ghost use mathlib.Core.Path.{_≡_};
 ghost use mathlib.Core.Bool.{true};
@@ -112,8 +112,8 @@ fn collects(numbers: &[u16; NUMBERS], i: usize, byte: u8) -> bool
     numbers[at + COLLECTED] != Line::MOST_COLLECTED
 }
 
-// The record that a line's numbers tell.
-pub fn told_line(numbers: &[u16; NUMBERS], i: usize) -> Line
+// The record that a line's numbers stand for.
+pub fn line_of(numbers: &[u16; NUMBERS], i: usize) -> Line
     requires { ⌜ (i < lines) × (withinNumbers (now numbers) i ≡ true) ⌝ }
     ensures { λ r. ⌜ r ≡ lineOf (now (numbers .entry)) i ⌝ }
 {
@@ -208,18 +208,18 @@ pub fn wide(n: u32) -> usize
 }
 
 // Each line's used count, and its serial.
-pub fn used_of(used: &[u32; COUNTS]) -> [u32; memory::LINES]
-    ensures { λ r. ⌜ r ≡ usedFrom (now (used .entry)) 0 lines ⌝ }
+pub fn used_of(counts: &[u32; COUNTS]) -> [u32; memory::LINES]
+    ensures { λ r. ⌜ r ≡ usedFrom (now (counts .entry)) 0 lines ⌝ }
 {
     [
-        used[0],
-        used[1],
-        used[2],
-        used[3],
-        used[4],
-        used[5],
-        used[6],
-        used[7],
+        counts[0],
+        counts[1],
+        counts[2],
+        counts[3],
+        counts[4],
+        counts[5],
+        counts[6],
+        counts[7],
     ]
 }
 

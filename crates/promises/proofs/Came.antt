@@ -35,7 +35,7 @@ use Rattle.receiving.proofs.Fits.{quiet-keeps}
 use Rattle.receiving.proofs.Decisions.{objection-number}
 use Rattle.gateway_laws.specs.Classes.{classOf}
 use Rattle.gateway_laws.proofs.Proper.{objection-against}
-use Rattle.promises.specs.Machine.{State, Told, told, step, isDecision, decides, Parts, partsOf, storeOf, left, Sound, came}
+use Rattle.promises.specs.Machine.{State, Response, response, step, isDecision, decides, Parts, partsOf, storeOf, left, Sound, came}
 use Rattle.promises.specs.Runs.{answered, isFault, offeredBy, hasSpace}
 use Rattle.promises.specs.Came.{Passes, Settles, Came, quiet, stored, crowded, against}
 use Rattle.promises.proofs.Sound.{work, ready, event-answer, event-journal}
@@ -83,8 +83,8 @@ module _ (s : State) (w : Sound s) (i : ℕ) (k : Kind) (line : i < lines) where
 
   -- the answer and the store, once the verdict is known
   module _ (v : Verdict) (is : work s w i k line ≡ v) where
-    told-is : (step s (came i k)) .0 ≡ told (answerOf v) []
-    told-is = event-answer s w i k line ∙ ap (λ (x : Verdict). told (answerOf x) []) is
+    told-is : (step s (came i k)) .0 ≡ response (answerOf v) []
+    told-is = event-answer s w i k line ∙ ap (λ (x : Verdict). response (answerOf x) []) is
 
     store-is : storeOf ((step s (came i k)) .1) ≡ (left v i own k (storeOf s)) .2
     store-is = event-journal s w i k line ∙ ap (λ (x : Verdict). (left x i own k (storeOf s)) .2) is
@@ -106,7 +106,7 @@ module _ (s : State) (w : Sound s) (i : ℕ) (k : Kind) (line : i < lines) where
     passes = record {
       no-text = ap (offeredBy s i) is;
       undecided = ap decides (told-is v (work-is (Done v) is)) ∙ plain .1;
-      no-fault = ap (λ (t : Told). isFault (answered t)) (told-is v (work-is (Done v) is)) ∙ plain .0;
+      no-fault = ap (λ (t : Response). isFault (answered t)) (told-is v (work-is (Done v) is)) ∙ plain .0;
       kept = store-is v (work-is (Done v) is) ∙ same-store (storeOf s);
       anywhere = λ j.
           subst (λ (x : Look). left (verdict x j) i own k j ≡ ((left (verdict x (storeOf s)) i own k (storeOf s)) .0, (left (verdict x (storeOf s)) i own k (storeOf s)) .1, j)) (sym is)
@@ -124,7 +124,7 @@ module _ (s : State) (w : Sound s) (i : ℕ) (k : Kind) (line : i < lines) where
     settles v of d Such such = record {
       complete = ap (offeredBy s i) is;
       decided = ap decides (told-is v of) ∙ d;
-      number = subst (λ (t : Told). Such (answered t)) (sym (told-is v of)) such;
+      number = subst (λ (t : Response). Such (answered t)) (sym (told-is v of)) such;
       left = store-is v of;
     }
 
@@ -169,5 +169,5 @@ neither false false true e q = clash cc
 neither false true y e q = clash cc
 neither true x y e q = clash cc
 
-pub undecided-other : (t : Told) → decides t ≡ false → (eqb (answered t) 4 ≡ false) × (eqb (answered t) 31 ≡ false)
+pub undecided-other : (t : Response) → decides t ≡ false → (eqb (answered t) 4 ≡ false) × (eqb (answered t) 31 ≡ false)
 undecided-other t e = neither (decides t) (eqb (answered t) 4) (eqb (answered t) 31) (decisions-decide (t .answer)) e

@@ -31,7 +31,7 @@ use Rattle.journal_laws.specs.Runs.{State as Store}
 use Rattle.looking.specs.Looks.{endLook}
 use Rattle.looking.specs.declared.Look.the-variants.{Done}
 use Rattle.looking.specs.declared.Verdict.the-variants.{Accepts}
-use Rattle.promises.specs.Machine.{told}
+use Rattle.promises.specs.Machine.{response}
 use Rattle.promises.specs.Sending.{Usable}
 use Rattle.promises.proofs.Feeding.{feed, ended, unanswered, ready, own-text, last, sent}
 
@@ -108,9 +108,9 @@ module _ (limit : ℕ) (usable : Usable limit) (i : ℕ) (j : Store) (x t y : Li
   abbrev pub frames-then : List ℕ
   frames-then = splice (splice frames 0 (early number end t)) (length (early number end t)) (lf ∷ [])
 
-  pub accepted : last i j l texts limit usable number end t frames room (g .low) clean (g .frames-long) (Done (Accepts (length t))) ≡ (told Accepted [], ready i j line-then texts-then frames-then, j)
+  pub accepted : last i j l texts limit usable number end t frames room (g .low) clean (g .frames-long) (Done (Accepts (length t))) ≡ (response Accepted [], ready i j line-then texts-then frames-then, j)
   accepted =
-      ap (λ (u : List ℕ). (told Accepted [], ready i j line-then (splice texts (l .joined) u) frames-then, j))
+      ap (λ (u : List ℕ). (response Accepted [], ready i j line-then (splice texts (l .joined) u) frames-then, j))
       (own-text i j l texts limit usable number end t frames room (g .low) clean (g .frames-long))
 
   two-long : length frames-then ≡ framePart

@@ -34,22 +34,22 @@ use Rattle.looking.specs.Looks.{waitingLook, insideLook, byteLook, frameLook, e
 use Rattle.receiving.specs.Verdicts.{decided, ownWork}
 use Rattle.looking.specs.declared.Kind.the-variants.{Byte}
 use Rattle.looking.specs.declared.Look.{Look}
-use Rattle.promises.specs.Machine.{Told, told, Parts, left, onEvent}
+use Rattle.promises.specs.Machine.{Response, response, Parts, left, onEvent}
 use Rattle.promises.specs.Sending.{Usable}
 
 -- bytes on line i, one behind the other: the answers, and what is left
-abbrev pub feed : ℕ → Parts → Store → List ℕ → List Told × Parts × Store
+abbrev pub feed : ℕ → Parts → Store → List ℕ → List Response × Parts × Store
 feed i p j [] = ([], p, j)
 feed i p j (b ∷ bs) =
     let r = onEvent i p (Byte b) j in
     let q = feed i (r .1) (r .2) bs in
     (r .0 ∷ q .0, q .1, q .2)
 
-abbrev onto : Told → List Told × Parts × Store → List Told × Parts × Store
+abbrev onto : Response → List Response × Parts × Store → List Response × Parts × Store
 onto t q = (t ∷ q .0, q .1, q .2)
 
 -- the answers, and behind them the last event
-abbrev pub ended : List Told → Told × Parts × Store → List Told × Parts × Store
+abbrev pub ended : List Response → Response × Parts × Store → List Response × Parts × Store
 ended ts r = (ts ++ (r .0 ∷ []), r .1, r .2)
 
 pub feed-append : (i : ℕ) (xs ys : List ℕ) (p : Parts) (j : Store)
@@ -59,8 +59,8 @@ feed-append i (b ∷ xs) ys p j =
     let r = onEvent i p (Byte b) j in
     ap (onto (r .0)) (feed-append i xs ys (r .1) (r .2))
 
-abbrev pub unanswered : ℕ → Told
-unanswered b = told Nothing []
+abbrev pub unanswered : ℕ → Response
+unanswered b = response Nothing []
 
 abbrev pub notLf : ℕ → Bool
 notLf b = not (is lf b)
@@ -155,7 +155,7 @@ module _ (i : ℕ) (j : Store) (l : Line) (texts : List ℕ) where
       let rest = collected-all bs (c + 1) (splice frames c (b ∷ [])) (and-right (notLf b) (all notLf bs) n) (omega arith) (omega (arith, long)) in
       let count : c + 1 + length bs ≡ c + suc (length bs) = omega arith in
       let joined = splice-join frames c (b ∷ []) bs (omega arith) in
-      ap (λ (r : Told × Parts × Store). onto (r .0) (feed i (r .1) (r .2) bs)) one ∙ ap (onto (unanswered b)) rest
+      ap (λ (r : Response × Parts × Store). onto (r .0) (feed i (r .1) (r .2) bs)) one ∙ ap (onto (unanswered b)) rest
       ∙ (λ z. (unanswered b ∷ map unanswered bs, inside (count z) (joined z), j))
 
   -- at its LF a frame that was written by us and is next in turn is whole: its end and the line's text with its own say what comes of it
@@ -191,7 +191,7 @@ module _ (i : ℕ) (j : Store) (l : Line) (texts : List ℕ) where
         (ap (λ (x : List ℕ). endLook end (length text) (part texts 0 (l .joined) ++ x)) own-text)
 
     -- what the LF comes to, and the whole frame
-    abbrev pub last : Look → Told × Parts × Store
+    abbrev pub last : Look → Response × Parts × Store
     last x =
         let p = inside (length (early number end text)) held in
         left (decided x todaysShares (p .line) (j .ledger) i (j .journal) texts held) i p (Byte lf) j
@@ -207,8 +207,8 @@ module _ (i : ℕ) (j : Store) (l : Line) (texts : List ℕ) where
         let from-none : 0 + n ≡ n = omega arith in
         let look = judged kind new next most in
         ap (λ (bs : List ℕ). feed i (ready frames) j (stx ∷ bs)) (spelt number end text)
-        ∙ ap (λ (r : Told × Parts × Store). onto (r .0) (feed i (r .1) (r .2) (early number end text ++ (lf ∷ [])))) opened
+        ∙ ap (λ (r : Response × Parts × Store). onto (r .0) (feed i (r .1) (r .2) (early number end text ++ (lf ∷ [])))) opened
         ∙ ap (onto (unanswered stx)) (feed-append i (early number end text) (lf ∷ []) (inside 0 frames) j)
-        ∙ ap (λ (r : List Told × Parts × Store). onto (unanswered stx) (ended (r .0) (onEvent i (r .1) (Byte lf) (r .2)))) all-of-it
+        ∙ ap (λ (r : List Response × Parts × Store). onto (unanswered stx) (ended (r .0) (onEvent i (r .1) (Byte lf) (r .2)))) all-of-it
         ∙ ap (λ (k : ℕ). onto (unanswered stx) (ended (map unanswered (early number end text)) (onEvent i (inside k held) (Byte lf) j))) from-none
         ∙ ap (λ (x : Look). ended (map unanswered (stx ∷ early number end text)) (last x)) look

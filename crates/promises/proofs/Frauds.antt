@@ -26,7 +26,7 @@ use Rattle.answers.specs.declared.Answer.the-variants.{Nothing, Taken}
 use Rattle.receiving.specs.Steps.{Memory, memoryOf}
 use Rattle.looking.specs.declared.Kind.the-variants.{Byte}
 use Rattle.serial.specs.Serial.{taking, final}
-use Rattle.promises.specs.Machine.{State, Told, told, GatewayItem, came, step}
+use Rattle.promises.specs.Machine.{State, Response, response, GatewayItem, came, step}
 use Rattle.promises.specs.Runs.{RightSizes, fresh, replied, isAck}
 use Rattle.promises.specs.Examples.{both, holds}
 use Rattle.promises.specs.Sending.{Runner, bytesOn, sending, sendingReplies, newEntries, HasRoom, Intact, DeliversBy, Demand2, GivesBack}
@@ -60,8 +60,8 @@ module _ (f : Runner) (promise : Demand2 f) where
   delivered : DeliversBy f (fresh memory) 0 (sending frameLimit both) (sendingReplies frameLimit both) (both ∷ []) (intact .entries)
   delivered = promise 0 (omega arith) (fresh memory) intact refl both is-message room
 
-abbrev ackAt : ℕ → List Told → Bool
-ackAt n ts = isAck (replied (getD ts n (told Nothing [])))
+abbrev ackAt : ℕ → List Response → Bool
+ackAt n ts = isAck (replied (getD ts n (response Nothing [])))
 
 -- one journal holds one list of entries
 abbrev entries-of : Option (List Entry) → List Entry
@@ -100,7 +100,7 @@ changes-nothing f fraud promise =
     omega (arith, length-append (intact .entries) (newEntries d 0 (both ∷ [])), ap (λ (xs : List Entry). length xs) same)
 
 -- storing the first message and only acknowledging the second: then the journal does not hold both
-pub first-only : (f : Runner) (s : State) (i : ℕ) (bs : List ℕ) (ts : List Told) (m n : List ℕ) (es : List Entry) → DeliversBy f s i bs ts (m ∷ n ∷ []) es → (x : Entry)
+pub first-only : (f : Runner) (s : State) (i : ℕ) (bs : List ℕ) (ts : List Response) (m n : List ℕ) (es : List Entry) → DeliversBy f s i bs ts (m ∷ n ∷ []) es → (x : Entry)
     → Held todaysShares (final f s (bytesOn i bs) .gateway .ledger) (final f s (bytesOn i bs) .memory .journal) (es ++ x ∷ []) → ⊥
 first-only f s i bs ts m n es promise x fraud =
     longer es (x ∷ []) (newEntries (s .gateway .ledger) i (m ∷ n ∷ [])) (omega arith)
@@ -110,5 +110,5 @@ first-only f s i bs ts m n es promise x fraud =
 pub invented : (s : State) (i : ℕ) (b : List ℕ) (serial : ℕ) (m : List ℕ) → GivesBack s i b serial m → (n x : ℕ) → (step s (taking i b)) .0 .answer ≡ Taken n x
     → (n ≡ length m) × (x ≡ serial)
 invented s i b serial m promise n x fraud =
-    let same : Taken n x ≡ Taken (length m) serial = sym fraud ∙ ap (λ (t : Told). t .answer) promise in
+    let same : Taken n x ≡ Taken (length m) serial = sym fraud ∙ ap (λ (t : Response). t .answer) promise in
     (ap (λ (a : Answer). getD (valuesOf a) 0 0) same, ap (λ (a : Answer). getD (valuesOf a) 1 0) same)

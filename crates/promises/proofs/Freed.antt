@@ -48,8 +48,8 @@ record Freed (s : State) (i : ℕ) (b : List ℕ) (n : ℕ) : Type 0 where
   others : (k : ℕ) → k ≢ i → usedBy ((step s (taking i b)) .1) k ≡ usedBy s k
 
 -- the length that 8 tells
-abbrev toldLength : Answer → ℕ
-toldLength a = getD (valuesOf a) 0 0
+abbrev answeredLength : Answer → ℕ
+answeredLength a = getD (valuesOf a) 0 0
 
 abbrev isEight : Answer → Bool
 isEight a = eqb (length (valuesOf a)) 2
@@ -69,7 +69,7 @@ module _ (s : State) (w : Sound s) (i : ℕ) (line : i < lines) (b : List ℕ) (
   by-case (inl g) e =
       let u = s .gateway .ledger .used in
       let is = g .is in
-      let same : n ≡ length (g .e .text) = ap toldLength (sym e ∙ ap (λ (x : AfterTaking). tookAnswer (x .taking .answer)) is) in
+      let same : n ≡ length (g .e .text) = ap answeredLength (sym e ∙ ap (λ (x : AfterTaking). tookAnswer (x .taking .answer)) is) in
       record {
         enough = rw (same, whole-facts (s .gateway .ledger) (s .memory .journal) (w .entries) (w .held .whole) .sums i line) (total-oldest i (w .entries) (g .e) (g .fs) (g .oldest));
         own =

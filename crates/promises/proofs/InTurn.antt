@@ -23,7 +23,7 @@ use Rattle.answers.specs.declared.Answer.the-variants.{Taken}
 use Rattle.gateway.specs.Events.{lineAt, takeOf}
 use Rattle.taking.specs.Taking.{tookAnswer}
 use Rattle.serial.specs.Serial.{taking, final, Every}
-use Rattle.promises.specs.Machine.{State, told, GatewayItem, step, storeOf, Sound, May}
+use Rattle.promises.specs.Machine.{State, response, GatewayItem, step, storeOf, Sound, May}
 use Rattle.promises.specs.Queue.{allTaken}
 use Rattle.promises.specs.Sending.{bytesOn, sending, HasRoom, Intact, GivesBack}
 use Rattle.promises.proofs.Runs.{stays-sound}
@@ -69,8 +69,8 @@ module _ (t : State) (i : ℕ) (h : i < lines) (x : Entry) (gs : List Entry) (he
   given (e ∷ es) q =
       let text : e .text ≡ x .text = ap (λ (n : Numbered). n .text) (same e es q) in
       let g = take-gives todaysShares (t .gateway .ledger) i (t .memory .journal) b gs held h e es q (rw text room) in
-      ap (λ (r : AfterTaking). told (tookAnswer (r .taking .answer)) (r .buffer)) (g .is)
-      ∙ ap (λ (n : Numbered). told (Taken (length (n .text)) (n .serial)) (splice b 0 (n .text))) (same (g .e) (g .fs) (g .oldest))
+      ap (λ (r : AfterTaking). response (tookAnswer (r .taking .answer)) (r .buffer)) (g .is)
+      ∙ ap (λ (n : Numbered). response (Taken (length (n .text)) (n .serial)) (splice b 0 (n .text))) (same (g .e) (g .fs) (g .oldest))
 
 -- whatever comes in between: once as many are taken from the line as stood before it
 pub in-turn : (s : State) → Sound s → (i : ℕ) → i < lines → (ds fs : List Entry) (x : Entry) → Held todaysShares (s .gateway .ledger) (s .memory .journal) (ds ++ x ∷ fs) → x .line ≡ i

@@ -28,7 +28,7 @@ use Rattle.gateway.specs.Events.{takeOf}
 use Rattle.taking.specs.Taking.{tookAnswer}
 use Rattle.looking.specs.declared.Kind.{Kind}
 use Rattle.serial.specs.Serial.{event, taking, final, Every}
-use Rattle.promises.specs.Machine.{State, told, GatewayItem, came, step, storeOf, Sound, May}
+use Rattle.promises.specs.Machine.{State, response, GatewayItem, came, step, storeOf, Sound, May}
 use Rattle.promises.specs.Runs.{RightSizes, fresh, answered, hasSpace}
 use Rattle.promises.specs.Came.{storedIn, answer, store, Settles, Came, quiet, stored, crowded, against}
 use Rattle.promises.specs.Queue.{completedIn, completed, gave, storedOn, takenOn, allStored, allTaken, NothingLost}
@@ -57,7 +57,7 @@ pub record Does (s : State) (e : GatewayItem) : Type 0 where
 
 -- ---- takings
 
-gave-given : (t : Took) (b : List ℕ) → gave (told (tookAnswer t) b) ≡ given t b
+gave-given : (t : Took) (b : List ℕ) → gave (response (tookAnswer t) b) ≡ given t b
 gave-given (Taken n serial) b = refl
 gave-given NothingWaiting b = refl
 gave-given BufferShort b = refl

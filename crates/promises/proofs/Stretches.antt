@@ -11,10 +11,10 @@ use Rattle.memory.proofs.Tests.{never-both}
 use Rattle.receiving.specs.Steps.{Memory}
 use Rattle.gateway.specs.Events.{noRecord, takeOf}
 use Rattle.looking.specs.declared.Kind.{Kind}
-use Rattle.serial.specs.Serial.{taking, annotate, serialize, count, Every, OrderOf, Lined, NothingElse, ToldAlike}
+use Rattle.serial.specs.Serial.{taking, annotate, serialize, count, Every, OrderOf, Lined, NothingElse, GoesAlike}
 use Rattle.serial.specs.Kept.{Rearranged}
 use Rattle.serial.proofs.Demand as serial
-use Rattle.promises.specs.Machine.{State, Told, GatewayItem, came, step, decides, Parts, partsOf, storeOf, onEvent, onTaking, Sound, May}
+use Rattle.promises.specs.Machine.{State, Response, GatewayItem, came, step, decides, Parts, partsOf, storeOf, onEvent, onTaking, Sound, May}
 use Rattle.promises.specs.Runs.{RightSizes, fresh}
 use Rattle.promises.specs.Came.{Came, quiet as passing, stored, crowded, against}
 use Rattle.promises.proofs.Sound.{event-answer, event-own, event-others, event-journal}
@@ -76,16 +76,16 @@ nothing-else s t w v same =
 
 -- Demand 3. Memory of the right sizes with any bytes, a fresh gateway, any events on lines 0 to 7 and any takings.
 module _ (m : Memory) (sizes : RightSizes m) (es : List GatewayItem) (may : Every May es) (order : List ℕ) (each : OrderOf lines order) where
-  abbrev run : List (GatewayItem × Told)
+  abbrev run : List (GatewayItem × Response)
   run = annotate step (fresh m) es
 
-  -- every record that the demand's words allow has the run's answers and its final state
-  pub stretches : (zs : List (GatewayItem × Told)) → Rearranged decides lines order run zs → ToldAlike step (fresh m) es zs
+  -- every history that the demand's words allow has the run's answers and its final state
+  pub stretches : (zs : List (GatewayItem × Response)) → Rearranged decides lines order run zs → GoesAlike step (fresh m) es zs
   stretches = serial.demand _ _ _ _ _ _ _ _ _ lined order each (fresh m) es (fresh-sound m sizes) may nothing-else
 
   -- there is one, and every item with its answer stands in it as often as in the run
   pub stretches-met : Rearranged decides lines order run (serialize decides order run)
   stretches-met = serial.demand-met _ _ _ _ _ _ _ _ _ lined order each (fresh m) es (fresh-sound m sizes) may
 
-  pub stretches-all : (zs : List (GatewayItem × Told)) → Rearranged decides lines order run zs → (p : GatewayItem × Told → Bool) → count p zs ≡ count p run
+  pub stretches-all : (zs : List (GatewayItem × Response)) → Rearranged decides lines order run zs → (p : GatewayItem × Response → Bool) → count p zs ≡ count p run
   stretches-all = serial.nothing-lost _ _ _ _ _ _ _ _ _ lined order each (fresh m) es (fresh-sound m sizes) may

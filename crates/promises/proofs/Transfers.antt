@@ -34,7 +34,7 @@ use Rattle.looking.specs.declared.Kind.{Kind}
 use Rattle.looking.specs.declared.Kind.the-variants.{Byte}
 use Rattle.looking.proofs.Views.{own-parts}
 use Rattle.serial.specs.Serial.{final, Every}
-use Rattle.promises.specs.Machine.{State, Told, told, step, Parts, partsOf, storeOf, onEvent, Sound, May, came}
+use Rattle.promises.specs.Machine.{State, Response, response, step, Parts, partsOf, storeOf, onEvent, Sound, May, came}
 use Rattle.promises.specs.Sending.{bytesOn, answersTo, replies, sending, sendingReplies, piecesOfAll, transfer, repliesToAll, transferReplies, newEntries, Messages, sizesOf, HasRoom, Intact, Delivers, Demand2, Usable}
 use Rattle.promises.proofs.Sound.{ready as is-ready, event-answer, event-own, event-others, event-journal}
 use Rattle.promises.proofs.Kept.{keeps}
@@ -61,7 +61,7 @@ fed s i (b ∷ bs) w h =
     let parts = event-own s w i k h in
     let store = event-journal s w i k h in
     record {
-      answers = ap₂ (λ (t : Told) (ts : List Told). t ∷ ts) (event-answer s w i k h) (r .answers ∙ ap₂ (λ (p : Parts) (j : Store). feed i p j bs .0) parts store);
+      answers = ap₂ (λ (t : Response) (ts : List Response). t ∷ ts) (event-answer s w i k h) (r .answers ∙ ap₂ (λ (p : Parts) (j : Store). feed i p j bs .0) parts store);
       own = r .own ∙ ap₂ (λ (p : Parts) (j : Store). feed i p j bs .1) parts store;
       store = r .store ∙ ap₂ (λ (p : Parts) (j : Store). feed i p j bs .2) parts store;
       others = λ l n. r .others l n ∙ event-others s w i k h l n;
@@ -80,10 +80,10 @@ answers-append : (s : State) (i : ℕ) (bs cs : List ℕ)
 answers-append s i [] cs = refl
 answers-append s i (b ∷ bs) cs =
     let r = step s (came i (Byte b)) in
-    ap (λ (ts : List Told). r .0 ∷ ts) (answers-append (r .1) i bs cs)
+    ap (λ (ts : List Response). r .0 ∷ ts) (answers-append (r .1) i bs cs)
 
 -- what bytes come to: the answers, the texts stored, and the line's record then
-record Went (s : State) (i : ℕ) (bs : List ℕ) (ts : List Told) (ms : List (List ℕ)) (Line-then : Line → Type 0) : Type 0 where
+record Went (s : State) (i : ℕ) (bs : List ℕ) (ts : List Response) (ms : List (List ℕ)) (Line-then : Line → Type 0) : Type 0 where
   answers : answersTo s (bytesOn i bs) ≡ ts
   store : storeOf (final step s (bytesOn i bs)) ≡ storedAll i ms (storeOf s)
   others : (l : ℕ) → l ≢ i → partsOf (final step s (bytesOn i bs)) l ≡ partsOf s l
@@ -91,7 +91,7 @@ record Went (s : State) (i : ℕ) (bs : List ℕ) (ts : List Told) (ms : List (L
   sound : Sound (final step s (bytesOn i bs))
 
 -- and then others
-went-on : (s : State) (i : ℕ) (bs cs : List ℕ) (ts us : List Told) (ms ns : List (List ℕ)) (P Q : Line → Type 0)
+went-on : (s : State) (i : ℕ) (bs cs : List ℕ) (ts us : List Response) (ms ns : List (List ℕ)) (P Q : Line → Type 0)
     → Went s i bs ts ms P → Went (final step s (bytesOn i bs)) i cs us ns Q → Went s i (bs ++ cs) (ts ++ us) (ms ++ ns) Q
 went-on s i bs cs ts us ms ns P Q x y =
     let then = final-append s i bs cs in
@@ -106,12 +106,12 @@ went-on s i bs cs ts us ms ns P Q x y =
 -- ---- ENQ, the frames of a message, EOT
 
 opens : (i : ℕ) (texts frames : List ℕ) (j : Store)
-    → onEvent i (record { line = freshLine; texts = texts; frames = frames }) (Byte enq) j ≡ (told Opened [], record { line = openedLine freshLine; texts = texts; frames = frames }, j)
+    → onEvent i (record { line = freshLine; texts = texts; frames = frames }) (Byte enq) j ≡ (response Opened [], record { line = openedLine freshLine; texts = texts; frames = frames }, j)
 unfolding ownWork byteLook neutralLook
 opens i texts frames j = refl
 
 closes : (i : ℕ) (l : Line) (texts frames : List ℕ) (j : Store) → l .joined ≡ 0
-    → onEvent i (ready i j l texts frames) (Byte eot) j ≡ (told Ended [], record { line = closedLine (ready i j l texts frames .line); texts = texts; frames = frames }, j)
+    → onEvent i (ready i j l texts frames) (Byte eot) j ≡ (response Ended [], record { line = closedLine (ready i j l texts frames .line); texts = texts; frames = frames }, j)
 unfolding ownWork byteLook waitingLook
 closes i l texts frames j h = rw h
 
@@ -121,26 +121,26 @@ opened-open l = record { waits = refl; joined = refl; refusing = refl; new = ref
 
 module _ (limit : ℕ) (usable : Usable limit) (i : ℕ) (h : i < lines) where
   -- one byte, by the line's parts
-  one-byte : (s : State) (b : ℕ) (t : Told) (p : Parts) (Line-then : Line → Type 0) → Sound s → onEvent i (partsOf s i) (Byte b) (storeOf s) ≡ (t, p, storeOf s) → Line-then (p .line)
+  one-byte : (s : State) (b : ℕ) (t : Response) (p : Parts) (Line-then : Line → Type 0) → Sound s → onEvent i (partsOf s i) (Byte b) (storeOf s) ≡ (t, p, storeOf s) → Line-then (p .line)
       → Went s i (b ∷ []) (t ∷ []) [] Line-then
   one-byte s b t p Line-then w is l =
       let f = fed s i (b ∷ []) w h in
       record {
-        answers = f .answers ∙ ap (λ (r : Told × Parts × Store). r .0 ∷ []) is;
-        store = f .store ∙ ap (λ (r : Told × Parts × Store). r .2) is;
+        answers = f .answers ∙ ap (λ (r : Response × Parts × Store). r .0 ∷ []) is;
+        store = f .store ∙ ap (λ (r : Response × Parts × Store). r .2) is;
         others = f .others;
-        line = subst (λ (q : Parts). Line-then (q .line)) (sym (f .own ∙ ap (λ (r : Told × Parts × Store). r .1) is)) l;
+        line = subst (λ (q : Parts). Line-then (q .line)) (sym (f .own ∙ ap (λ (r : Response × Parts × Store). r .1) is)) l;
         sound = stays-sound s (bytesOn i (b ∷ [])) w (bytes-may i h (b ∷ []));
       }
 
-  opening : (s : State) → Sound s → lineAt (s .gateway) i ≡ freshLine → Went s i (enq ∷ []) (told Opened [] ∷ []) [] (Open firstNumber)
+  opening : (s : State) → Sound s → lineAt (s .gateway) i ≡ freshLine → Went s i (enq ∷ []) (response Opened [] ∷ []) [] (Open firstNumber)
   opening s w fresh =
       let texts = partsOf s i .texts in
       let frames = partsOf s i .frames in
       let is = ap (λ (l : Line). onEvent i (record { line = l; texts = texts; frames = frames }) (Byte enq) (storeOf s)) fresh ∙ opens i texts frames (storeOf s) in
-      one-byte s enq (told Opened []) (record { line = openedLine freshLine; texts = texts; frames = frames }) (Open firstNumber) w is (opened-open freshLine)
+      one-byte s enq (response Opened []) (record { line = openedLine freshLine; texts = texts; frames = frames }) (Open firstNumber) w is (opened-open freshLine)
 
-  closing : (s : State) (number : ℕ) → Sound s → Open number (lineAt (s .gateway) i) → Went s i (eot ∷ []) (told Ended [] ∷ []) [] (λ (l : Line). l ≡ freshLine)
+  closing : (s : State) (number : ℕ) → Sound s → Open number (lineAt (s .gateway) i) → Went s i (eot ∷ []) (response Ended [] ∷ []) [] (λ (l : Line). l ≡ freshLine)
   closing s number w o =
       let texts = partsOf s i .texts in
       let frames = partsOf s i .frames in
@@ -148,7 +148,7 @@ module _ (limit : ℕ) (usable : Usable limit) (i : ℕ) (h : i < lines) where
       ap (λ (l : Line). onEvent i (record { line = l; texts = texts; frames = frames }) (Byte eot) (storeOf s)) (o .waits)
       ∙ closes i (lineAt (s .gateway) i) texts frames (storeOf s) (o .joined) in
       let old = ready i (storeOf s) (lineAt (s .gateway) i) texts frames .line in
-      one-byte s eot (told Ended []) (record { line = closedLine old; texts = texts; frames = frames }) (λ (l : Line). l ≡ freshLine) w is (closed-fresh old)
+      one-byte s eot (response Ended []) (record { line = closedLine old; texts = texts; frames = frames }) (λ (l : Line). l ≡ freshLine) w is (closed-fresh old)
 
   module _ (s : State) (w : Sound s) (number : ℕ) (o : Open number (lineAt (s .gateway) i)) (m : List ℕ) (message : isMessage m ≡ true)
       (room : fits todaysShares (raised (s .gateway .ledger .used) i (entrySize (length m))) ≡ true) where
@@ -236,13 +236,13 @@ module _ (limit : ℕ) (usable : Usable limit) (i : ℕ) (h : i < lines) where
       let b = all-messages ms s₁ (a .sound) firstNumber (a .line) are room-then in
       let bs = framesFrom firstNumber (piecesOfAll limit ms) in
       let c = closing (final step s₁ (bytesOn i bs)) (numberAfter firstNumber (piecesOfAll limit ms)) (b .sound) (b .line) in
-      let bc = went-on s₁ i bs (eot ∷ []) (repliesToAll limit ms) (told Ended [] ∷ []) ms [] _ _ b c in
-      let abc = went-on s i (enq ∷ []) (bs ++ (eot ∷ [])) (told Opened [] ∷ []) (repliesToAll limit ms ++ (told Ended [] ∷ [])) [] (ms ++ []) _ _ a bc in
+      let bc = went-on s₁ i bs (eot ∷ []) (repliesToAll limit ms) (response Ended [] ∷ []) ms [] _ _ b c in
+      let abc = went-on s i (enq ∷ []) (bs ++ (eot ∷ [])) (response Opened [] ∷ []) (repliesToAll limit ms ++ (response Ended [] ∷ [])) [] (ms ++ []) _ _ a bc in
       subst (λ (ns : List (List ℕ)). Went s i (transfer limit ms) (transferReplies limit ms) ns (λ (l : Line). l ≡ freshLine)) (append-nil ms) abc
 
   -- ---- the promises
 
-  delivers : (s : State) (es : List Entry) → Held todaysShares (s .gateway .ledger) (s .memory .journal) es → (bs : List ℕ) (ts : List Told) (ms : List (List ℕ)) (P : Line → Type 0)
+  delivers : (s : State) (es : List Entry) → Held todaysShares (s .gateway .ledger) (s .memory .journal) es → (bs : List ℕ) (ts : List Response) (ms : List (List ℕ)) (P : Line → Type 0)
       → Went s i bs ts ms P → Messages ms → HasRoom s i ms → Delivers s i bs ts ms es
   delivers s es held bs ts ms P x are room = record {
     answered = x .answers;
@@ -263,7 +263,7 @@ module _ (limit : ℕ) (usable : Usable limit) (i : ℕ) (h : i < lines) where
         let room-then = ap (λ (j : Store). fits todaysShares (raised (j .ledger .used) i (sizesOf (m ∷ [])))) (o .store) ∙ room in
         let first = room-first todaysShares (s₁ .gateway .ledger .used) i (entrySize (length m)) 0 (o .sound .held .lines-used) h room-then in
         let b = one-message s₁ (o .sound) firstNumber (o .line) m message first in
-        let ob = went-on s i (enq ∷ []) (framesFrom firstNumber (piecesOf limit m)) (told Opened [] ∷ []) (replies (piecesOf limit m)) [] (m ∷ []) _ _ o b in
+        let ob = went-on s i (enq ∷ []) (framesFrom firstNumber (piecesOf limit m)) (response Opened [] ∷ []) (replies (piecesOf limit m)) [] (m ∷ []) _ _ o b in
         delivers s (a .entries) (room-held s a i h (m ∷ []) room) (sending limit m) (sendingReplies limit m) (m ∷ []) _ ob (message, tt) room
 
     pub transferred-within : (ms : List (List ℕ)) → Messages ms → HasRoom s i ms → Delivers s i (transfer limit ms) (transferReplies limit ms) ms (a .entries)

@@ -33,7 +33,7 @@ use Rattle.looking.specs.declared.Verdict.{Verdict}
 use Rattle.looking.specs.declared.Verdict.the-variants.{Stores}
 use Rattle.looking.specs.declared.Look.{Look}
 use Rattle.looking.specs.declared.Look.the-variants.{Decides}
-use Rattle.promises.specs.Machine.{Told, told, Parts, left}
+use Rattle.promises.specs.Machine.{Response, response, Parts, left}
 use Rattle.promises.specs.Came.{storedIn}
 use Rattle.promises.specs.Sending.{lastAnswer, replies, Usable}
 use Rattle.promises.proofs.Looked.{look-on, look-last}
@@ -45,29 +45,29 @@ abbrev pub numberAfter : ℕ → List Piece → ℕ
 numberAfter number [] = number
 numberAfter number (p ∷ ps) = numberAfter (nextNumber number) ps
 
-all-nothing : (bs : List ℕ) → map unanswered bs ≡ replicate (length bs) (told Nothing [])
+all-nothing : (bs : List ℕ) → map unanswered bs ≡ replicate (length bs) (response Nothing [])
 all-nothing [] = refl
-all-nothing (b ∷ bs) = ap (λ (ts : List Told). told Nothing [] ∷ ts) (all-nothing bs)
+all-nothing (b ∷ bs) = ap (λ (ts : List Response). response Nothing [] ∷ ts) (all-nothing bs)
 
 -- the frames of ps were answered and the message m is stored, and the line is open for a frame with this number
-pub record Delivered (i : ℕ) (j : Store) (m : List ℕ) (ps : List Piece) (number : ℕ) (r : List Told × Parts × Store) : Type 0 where
+pub record Delivered (i : ℕ) (j : Store) (m : List ℕ) (ps : List Piece) (number : ℕ) (r : List Response × Parts × Store) : Type 0 where
   pub answers : r .0 ≡ replies ps
   pub store : r .2 ≡ storedIn i m j
   pub line : Open number (r .1 .line)
 
 module _ (limit : ℕ) (usable : Usable limit) (i : ℕ) (j : Store) where
   module _ (x t : List ℕ) (number : ℕ) (l : Line) (texts frames : List ℕ) (some : 0 < length t) (room : length t + aroundText ≤ limit) where
-    quiet-frame : map unanswered (stx ∷ early number (endAfter (getD t (length t - 1) 0)) t) ≡ replicate (length t + 6) (told Nothing [])
+    quiet-frame : map unanswered (stx ∷ early number (endAfter (getD t (length t - 1) 0)) t) ≡ replicate (length t + 6) (response Nothing [])
     quiet-frame =
         let size : suc (length (early number (endAfter (getD t (length t - 1) 0)) t)) ≡ length t + 6 = omega (arith, long number (endAfter (getD t (length t - 1) 0)) t) in
-        all-nothing (stx ∷ early number (endAfter (getD t (length t - 1) 0)) t) ∙ ap (λ (k : ℕ). replicate k (told Nothing [])) size
+        all-nothing (stx ∷ early number (endAfter (getD t (length t - 1) 0)) t) ∙ ap (λ (k : ℕ). replicate k (response Nothing [])) size
 
     -- the last frame stores the message
     module _ (g : Going x (t ++ []) number l texts frames) (fits : judgeOf (j .ledger) todaysShares i (length (x ++ t)) (j .journal) ≡ Fits) where
       abbrev end : End
       end = endAfter (getD t (length t - 1) 0)
 
-      abbrev at-lf : Look → Told × Parts × Store
+      abbrev at-lf : Look → Response × Parts × Store
       at-lf look = last i j l texts limit usable number end t frames room (g .low) (clean limit usable i j x t [] number end l texts frames g room) (g .frames-long) look
 
       abbrev inner : Parts
@@ -88,17 +88,17 @@ module _ (limit : ℕ) (usable : Usable limit) (i : ℕ) (j : Store) where
       stored-is : decided (Decides (length t)) todaysShares (inner .line) (j .ledger) i (j .journal) texts (inner .frames) ≡ Stores (length t)
       stored-is = ap (λ (u : List ℕ). decisionOf todaysShares (j .ledger) i (length t) u (j .journal)) joined-is ∙ decided-is
 
-      last-sent : feed i (ready i j l texts frames) j (frameOf number end t) ≡ ended (replicate (length t + 6) (told Nothing [])) (left (Stores (length t)) i inner (Byte lf) j)
+      last-sent : feed i (ready i j l texts frames) j (frameOf number end t) ≡ ended (replicate (length t + 6) (response Nothing [])) (left (Stores (length t)) i inner (Byte lf) j)
       last-sent =
           one-sent limit usable i j x t [] number end l texts frames g room
           ∙ ap (λ (look : Look). ended (map unanswered (stx ∷ early number end t)) (at-lf look)) (look-last x t some message)
-          ∙ ap₂ (λ (ts : List Told) (v : Verdict). ended ts (left v i inner (Byte lf) j)) quiet-frame stored-is
+          ∙ ap₂ (λ (ts : List Response) (v : Verdict). ended ts (left v i inner (Byte lf) j)) quiet-frame stored-is
 
       last-delivered : (p : Piece) → p .bytes ≡ t → Delivered i j (x ++ t) (p ∷ []) (nextNumber number) (feed i (ready i j l texts frames) j (frameOf number end t))
       last-delivered p q =
           subst (Delivered i j (x ++ t) (p ∷ []) (nextNumber number)) (sym last-sent)
           (record {
-            answers = ap (λ (u : List ℕ). replicate (length u + 6) (told Nothing []) ++ (told Stored [] ∷ [])) (sym q);
+            answers = ap (λ (u : List ℕ). replicate (length u + 6) (response Nothing []) ++ (response Stored [] ∷ [])) (sym q);
             store = ap (λ (u : List ℕ). storedIn i u j) joined-is;
             line = accepted-open (inner .line) number (g .refusing) (g .next) (g .low);
           })
@@ -113,7 +113,7 @@ module _ (limit : ℕ) (usable : Usable limit) (i : ℕ) (j : Store) where
           ready i j (line-then limit usable i j x t (b ∷ y) number end-on l texts frames g room) (texts-then limit usable i j x t (b ∷ y) number end-on l texts frames g room)
           (frames-then limit usable i j x t (b ∷ y) number end-on l texts frames g room)
 
-      joined-sent : feed i (ready i j l texts frames) j (frameOf number end-on t) ≡ ended (replicate (length t + 6) (told Nothing [])) (told Accepted [], ready-then, j)
+      joined-sent : feed i (ready i j l texts frames) j (frameOf number end-on t) ≡ ended (replicate (length t + 6) (response Nothing [])) (response Accepted [], ready-then, j)
       joined-sent =
           one-sent limit usable i j x t (b ∷ y) number end-on l texts frames g room
           ∙ ap
@@ -128,14 +128,14 @@ module _ (limit : ℕ) (usable : Usable limit) (i : ℕ) (j : Store) where
           (sym (feed-append i (frameOf number end-on t) bs (ready i j l texts frames) j ∙ ap behind joined-sent))
           (record {
             answers =
-                append-assoc (replicate (length t + 6) (told Nothing [])) (told Accepted [] ∷ []) (feed i ready-then j bs .0)
-                ∙ ap₂ (λ (u : List ℕ) (ts : List Told). replicate (length u + 6) (told Nothing []) ++ ts) (sym q)
-                (ap₂ (λ (c : Answer) (ts : List Told). told c [] ∷ ts) (sym a) (d .answers));
+                append-assoc (replicate (length t + 6) (response Nothing [])) (response Accepted [] ∷ []) (feed i ready-then j bs .0)
+                ∙ ap₂ (λ (u : List ℕ) (ts : List Response). replicate (length u + 6) (response Nothing []) ++ ts) (sym q)
+                (ap₂ (λ (c : Answer) (ts : List Response). response c [] ∷ ts) (sym a) (d .answers));
             store = d .store;
             line = d .line;
           })
         where
-          behind : List Told × Parts × Store → List Told × Parts × Store
+          behind : List Response × Parts × Store → List Response × Parts × Store
           behind r = (r .0 ++ feed i (r .1) (r .2) bs .0, feed i (r .1) (r .2) bs .1, feed i (r .1) (r .2) bs .2)
 
   -- the first piece of what is left, and what comes behind it

@@ -11,7 +11,7 @@ use Rattle.journal.specs.Storage.{grown, appended}
 use Rattle.journal_laws.specs.Runs.{State as Store}
 use Rattle.answers.specs.Paper.{isObjection}
 use Rattle.looking.specs.declared.Kind.{Kind}
-use Rattle.promises.specs.Machine.{State, Told, step, decides, partsOf, storeOf, onEvent, came}
+use Rattle.promises.specs.Machine.{State, Response, step, decides, partsOf, storeOf, onEvent, came}
 use Rattle.promises.specs.Runs.{answered, isFault, offered, hasSpace}
 
 -- a text stored on line i, behind what the journal holds
@@ -19,7 +19,7 @@ abbrev pub storedIn : ℕ → List ℕ → Store → Store
 storedIn i t j = record { ledger = grown (j .ledger) i (length t); journal = appended (j .ledger) i t (j .journal) }
 
 module _ (s : State) (i : ℕ) (k : Kind) where
-  abbrev pub answer : Told
+  abbrev pub answer : Response
   answer = (step s (came i k)) .0
 
   abbrev pub store : Store

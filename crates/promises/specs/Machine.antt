@@ -35,12 +35,12 @@ pub record State : Type 0 where
   pub memory : Memory
 
 -- the answer to an item, and what the buffer of a taking then holds
-pub record Told : Type 0 where
+pub record Response : Type 0 where
   pub answer : Answer
   pub buffer : List ℕ
 
-abbrev pub told : Answer → List ℕ → Told
-told a b = record { answer = a; buffer = b }
+abbrev pub response : Answer → List ℕ → Response
+response a b = record { answer = a; buffer = b }
 
 -- an item: an event on a line, a byte or seconds; or a taking from a line into a buffer
 abbrev pub GatewayItem : Type 0
@@ -53,13 +53,13 @@ came i k = event i k
 abbrev pub onLine : ℕ → Kind → Event
 onLine i k = record { line = i; kind = k }
 
-abbrev pub afterEvent : AfterEvent → Told × State
-afterEvent r = (told (r .handled .answer) [], record { gateway = r .handled .gateway; memory = r .memory })
+abbrev pub afterEvent : AfterEvent → Response × State
+afterEvent r = (response (r .handled .answer) [], record { gateway = r .handled .gateway; memory = r .memory })
 
-abbrev pub afterTake : Memory → AfterTake → Told × State
-afterTake m r = (told (r .handled .answer) (r .buffer), record { gateway = r .handled .gateway; memory = memoryOf (r .journal) (m .unfinished) (m .frames) })
+abbrev pub afterTake : Memory → AfterTake → Response × State
+afterTake m r = (response (r .handled .answer) (r .buffer), record { gateway = r .handled .gateway; memory = memoryOf (r .journal) (m .unfinished) (m .frames) })
 
-abbrev pub step : State → GatewayItem → Told × State
+abbrev pub step : State → GatewayItem → Response × State
 step s (event i k) = afterEvent (eventOf todaysShares (s .gateway) (onLine i k) (s .memory))
 step s (taking i b) = afterTake (s .memory) (takeOf (s .gateway) i (s .memory .journal) b)
 
@@ -74,7 +74,7 @@ isDecision storing = true
 isDecision against = true
 isDecision gives = false
 
-abbrev pub decides : Told → Bool
+abbrev pub decides : Response → Bool
 decides t = isDecision (classOf (t .answer))
 
 -- what line i has to itself: its record and its parts of the lent memory
@@ -91,9 +91,9 @@ abbrev pub storeOf : State → Store
 storeOf s = record { ledger = s .gateway .ledger; journal = s .memory .journal }
 
 -- an event by its line's parts and the store alone
-abbrev pub left : Verdict → ℕ → Parts → Kind → Store → Told × Parts × Store
+abbrev pub left : Verdict → ℕ → Parts → Kind → Store → Response × Parts × Store
 left v i p k j = (
-  told (answerOf v) [],
+  response (answerOf v) [],
   record { line = lineAfter v (p .line); texts = ownTexts v (p .line) (p .texts) (p .frames); frames = ownFrames v k (p .line) (p .frames) },
   record {
     ledger = ledgerAfter v (j .ledger) i (λ n. joinedText (p .line) n (p .texts) (p .frames));
@@ -101,14 +101,14 @@ left v i p k j = (
   },
 )
 
-abbrev pub onEvent : ℕ → Parts → Kind → Store → Told × Parts × Store
+abbrev pub onEvent : ℕ → Parts → Kind → Store → Response × Parts × Store
 onEvent i p k j = left (ownWork todaysShares (p .line) (j .ledger) i k (j .journal) (p .texts) (p .frames)) i p k j
 
 -- a taking by the store alone
-abbrev pub onTaking : ℕ → List ℕ → Store → Told × Store
+abbrev pub onTaking : ℕ → List ℕ → Store → Response × Store
 onTaking i b j =
     let r = takeEntry (j .ledger) i (j .journal) b in
-    (told (tookAnswer (r .taking .answer)) (r .buffer), record { ledger = r .taking .ledger; journal = r .journal })
+    (response (tookAnswer (r .taking .answer)) (r .buffer), record { ledger = r .taking .ledger; journal = r .journal })
 
 -- what holds of every state of a run: eight records within their limits, memory of the right sizes, and a journal that is whole and keeps every share
 pub record Sound (s : State) : Type 0 where

@@ -16,7 +16,7 @@ use Rattle.answers.specs.Paper.{valuesOf}
 use Rattle.receiving.specs.Steps.{Memory}
 use Rattle.looking.specs.declared.Kind.{Kind}
 use Rattle.serial.specs.Serial.{event, taking, final}
-use Rattle.promises.specs.Machine.{State, Told, GatewayItem, came, step}
+use Rattle.promises.specs.Machine.{State, Response, GatewayItem, came, step}
 use Rattle.promises.specs.Runs.{fresh, answered, offered}
 
 -- the message that an event completes on its line; no bytes where it completes none
@@ -32,7 +32,7 @@ abbrev pub gaveBy : List ℕ → List ℕ → List Numbered
 gaveBy [] buffer = []
 gaveBy (n ∷ values) buffer = record { serial = getD values 0 0; text = take n buffer } ∷ []
 
-abbrev pub gave : Told → List Numbered
+abbrev pub gave : Response → List Numbered
 gave t = gaveBy (valuesOf (t .answer)) (t .buffer)
 
 -- the message that an item stores on line l: one that is answered 4

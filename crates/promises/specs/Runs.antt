@@ -21,7 +21,7 @@ use Rattle.gateway.specs.Events.{lineAt, freshGateway}
 use Rattle.looking.specs.declared.Kind.{Kind}
 use Rattle.looking.specs.declared.Look.{Look}
 use Rattle.looking.specs.declared.Look.the-variants.{Done, Decides}
-use Rattle.promises.specs.Machine.{State, Told}
+use Rattle.promises.specs.Machine.{State, Response}
 
 -- memory of the right sizes, whatever it holds
 pub record RightSizes (m : Memory) : Type 0 where
@@ -33,17 +33,17 @@ abbrev pub fresh : Memory → State
 fresh m = record { gateway = freshGateway; memory = m }
 
 -- the paper's number of an answer, and the byte that the analyzer gets, if any
-abbrev pub answered : Told → ℕ
+abbrev pub answered : Response → ℕ
 answered t = numberOf (t .answer)
 
-abbrev pub replied : Told → Reply
+abbrev pub replied : Response → Reply
 replied t = replyOf (answered t)
 
 abbrev pub isAck : Reply → Bool
 isAck Silence = false
 isAck (Byte b) = eqb b ack
 
--- whether a number tells of memory, a record or a journal that no run leaves: 41, 42, 43
+-- whether a number speaks of memory, a record or a journal that no run leaves: 41, 42, 43
 abbrev pub isFault : ℕ → Bool
 isFault n = between 41 43 n
 

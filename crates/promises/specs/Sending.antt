@@ -27,7 +27,7 @@ use Rattle.journal.specs.declared.Ledger.{Ledger}
 use Rattle.gateway.specs.Events.{lineAt}
 use Rattle.looking.specs.declared.Kind.the-variants.{Byte}
 use Rattle.serial.specs.Serial.{taking, annotate, final, Every}
-use Rattle.promises.specs.Machine.{State, Told, told, GatewayItem, came, step, partsOf}
+use Rattle.promises.specs.Machine.{State, Response, response, GatewayItem, came, step, partsOf}
 
 -- bytes that come on line i, one behind the other
 abbrev pub bytesOn : ℕ → List ℕ → List GatewayItem
@@ -35,13 +35,13 @@ bytesOn i bs = map (λ (b : ℕ). came i (Byte b)) bs
 
 -- what runs items: the gateway's is `step`; the promise can be asked of any (proofs/Frauds)
 abbrev pub Runner : Type 0
-Runner = State → GatewayItem → Told × State
+Runner = State → GatewayItem → Response × State
 
 -- the answers to a run
-abbrev pub answersBy : Runner → State → List GatewayItem → List Told
-answersBy f s es = map (λ (x : GatewayItem × Told). x .1) (annotate f s es)
+abbrev pub answersBy : Runner → State → List GatewayItem → List Response
+answersBy f s es = map (λ (x : GatewayItem × Response). x .1) (annotate f s es)
 
-abbrev pub answersTo : State → List GatewayItem → List Told
+abbrev pub answersTo : State → List GatewayItem → List Response
 answersTo s es = answersBy step s es
 
 -- 0 to each byte of a frame but its last; to that 2, and 4 where no frame of the message follows
@@ -49,9 +49,9 @@ abbrev pub lastAnswer : List Piece → Answer
 lastAnswer [] = Stored
 lastAnswer (p ∷ ps) = Accepted
 
-abbrev pub replies : List Piece → List Told
+abbrev pub replies : List Piece → List Response
 replies [] = []
-replies (p ∷ ps) = replicate (length (p .bytes) + leastCollected) (told Nothing []) ++ (told (lastAnswer ps) [] ∷ replies ps)
+replies (p ∷ ps) = replicate (length (p .bytes) + leastCollected) (response Nothing []) ++ (response (lastAnswer ps) [] ∷ replies ps)
 
 -- a limit of frames that leaves room for a byte of text and is within the line's own
 pub record Usable (limit : ℕ) : Type 0 where
@@ -62,8 +62,8 @@ pub record Usable (limit : ℕ) : Type 0 where
 abbrev pub sending : ℕ → List ℕ → List ℕ
 sending limit m = enq ∷ cutOf limit m
 
-abbrev pub sendingReplies : ℕ → List ℕ → List Told
-sendingReplies limit m = told Opened [] ∷ replies (piecesOf limit m)
+abbrev pub sendingReplies : ℕ → List ℕ → List Response
+sendingReplies limit m = response Opened [] ∷ replies (piecesOf limit m)
 
 -- a transfer of several: ENQ, the frames of each message behind those of the one before it with the numbers running on, EOT
 abbrev pub piecesOfAll : ℕ → List (List ℕ) → List Piece
@@ -73,12 +73,12 @@ piecesOfAll limit (m ∷ ms) = piecesOf limit m ++ piecesOfAll limit ms
 abbrev pub transfer : ℕ → List (List ℕ) → List ℕ
 transfer limit ms = enq ∷ (framesFrom firstNumber (piecesOfAll limit ms) ++ (eot ∷ []))
 
-abbrev pub repliesToAll : ℕ → List (List ℕ) → List Told
+abbrev pub repliesToAll : ℕ → List (List ℕ) → List Response
 repliesToAll limit [] = []
 repliesToAll limit (m ∷ ms) = replies (piecesOf limit m) ++ repliesToAll limit ms
 
-abbrev pub transferReplies : ℕ → List (List ℕ) → List Told
-transferReplies limit ms = told Opened [] ∷ (repliesToAll limit ms ++ (told Ended [] ∷ []))
+abbrev pub transferReplies : ℕ → List (List ℕ) → List Response
+transferReplies limit ms = response Opened [] ∷ (repliesToAll limit ms ++ (response Ended [] ∷ []))
 
 -- the entries that texts become on line i, one behind the other
 abbrev pub newEntries : Ledger → ℕ → List (List ℕ) → List Entry
@@ -111,12 +111,12 @@ pub record Intact (s : State) : Type 0 where
 
 -- the bytes bs on line i, from a state whose journal holds the entries es, get these answers; the journal then holds es and, behind them, one entry for each of
 -- the texts ms; and every other line has what it had
-pub record DeliversBy (f : Runner) (s : State) (i : ℕ) (bs : List ℕ) (answers : List Told) (ms : List (List ℕ)) (es : List Entry) : Type 0 where
+pub record DeliversBy (f : Runner) (s : State) (i : ℕ) (bs : List ℕ) (answers : List Response) (ms : List (List ℕ)) (es : List Entry) : Type 0 where
   pub answered : answersBy f s (bytesOn i bs) ≡ answers
   pub held : Held todaysShares (final f s (bytesOn i bs) .gateway .ledger) (final f s (bytesOn i bs) .memory .journal) (es ++ newEntries (s .gateway .ledger) i ms)
   pub others : (l : ℕ) → l ≢ i → partsOf (final f s (bytesOn i bs)) l ≡ partsOf s l
 
-abbrev pub Delivers : State → ℕ → List ℕ → List Told → List (List ℕ) → List Entry → Type 0
+abbrev pub Delivers : State → ℕ → List ℕ → List Response → List (List ℕ) → List Entry → Type 0
 Delivers s i bs answers ms es = DeliversBy step s i bs answers ms es
 
 -- Demand 2, of any runner: a message that is cut and sent to a fresh line, whatever the other lines are at, with room for it
@@ -128,4 +128,4 @@ Demand2 f =
 -- a taking from line i into the buffer b gives the text m with this serial: both its length and the serial are answered, it stands at the start of the buffer,
 -- and the buffer's rest stays
 abbrev pub GivesBack : State → ℕ → List ℕ → ℕ → List ℕ → Type 0
-GivesBack s i b serial m = (step s (taking i b)) .0 ≡ told (Taken (length m) serial) (splice b 0 m)
+GivesBack s i b serial m = (step s (taking i b)) .0 ≡ response (Taken (length m) serial) (splice b 0 m)

@@ -31,8 +31,8 @@ pub fn run(fd: i32, name: &[u8], n: usize, input: &mut [u8])
     let mut frames = [0u8; memory::FRAMES_SIZE];
     let mut buffer = [0u8; memory::MESSAGE_LIMIT];
     let mut numbers = [0u16; layout::NUMBERS];
-    let mut used = [0u32; layout::COUNTS];
-    layout::fresh(&mut numbers, &mut used);
+    let mut counts = [0u32; layout::COUNTS];
+    layout::fresh(&mut numbers, &mut counts);
     let mut kept = waits(0, n, 0, false);
     let mut turns = u64::MAX;
     while 0 < turns {
@@ -43,7 +43,7 @@ pub fn run(fd: i32, name: &[u8], n: usize, input: &mut [u8])
             &input[from..end],
             &mut out,
             &mut numbers,
-            &mut used,
+            &mut counts,
             &mut journal,
             &mut unfinished,
             &mut frames,

@@ -12,7 +12,7 @@ run-once s x y = (
   x .progress ∙ sym (y .progress),
   x .out ∙ sym (y .out),
   x .numbers ∙ sym (y .numbers),
-  x .used ∙ sym (y .used),
+  x .counts ∙ sym (y .counts),
   x .journal ∙ sym (y .journal),
   x .unfinished ∙ sym (y .unfinished),
   x .frames ∙ sym (y .frames),

@@ -14,7 +14,7 @@ use Rattle.replaying.specs.declared.Stop.the-variants.{Input}
 use Rattle.replaying.specs.declared.Turn.{Turn}
 use Rattle.replaying.specs.declared.Turn.the-variants.{Went, Stopped}
 
-desk-is : (d : Desk) {ns us j u f b : List ℕ} → ns ≡ d .numbers → us ≡ d .used → j ≡ d .journal → u ≡ d .unfinished → f ≡ d .frames → b ≡ d .buffer → deskOf ns us j u f b ≡ d
+desk-is : (d : Desk) {ns us j u f b : List ℕ} → ns ≡ d .numbers → us ≡ d .counts → j ≡ d .journal → u ≡ d .unfinished → f ≡ d .frames → b ≡ d .buffer → deskOf ns us j u f b ≡ d
 desk-is d p q r s t v = rw (p, q, r, s, t, v)
 
 pub as-piece : {s t : AfterRun} {r : Progress} {out ns us j u f b : List ℕ} → s ≡ t → Ran t r out ns us j u f b → Ran s r out ns us j u f b
@@ -26,7 +26,7 @@ module _ (input : List ℕ) (count at put : ℕ) (out : List ℕ) (d : Desk) {ne
   after =
       let t = turnOf next input at out put d in
       ap (λ (x : ℕ). turnOf x input at out put d) (sym n)
-      ∙ rw (l .turn, l .out, desk-is (t .desk) (l .numbers) (l .used) (l .journal) (l .unfinished) (l .frames) (l .buffer))
+      ∙ rw (l .turn, l .out, desk-is (t .desk) (l .numbers) (l .counts) (l .journal) (l .unfinished) (l .frames) (l .buffer))
 
   one-more : (most : ℕ) → runOf (suc most) input count at put out d
       ≡ byTurn r (λ behind end. runOf most input (following count) behind end out′ (deskOf ns us j u f b)) (λ s. left s count at put out′ (deskOf ns us j u f b))
@@ -42,13 +42,13 @@ module _ (input : List ℕ) (count at put : ℕ) (out : List ℕ) (d : Desk) {ne
   pub stopped-at : (most : ℕ) {s : Stop} → 0 < most → r ≡ Stopped s
       → Ran (runOf most input count at put out d) (record { events = count; read = at; written = put; stop = s }) out′ ns us j u f b
   stopped-at zero h e = absurd (omega arith)
-  stopped-at (suc most) {s} h e = as-piece (one-more most ∙ rw e) (record { progress = refl; out = refl; numbers = refl; used = refl; journal = refl; unfinished = refl; frames = refl; buffer = refl })
+  stopped-at (suc most) {s} h e = as-piece (one-more most ∙ rw e) (record { progress = refl; out = refl; numbers = refl; counts = refl; journal = refl; unfinished = refl; frames = refl; buffer = refl })
 
 -- no line more
 pub ran-out : (input : List ℕ) (count at put : ℕ) (out ns us j u f b : List ℕ)
     → Ran (runOf 0 input count at put out (deskOf ns us j u f b)) (record { events = count; read = at; written = put; stop = Input }) out ns us j u f b
 unfolding runOf
-ran-out input count at put out ns us j u f b = record { progress = refl; out = refl; numbers = refl; used = refl; journal = refl; unfinished = refl; frames = refl; buffer = refl }
+ran-out input count at put out ns us j u f b = record { progress = refl; out = refl; numbers = refl; counts = refl; journal = refl; unfinished = refl; frames = refl; buffer = refl }
 
 -- what is known of a turn that went on
 pub read-in : {r : Turn} {behind end most : ℕ} → r ≡ Went behind end → ReadIn r most → behind ≤ most

@@ -26,7 +26,7 @@ use Rattle.calls.specs.Calls.{Calling, Taken}
 use Rattle.numbers.specs.declared.Answered.{Answered}
 use Rattle.replaying.specs.Lines.{nextOf}
 use Rattle.replaying.specs.Desk.{rowRoom, Desk, eventAsked, takingAsked}
-use Rattle.replaying.specs.Turns.{AfterTurn, AfterAsking, stopped, acted, onLine, turnOf, askedBy, turnBy, outBy, Leaves, Asks, RowPut, Telling, ReadIn}
+use Rattle.replaying.specs.Turns.{AfterTurn, AfterAsking, stopped, acted, onLine, turnOf, askedBy, turnBy, outBy, Leaves, Asks, RowPut, ColumnsPut, ReadIn}
 use Rattle.replaying.specs.declared.Columns.{Columns}
 use Rattle.replaying.specs.declared.Columns.the-variants.{Row, NoRow}
 use Rattle.replaying.specs.declared.Next.{Next}
@@ -84,13 +84,13 @@ module _ (number line answer size behind : ℕ) (out : List ℕ) (put : ℕ) {w 
   isTo (To n) = true
   isTo NotFitting = false
 
-  pub told-row : {end : ℕ} → w ≡ To end → RowPut number line answer size behind out put (Went behind end) out′
-  told-row {end} e =
+  pub row-put : {end : ℕ} → w ≡ To end → RowPut number line answer size behind out put (Went behind end) out′
+  row-put {end} e =
       let (ends, after) = fits-written (rowText number line answer size) out put room t in
       record { turn = ap (λ (x : Written). Went behind (endIn x)) (sym e ∙ ends); after = after }
 
-  pub told-within : {end : ℕ} → w ≡ To end → end ≤ length out′
-  told-within {end} e =
+  pub row-within : {end : ℕ} → w ≡ To end → end ≤ length out′
+  row-within {end} e =
       let (ends, after) = fits-written (rowText number line answer size) out put room t in
       let is : end ≡ put + length (rowText number line answer size) = ap endIn (sym e ∙ ends) in
       let long : length out′ ≡ length out = ap length after ∙ length-splice out put (rowText number line answer size) room in
@@ -101,13 +101,13 @@ module _ (number line answer size behind : ℕ) (out : List ℕ) (put : ℕ) {w 
 
 -- the row of what a line asked, by its columns
 module _ (columns : Columns) (number behind : ℕ) (out : List ℕ) (put : ℕ) where
-  pub told-columns : {line answer size : ℕ} {r : Turn} {out′ : List ℕ} → columns ≡ Row line answer size → RowPut number line answer size behind out put r out′
-      → Telling columns number behind out put r out′
-  told-columns q p =
+  pub columns-put : {line answer size : ℕ} {r : Turn} {out′ : List ℕ} → columns ≡ Row line answer size → RowPut number line answer size behind out put r out′
+      → ColumnsPut columns number behind out put r out′
+  columns-put q p =
       record { turn = p .turn ∙ ap (λ (x : Columns). turnBy x number behind put) (sym q); after = p .after ∙ ap (λ (x : Columns). outBy x number out put) (sym q) }
 
-  pub told-nothing : columns ≡ NoRow → Telling columns number behind out put (Stopped NotAnEvent) out
-  told-nothing q = record { turn = ap (λ (x : Columns). turnBy x number behind put) (sym q); after = ap (λ (x : Columns). outBy x number out put) (sym q) }
+  pub nothing-put : columns ≡ NoRow → ColumnsPut columns number behind out put (Stopped NotAnEvent) out
+  nothing-put q = record { turn = ap (λ (x : Columns). turnBy x number behind put) (sym q); after = ap (λ (x : Columns). outBy x number out put) (sym q) }
 
 -- what each item asks
 module _ (d : Desk) (item : Item) where
@@ -115,13 +115,13 @@ module _ (d : Desk) (item : Item) where
   as-asked {s} {c} {ns′} {us′} {j′} {u′} {f′} {b′} q l = subst (λ (x : AfterAsking). Asks x c ns′ us′ j′ u′ f′ b′) (sym q) l
 
   pub asks-event : {e : GatewayEvent} {a : Answered} {ns′ us′ j′ u′ f′ : List ℕ} → item ≡ Event e
-      → Calling (d .numbers) (d .used) e (d .journal) (d .unfinished) (d .frames) a ns′ us′ j′ u′ f′
+      → Calling (d .numbers) (d .counts) e (d .journal) (d .unfinished) (d .frames) a ns′ us′ j′ u′ f′
       → Asks (askedBy item d) (Row (e .line) (a .number) (a .length)) ns′ us′ j′ u′ f′ (d .buffer)
   unfolding eventAsked
   asks-event {e} q c = as-asked (ap (λ (x : Item). askedBy x d) q) (record {
     columns = ap (λ (x : Answered). Row (e .line) (x .number) (x .length)) (c .result);
     numbers = c .numbers;
-    used = c .used;
+    counts = c .counts;
     journal = c .journal;
     unfinished = c .unfinished;
     frames = c .frames;
@@ -129,33 +129,33 @@ module _ (d : Desk) (item : Item) where
   })
 
   pub asks-taking : {i n m : ℕ} {a : Answered} {us′ j′ b₁ b′ : List ℕ} → item ≡ Taking i n → m ≡ min n (length (d .buffer))
-      → Taken (d .numbers) (d .used) i (d .journal) (take m (d .buffer)) a us′ j′ b₁ → b′ ≡ b₁ ++ drop m (d .buffer)
+      → Taken (d .numbers) (d .counts) i (d .journal) (take m (d .buffer)) a us′ j′ b₁ → b′ ≡ b₁ ++ drop m (d .buffer)
       → Asks (askedBy item d) (Row i (a .number) (a .length)) (d .numbers) us′ j′ (d .unfinished) (d .frames) b′
   unfolding takingAsked
   asks-taking {i} {n} {m} {a} {us′} {j′} {b₁} {b′} q p c e =
       let behind-lent : drop m (d .buffer) ≡ drop n (d .buffer) = rw p (drop-least n (d .buffer)) in
       let lent : take m (d .buffer) ≡ take n (d .buffer) = rw p (take-least n (d .buffer)) in
-      let c′ : Taken (d .numbers) (d .used) i (d .journal) (take n (d .buffer)) a us′ j′ b₁ = rw (← lent) c in
+      let c′ : Taken (d .numbers) (d .counts) i (d .journal) (take n (d .buffer)) a us′ j′ b₁ = rw (← lent) c in
       as-asked (ap (λ (x : Item). askedBy x d) q) (record {
         columns = ap (λ (x : Answered). Row i (x .number) (x .length)) (c′ .result);
         numbers = refl;
-        used = c′ .used;
+        counts = c′ .counts;
         journal = c′ .journal;
         unfinished = refl;
         frames = refl;
         buffer = e ∙ rw (behind-lent, c′ .buffer);
       })
 
-  pub asks-nothing : item ≡ NoItem → Asks (askedBy item d) NoRow (d .numbers) (d .used) (d .journal) (d .unfinished) (d .frames) (d .buffer)
+  pub asks-nothing : item ≡ NoItem → Asks (askedBy item d) NoRow (d .numbers) (d .counts) (d .journal) (d .unfinished) (d .frames) (d .buffer)
   asks-nothing q =
-      as-asked (ap (λ (x : Item). askedBy x d) q) (record { columns = refl; numbers = refl; used = refl; journal = refl; unfinished = refl; frames = refl; buffer = refl })
+      as-asked (ap (λ (x : Item). askedBy x d) q) (record { columns = refl; numbers = refl; counts = refl; journal = refl; unfinished = refl; frames = refl; buffer = refl })
 
 module _ (d : Desk) (out : List ℕ) (put : ℕ) where
   as-turn : {s t : AfterTurn} {r : Turn} {out′ ns′ us′ j′ u′ f′ b′ : List ℕ} → s ≡ t → Leaves t r out′ ns′ us′ j′ u′ f′ b′ → Leaves s r out′ ns′ us′ j′ u′ f′ b′
   as-turn {s} {t} {r} {out′} {ns′} {us′} {j′} {u′} {f′} {b′} q l = subst (λ (x : AfterTurn). Leaves x r out′ ns′ us′ j′ u′ f′ b′) (sym q) l
 
-  pub stays : (s : Stop) → Leaves (stopped s out d) (Stopped s) out (d .numbers) (d .used) (d .journal) (d .unfinished) (d .frames) (d .buffer)
-  stays s = record { turn = refl; out = refl; numbers = refl; used = refl; journal = refl; unfinished = refl; frames = refl; buffer = refl }
+  pub stays : (s : Stop) → Leaves (stopped s out d) (Stopped s) out (d .numbers) (d .counts) (d .journal) (d .unfinished) (d .frames) (d .buffer)
+  stays s = record { turn = refl; out = refl; numbers = refl; counts = refl; journal = refl; unfinished = refl; frames = refl; buffer = refl }
 
   module _ (item : Item) (number behind : ℕ) where
     -- what a line asks, done, and its row put
@@ -169,13 +169,13 @@ module _ (d : Desk) (out : List ℕ) (put : ℕ) where
         by-item (Taking i n) = refl
         by-item NoItem = refl
 
-    pub asked-told : {c : Columns} {r : Turn} {out′ ns′ us′ j′ u′ f′ b′ : List ℕ} → Asks (askedBy item d) c ns′ us′ j′ u′ f′ b′ → Telling c number behind out put r out′
+    pub asked-put : {c : Columns} {r : Turn} {out′ ns′ us′ j′ u′ f′ b′ : List ℕ} → Asks (askedBy item d) c ns′ us′ j′ u′ f′ b′ → ColumnsPut c number behind out put r out′
         → Leaves (acted item number behind out put d) r out′ ns′ us′ j′ u′ f′ b′
-    asked-told a t = as-turn acted-is (record {
+    asked-put a t = as-turn acted-is (record {
       turn = t .turn ∙ ap (λ (x : Columns). turnBy x number behind put) (a .columns);
       out = t .after ∙ ap (λ (x : Columns). outBy x number out put) (a .columns);
       numbers = a .numbers;
-      used = a .used;
+      counts = a .counts;
       journal = a .journal;
       unfinished = a .unfinished;
       frames = a .frames;
@@ -192,7 +192,7 @@ module _ (d : Desk) (out : List ℕ) (put : ℕ) where
         by-item NoItem = tt
 
   module _ (input : List ℕ) (at number : ℕ) where
-    pub no-room : length out < put + rowRoom → Leaves (turnOf number input at out put d) (Stopped Output) out (d .numbers) (d .used) (d .journal) (d .unfinished) (d .frames) (d .buffer)
+    pub no-room : length out < put + rowRoom → Leaves (turnOf number input at out put d) (Stopped Output) out (d .numbers) (d .counts) (d .journal) (d .unfinished) (d .frames) (d .buffer)
     unfolding turnOf
     no-room h = as-turn (rw (lt-leb (put + rowRoom) (length out) h)) (stays Output)
 

@@ -7,7 +7,7 @@ use Rattle.journal.specs.Removal.{takeOf}
 use Rattle.receiving.specs.Steps.{memoryOf}
 use Rattle.looking.specs.declared.Event.{Event}
 use Rattle.numbers.specs.Plain.{ledgerOf}
-use Rattle.calls.specs.Calls.{callOf, usedAfter, toldTaking}
+use Rattle.calls.specs.Calls.{callOf, usedAfter, takingInNumbers}
 use Rattle.numbers.specs.declared.Answered.{Answered}
 
 -- the longest row: 20 digits, 3, 3 and 20, with three spaces and the newline
@@ -17,7 +17,7 @@ rowRoom = 50
 -- the gateway's numbers, its three memories, and the buffer for takings
 pub record Desk : Type 0 where
   pub numbers : List ℕ
-  pub used : List ℕ
+  pub counts : List ℕ
   pub journal : List ℕ
   pub unfinished : List ℕ
   pub frames : List ℕ
@@ -30,17 +30,17 @@ pub record Asked : Type 0 where
 -- an event
 unfoldable pub eventAsked : Event → Desk → Asked
 eventAsked e d =
-    let c = callOf (d .numbers) (d .used) e (memoryOf (d .journal) (d .unfinished) (d .frames)) in
+    let c = callOf (d .numbers) (d .counts) e (memoryOf (d .journal) (d .unfinished) (d .frames)) in
     record {
       answered = c .answered;
-      desk = record { numbers = c .numbers; used = c .used; journal = c .memory .journal; unfinished = c .memory .unfinished; frames = c .memory .frames; buffer = d .buffer };
+      desk = record { numbers = c .numbers; counts = c .counts; journal = c .memory .journal; unfinished = c .memory .unfinished; frames = c .memory .frames; buffer = d .buffer };
     }
 
 -- a taking, with the first n bytes of the buffer
 unfoldable pub takingAsked : ℕ → ℕ → Desk → Asked
 takingAsked i n d =
-    let t = takeOf (ledgerOf (d .numbers) (d .used)) i (d .journal) (take n (d .buffer)) in
+    let t = takeOf (ledgerOf (d .numbers) (d .counts)) i (d .journal) (take n (d .buffer)) in
     record {
-      answered = toldTaking (t .taking .answer);
-      desk = record { numbers = d .numbers; used = usedAfter (d .used) i t; journal = t .journal; unfinished = d .unfinished; frames = d .frames; buffer = t .buffer ++ drop n (d .buffer) };
+      answered = takingInNumbers (t .taking .answer);
+      desk = record { numbers = d .numbers; counts = usedAfter (d .counts) i t; journal = t .journal; unfinished = d .unfinished; frames = d .frames; buffer = t .buffer ++ drop n (d .buffer) };
     }

@@ -45,7 +45,7 @@ pub record Ran (s : AfterRun) (r : Progress) (o ns us j u f b : List ℕ) : Type
   pub progress : r ≡ s .progress
   pub out : o ≡ s .out
   pub numbers : ns ≡ s .desk .numbers
-  pub used : us ≡ s .desk .used
+  pub counts : us ≡ s .desk .counts
   pub journal : j ≡ s .desk .journal
   pub unfinished : u ≡ s .desk .unfinished
   pub frames : f ≡ s .desk .frames

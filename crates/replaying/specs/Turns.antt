@@ -61,14 +61,14 @@ pub record Leaves (s : AfterTurn) (r : Turn) (o ns us j u f b : List ℕ) : Type
   pub turn : r ≡ s .turn
   pub out : o ≡ s .out
   pub numbers : ns ≡ s .desk .numbers
-  pub used : us ≡ s .desk .used
+  pub counts : us ≡ s .desk .counts
   pub journal : j ≡ s .desk .journal
   pub unfinished : u ≡ s .desk .unfinished
   pub frames : f ≡ s .desk .frames
   pub buffer : b ≡ s .desk .buffer
 
 abbrev pub deskOf : List ℕ → List ℕ → List ℕ → List ℕ → List ℕ → List ℕ → Desk
-deskOf ns us j u f b = record { numbers = ns; used = us; journal = j; unfinished = u; frames = f; buffer = b }
+deskOf ns us j u f b = record { numbers = ns; counts = us; journal = j; unfinished = u; frames = f; buffer = b }
 
 abbrev pub Turning : ℕ → List ℕ → ℕ → List ℕ → ℕ → List ℕ → List ℕ → List ℕ → List ℕ → List ℕ → List ℕ → Turn → List ℕ → List ℕ → List ℕ → List ℕ → List ℕ → List ℕ → List ℕ → Type 0
 Turning number input at out put ns us j u f b r out′ ns′ us′ j′ u′ f′ b′ = Leaves (turnOf number input at out put (deskOf ns us j u f b)) r out′ ns′ us′ j′ u′ f′ b′
@@ -89,7 +89,7 @@ askedBy NoItem d = record { columns = NoRow; desk = d }
 pub record Asks (s : AfterAsking) (r : Columns) (ns us j u f b : List ℕ) : Type 0 where
   pub columns : r ≡ s .columns
   pub numbers : ns ≡ s .desk .numbers
-  pub used : us ≡ s .desk .used
+  pub counts : us ≡ s .desk .counts
   pub journal : j ≡ s .desk .journal
   pub unfinished : u ≡ s .desk .unfinished
   pub frames : f ≡ s .desk .frames
@@ -111,7 +111,7 @@ abbrev pub outBy : Columns → ℕ → List ℕ → ℕ → List ℕ
 outBy (Row line answer size) number out put = splice out put (rowText number line answer size)
 outBy NoRow number out put = out
 
-pub record Telling (columns : Columns) (number behind : ℕ) (out : List ℕ) (put : ℕ) (r : Turn) (out′ : List ℕ) : Type 0 where
+pub record ColumnsPut (columns : Columns) (number behind : ℕ) (out : List ℕ) (put : ℕ) (r : Turn) (out′ : List ℕ) : Type 0 where
   pub turn : r ≡ turnBy columns number behind put
   pub after : out′ ≡ outBy columns number out put
 

@@ -48,14 +48,14 @@ pub fn run(
     input: &[u8],
     out: &mut [u8],
     numbers: &mut [u16; layout::NUMBERS],
-    used: &mut [u32; layout::COUNTS],
+    counts: &mut [u32; layout::COUNTS],
     journal: &mut [u8],
     unfinished: &mut [u8],
     frames: &mut [u8],
     buffer: &mut [u8],
 ) -> Progress
-    ensures { λ r. ⌜ Running events (now (input .entry)) (now (out .entry)) (now (numbers .entry)) (now (used .entry)) (now (journal .entry)) (now (unfinished .entry)) (now (frames .entry)) (now (buffer .entry))
-        r (now (out .exit)) (now (numbers .exit)) (now (used .exit)) (now (journal .exit)) (now (unfinished .exit)) (now (frames .exit)) (now (buffer .exit))
+    ensures { λ r. ⌜ Running events (now (input .entry)) (now (out .entry)) (now (numbers .entry)) (now (counts .entry)) (now (journal .entry)) (now (unfinished .entry)) (now (frames .entry)) (now (buffer .entry))
+        r (now (out .exit)) (now (numbers .exit)) (now (counts .exit)) (now (journal .exit)) (now (unfinished .exit)) (now (frames .exit)) (now (buffer .exit))
         × (r .read ≤ length (now (input .entry))) × (r .written ≤ length (now (out .exit))) ⌝ }
 {
     let mut count = events;
@@ -71,7 +71,7 @@ pub fn run(
             out,
             put,
             numbers,
-            used,
+            counts,
             journal,
             unfinished,
             frames,

@@ -3,7 +3,7 @@ ghost use Prim.Native.Nat.{_+_, _≤_, min};
 ghost use mathlib.Core.Path.{_≡_};
 ghost use lib.ListN.{length};
 ghost use Rattle.replaying.specs.Desk.{rowRoom};
-ghost use Rattle.replaying.specs.Turns.{Turning, Asking, Telling, RowPut, ReadIn, EndsIn};
+ghost use Rattle.replaying.specs.Turns.{Turning, Asking, ColumnsPut, RowPut, ReadIn, EndsIn};
 ghost use Rattle.calls.specs.Calls.{Calling};
 use super::Columns;
 use super::Next;
@@ -24,14 +24,14 @@ pub fn turn(
     out: &mut [u8],
     put: usize,
     numbers: &mut [u16; layout::NUMBERS],
-    used: &mut [u32; layout::COUNTS],
+    counts: &mut [u32; layout::COUNTS],
     journal: &mut [u8],
     unfinished: &mut [u8],
     frames: &mut [u8],
     buffer: &mut [u8],
 ) -> Turn
-    ensures { λ r. ⌜ Turning number (now (input .entry)) at (now (out .entry)) put (now (numbers .entry)) (now (used .entry)) (now (journal .entry)) (now (unfinished .entry)) (now (frames .entry)) (now (buffer .entry))
-        r (now (out .exit)) (now (numbers .exit)) (now (used .exit)) (now (journal .exit)) (now (unfinished .exit)) (now (frames .exit)) (now (buffer .exit))
+    ensures { λ r. ⌜ Turning number (now (input .entry)) at (now (out .entry)) put (now (numbers .entry)) (now (counts .entry)) (now (journal .entry)) (now (unfinished .entry)) (now (frames .entry)) (now (buffer .entry))
+        r (now (out .exit)) (now (numbers .exit)) (now (counts .exit)) (now (journal .exit)) (now (unfinished .exit)) (now (frames .exit)) (now (buffer .exit))
         × ReadIn r (length (now (input .entry))) × EndsIn r (length (now (out .exit))) ⌝ }
 {
     if out.len() < put {
@@ -43,8 +43,8 @@ pub fn turn(
     match lines::next(input, at) {
         Next::Unended => Turn::Stopped(Stop::Input),
         Next::Whole(item, behind) => {
-            let columns = ask(item, numbers, used, journal, unfinished, frames, buffer);
-            tell(columns, number, behind, out, put)
+            let columns = ask(item, numbers, counts, journal, unfinished, frames, buffer);
+            put_columns(columns, number, behind, out, put)
         }
     }
 }
@@ -53,24 +53,24 @@ pub fn turn(
 fn ask(
     item: Item,
     numbers: &mut [u16; layout::NUMBERS],
-    used: &mut [u32; layout::COUNTS],
+    counts: &mut [u32; layout::COUNTS],
     journal: &mut [u8],
     unfinished: &mut [u8],
     frames: &mut [u8],
     buffer: &mut [u8],
 ) -> Columns
-    ensures { λ r. ⌜ Asking item (now (numbers .entry)) (now (used .entry)) (now (journal .entry)) (now (unfinished .entry)) (now (frames .entry)) (now (buffer .entry))
-        r (now (numbers .exit)) (now (used .exit)) (now (journal .exit)) (now (unfinished .exit)) (now (frames .exit)) (now (buffer .exit)) ⌝ }
+    ensures { λ r. ⌜ Asking item (now (numbers .entry)) (now (counts .entry)) (now (journal .entry)) (now (unfinished .entry)) (now (frames .entry)) (now (buffer .entry))
+        r (now (numbers .exit)) (now (counts .exit)) (now (journal .exit)) (now (unfinished .exit)) (now (frames .exit)) (now (buffer .exit)) ⌝ }
 {
     match item {
         Item::Event(e) => {
             let line = e.line;
-            let answered = event(e, numbers, used, journal, unfinished, frames);
+            let answered = event(e, numbers, counts, journal, unfinished, frames);
             Columns::Row(line, answered.number, answered.length)
         }
         Item::Taking(line, n) => {
             let lent = least(n, buffer.len());
-            let answered = calls::take(line, numbers, used, journal, &mut buffer[..lent]);
+            let answered = calls::take(line, numbers, counts, journal, &mut buffer[..lent]);
             Columns::Row(line, answered.number, answered.length)
         }
         Item::NotAnEvent => Columns::NoRow,
@@ -81,26 +81,28 @@ fn ask(
 fn event(
     e: Event,
     numbers: &mut [u16; layout::NUMBERS],
-    used: &mut [u32; layout::COUNTS],
+    counts: &mut [u32; layout::COUNTS],
     journal: &mut [u8],
     unfinished: &mut [u8],
     frames: &mut [u8],
 ) -> Answered
-    ensures { λ r. ⌜ Calling (now (numbers .entry)) (now (used .entry)) e (now (journal .entry)) (now (unfinished .entry)) (now (frames .entry))
-        r (now (numbers .exit)) (now (used .exit)) (now (journal .exit)) (now (unfinished .exit)) (now (frames .exit)) ⌝ }
+    ensures { λ r. ⌜ Calling (now (numbers .entry)) (now (counts .entry)) e (now (journal .entry)) (now (unfinished .entry)) (now (frames .entry))
+        r (now (numbers .exit)) (now (counts .exit)) (now (journal .exit)) (now (unfinished .exit)) (now (frames .exit)) ⌝ }
 {
     let line = e.line;
     let kind = e.kind;
     match kind {
-        Kind::Byte(b) => { calls::byte(line, b, numbers, used, journal, unfinished, frames) }
-        Kind::Seconds(s) => { calls::seconds(line, s, numbers, used, journal, unfinished, frames) }
+        Kind::Byte(b) => { calls::byte(line, b, numbers, counts, journal, unfinished, frames) }
+        Kind::Seconds(s) => {
+            calls::seconds(line, s, numbers, counts, journal, unfinished, frames)
+        }
     }
 }
 
 // The row of what a line asked, if it asked something.
-fn tell(columns: Columns, number: u64, behind: usize, out: &mut [u8], put: usize) -> Turn
+fn put_columns(columns: Columns, number: u64, behind: usize, out: &mut [u8], put: usize) -> Turn
     requires { ⌜ put + rowRoom ≤ length (now out) ⌝ }
-    ensures { λ r. ⌜ Telling columns number behind (now (out .entry)) put r (now (out .exit)) × EndsIn r (length (now (out .exit))) ⌝ }
+    ensures { λ r. ⌜ ColumnsPut columns number behind (now (out .entry)) put r (now (out .exit)) × EndsIn r (length (now (out .exit))) ⌝ }
 {
     match columns {
         Columns::Row(line, answer, size) => put_row(number, line, answer, size, behind, out, put),

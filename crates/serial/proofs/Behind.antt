@@ -170,19 +170,19 @@ module _ {S P J K N A : Type 0} (lineOf : S → ℕ → P) (journalOf : S → J)
           (λ l g. elim (decLt l lines) [ yes p ↦ absurd (omega (arith, each .once l p)) | no p ↦ rw (h .none l (omega arith)) at (h .lag l) ])
           (λ l g. h .lag l)
 
-      -- a run from t, told from a state that lags behind t
-      tells : (es : List (Item K N)) (s t : S) (pending : ℕ → List (K × A)) → Sound s → Sound t → Every May es → Behind s pending t
+      -- a run from t, from a state that lags behind t
+      lags : (es : List (Item K N)) (s t : S) (pending : ℕ → List (K × A)) → Sound s → Sound t → Every May es → Behind s pending t
           → Reaches s (serial decides order pending (annotate step t es)) (final step t es)
-      tells [] s t pending ws wt o h = last s t pending ws h
-      tells (e ∷ es) s t pending ws wt o h =
+      lags [] s t pending ws wt o h = last s t pending ws h
+      lags (e ∷ es) s t pending ws wt o h =
           let a : A = (step t e) .0 in
           let t₁ : S = (step t e) .1 in
           let after : ℕ → List (K × A) = left pending e a (decides a) in
           let (s₁, r, w₁, h₁) = one s t pending ws wt h e (o .0) in
-          let (u, q, y, z) = tells es s₁ t₁ after w₁ (L .keeps t e wt (o .0)) (o .1) h₁ in
+          let (u, q, y, z) = lags es s₁ t₁ after w₁ (L .keeps t e wt (o .0)) (o .1) h₁ in
           (u, runs-append step (out pending e a (decides a)) (serial decides order after (annotate step t₁ es)) s s₁ u r q, y, z)
 
-      -- a run from s, told from s itself
-      pub tells-run : (s : S) (es : List (Item K N)) → Sound s → Every May es
+      -- a run from s, from s itself
+      pub lags-run : (s : S) (es : List (Item K N)) → Sound s → Every May es
           → Reaches s (serialize decides order (annotate step s es)) (final step s es)
-      tells-run s es w o = tells es s s (λ i. []) w w o (record { journal = refl; lag = λ i. refl; none = λ i h. refl })
+      lags-run s es w o = lags es s s (λ i. []) w w o (record { journal = refl; lag = λ i. refl; none = λ i h. refl })

@@ -1,14 +1,14 @@
--- Demand 3 in its own words, of any machine that is `Lined`: every record that is a run's record put in serial order, the rests in whatever order of the lines,
--- has the run's answers and its end; there is such a record; and nothing is lost in it and nothing added.
+-- Demand 3 in its own words, of any machine that is `Lined`: every history that is a run's history put in serial order, the rests in whatever order of the lines,
+-- has the run's answers and its end; there is such a history; and nothing is lost in it and nothing added.
 -- Assumes nothing.
 use mathlib.Core.Path.{_≡_}
 use mathlib.Core.Bool.{Bool}
 use mathlib.Core.List.{List, [], _∷_}
 use Prim.Native.Nat.{ℕ}
-use Rattle.serial.specs.Serial.{Item, event, taking, annotate, items, Every, ToldAlike, OrderOf, count, serialize, Lined, NothingElse}
+use Rattle.serial.specs.Serial.{Item, event, taking, annotate, items, Every, GoesAlike, OrderOf, count, serialize, Lined, NothingElse}
 use Rattle.serial.specs.Kept.{OnLine, Rearranged}
 use Rattle.serial.proofs.Runs.{items-annotate}
-use Rattle.serial.proofs.Theorem.{serial-told}
+use Rattle.serial.proofs.Theorem.{serial-alike}
 use Rattle.serial.proofs.Kept.{count-kept, rearranged}
 use Rattle.serial.proofs.Unique.{rearranged-is}
 
@@ -28,10 +28,10 @@ module _ {S P J K N A : Type 0} (lineOf : S → ℕ → P) (journalOf : S → J)
     known = rw items-annotate (on-lines es o)
 
     -- every event and every taking has the same answer, and the final state is the same
-    pub demand : NothingElse lineOf journalOf Sound → (zs : List (Item K N × A)) → Rearranged decides lines order (annotate step s es) zs → ToldAlike step s es zs
+    pub demand : NothingElse lineOf journalOf Sound → (zs : List (Item K N × A)) → Rearranged decides lines order (annotate step s es) zs → GoesAlike step s es zs
     demand nothing zs r =
         rw (rearranged-is decides lines order each (annotate step s es) zs known r)
-        (serial-told lineOf journalOf onEvent onTaking decides lines step Sound May L order each s es w o nothing)
+        (serial-alike lineOf journalOf onEvent onTaking decides lines step Sound May L order each s es w o nothing)
 
     pub demand-met : Rearranged decides lines order (annotate step s es) (serialize decides order (annotate step s es))
     demand-met = rearranged decides order lines each (annotate step s es)

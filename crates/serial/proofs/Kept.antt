@@ -1,4 +1,4 @@
--- The serial form of a record is the record in another order: nothing is lost and nothing added, each line's events keep their order,
+-- The serial form of a history is the history in another order: nothing is lost and nothing added, each line's events keep their order,
 -- the last events of the stretches and the takings keep theirs, and each stretch stands undivided.
 -- Assumes nothing.
 use mathlib.Core.Path.{_≡_, refl, sym, ap}
@@ -9,7 +9,7 @@ use native.Mathlib.Omega.{arith}
 use native.Mathlib.Decide.{ℕ-discrete}
 use borrow.Author.Tests.{eq-eqb, ne-eqb}
 use Rattle.serial.specs.Serial.{Item, event, taking, items, Every, count, OrderOf, upd, stretch, out, left, rests, serial, serialize}
-use Rattle.serial.specs.Kept.{only, OnLine, isOf, isEnd, Part, finished, took, Undecided, Proper, tell, Whole, Rearranged}
+use Rattle.serial.specs.Kept.{only, OnLine, isOf, isEnd, Part, finished, took, Undecided, Proper, itemsOf, Whole, Rearranged}
 use Rattle.serial.proofs.Updates.{upd-all, upd-own, upd-other, stretch-append}
 use Rattle.serial.proofs.Lists.{only-append, count-append, mine, own-stretch, other-stretch, rests-own, rests-count}
 
@@ -131,18 +131,18 @@ module _ {K N A : Type 0} (decides : A → Bool) (order : List ℕ) (xs : List (
 -- ---- stretches stand whole, and rests at the end
 
 module _ {K N A : Type 0} (decides : A → Bool) (order : List ℕ) where
-  in-front : (b : Part K N A) (zs : List (Item K N × A)) → Proper decides b → Whole decides order zs → Whole decides order (tell b ++ zs)
+  in-front : (b : Part K N A) (zs : List (Item K N × A)) → Proper decides b → Whole decides order zs → Whole decides order (itemsOf b ++ zs)
   in-front b zs h v = record {
     parts = b ∷ v .parts;
     rest = v .rest;
     proper = (h, v .proper);
     unfinished = v .unfinished;
-    told = ap (λ ys. tell b ++ ys) (v .told);
+    made = ap (λ ys. itemsOf b ++ ys) (v .made);
   }
 
   serial-whole : (xs : List (Item K N × A)) (pending : ℕ → List (K × A)) → ((i : ℕ) → Undecided decides (pending i))
       → Whole decides order (serial decides order pending xs)
-  serial-whole [] pending h = record { parts = []; rest = pending; proper = tt; unfinished = h; told = refl }
+  serial-whole [] pending h = record { parts = []; rest = pending; proper = tt; unfinished = h; made = refl }
   serial-whole (x ∷ xs) pending h =
       go (x .0) (x .1) (decides (x .1)) refl
       (serial-whole xs (left pending (x .0) (x .1) (decides (x .1))) (left-undecided decides pending h (x .0) (x .1) (decides (x .1)) refl))

@@ -1,4 +1,4 @@
--- A record that is a run: its items, from a state, get its answers and lead to a state.
+-- A history that is a run: its items, from a state, get its answers and lead to a state.
 -- Assumes nothing.
 use mathlib.Core.Path.{_≡_, refl, ap}
 use mathlib.Core.List.{List, [], _∷_, _++_}

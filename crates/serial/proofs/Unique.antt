@@ -1,4 +1,4 @@
--- There is only one record that is a given one put in serial order (`Rearranged`): its serial form. So `serialize` is what the demand's words say, and nothing else is.
+-- There is only one history that is a given one put in serial order (`Rearranged`): its serial form. So `serialize` is what the demand's words say, and nothing else is.
 -- Assumes nothing.
 use mathlib.Core.Path.{_≡_, refl, sym, _∙_, ap}
 use mathlib.Core.Logic.{_≢_}
@@ -9,7 +9,7 @@ use native.Mathlib.Omega.{arith}
 use native.Mathlib.Decide.{ℕ-discrete, decLt}
 use borrow.Author.Tests.{eq-eqb, ne-eqb}
 use Rattle.serial.specs.Serial.{Item, event, taking, items, Every, times, OrderOf, upd, stretch, out, left, rests, serial, serialize}
-use Rattle.serial.specs.Kept.{only, OnLine, isEnd, Part, finished, took, Undecided, Proper, tell, tellAll, Rearranged}
+use Rattle.serial.specs.Kept.{only, OnLine, isEnd, Part, finished, took, Undecided, Proper, itemsOf, allItems, Rearranged}
 use Rattle.serial.proofs.Updates.{upd-own, upd-other, stretch-append, times-own}
 use Rattle.serial.proofs.Lists.{clash, only-append, mine, own-stretch, other-stretch, rests-own}
 use Rattle.serial.proofs.Kept.{shift, left-undecided, stretch-passes, rests-passes}
@@ -66,15 +66,15 @@ module _ {K N A : Type 0} (rest pending : ℕ → List (K × A)) where
 
 module _ {K N A : Type 0} (decides : A → Bool) (lines : ℕ) (order : List ℕ) (each : OrderOf lines order)
     (rest : ℕ → List (K × A)) (still : (i : ℕ) → Undecided decides (rest i)) where
-  -- the ends of a record that is told whole are the last ones of its parts
-  tell-ends : (b : Part K N A) → Proper decides b → only (isEnd decides) (tell b) ≡ lastOf b ∷ []
-  tell-ends (finished i xs k a) h =
+  -- the ends of a history that is made whole are the last ones of its parts
+  items-ends : (b : Part K N A) → Proper decides b → only (isEnd decides) (itemsOf b) ≡ lastOf b ∷ []
+  items-ends (finished i xs k a) h =
       rw (stretch-append, only-append, stretch-passes decides (isEnd decides) (λ i k a q. q) i xs (h .0)) (rw (h .1) refl)
-  tell-ends (took i n a) h = refl
+  items-ends (took i n a) h = refl
 
-  whole-ends : (bs : List (Part K N A)) → Every (Proper decides) bs → only (isEnd decides) (tellAll bs (rests rest order)) ≡ map lastOf bs
+  whole-ends : (bs : List (Part K N A)) → Every (Proper decides) bs → only (isEnd decides) (allItems bs (rests rest order)) ≡ map lastOf bs
   whole-ends [] h = rests-passes decides (isEnd decides) (λ i k a q. q) order rest still
-  whole-ends (b ∷ bs) h = rw (only-append, tell-ends b (h .0)) (ap (λ zs. lastOf b ∷ zs) (whole-ends bs (h .1)))
+  whole-ends (b ∷ bs) h = rw (only-append, items-ends b (h .0)) (ap (λ zs. lastOf b ∷ zs) (whole-ends bs (h .1)))
 
   rests-only : (pending : ℕ → List (K × A))
       → ((i : ℕ) → i < lines → only (mine {K = K} {N = N} {A = A} i) (rests rest order) ≡ stretch i (pending i))
@@ -91,8 +91,8 @@ module _ {K N A : Type 0} (decides : A → Bool) (lines : ℕ) (order : List ℕ
 
   abbrev Alone : List (Item K N × A) → Type 0
   Alone xs = (pending : ℕ → List (K × A)) → ((i : ℕ) → Undecided decides (pending i)) → (bs : List (Part K N A)) → Every (Proper decides) bs
-      → Lines (tellAll bs (rests rest order)) pending xs → map lastOf bs ≡ only (isEnd decides) xs
-      → tellAll bs (rests rest order) ≡ serial decides order pending xs
+      → Lines (allItems bs (rests rest order)) pending xs → map lastOf bs ≡ only (isEnd decides) xs
+      → allItems bs (rests rest order) ≡ serial decides order pending xs
 
   -- line i's events, where the first that decides is the same one
   decided : (i : ℕ) (k : K) (a : A) → decides a ≡ true → (ys ps : List (K × A)) → Undecided decides ys → Undecided decides ps
@@ -121,8 +121,8 @@ module _ {K N A : Type 0} (decides : A → Bool) (lines : ℕ) (order : List ℕ
   -- an item that puts out nothing
   waits : (xs : List (Item K N × A)) → Alone xs → (i : ℕ) (k : K) (a : A) → decides a ≡ false → (pending : ℕ → List (K × A))
       → ((l : ℕ) → Undecided decides (pending l)) → (bs : List (Part K N A)) → Every (Proper decides) bs
-      → Lines (tellAll bs (rests rest order)) pending ((event i k, a) ∷ xs) → map lastOf bs ≡ only (isEnd decides) ((event i k, a) ∷ xs)
-      → tellAll bs (rests rest order) ≡ serial decides order (left {N = N} pending (event i k) a false) xs
+      → Lines (allItems bs (rests rest order)) pending ((event i k, a) ∷ xs) → map lastOf bs ≡ only (isEnd decides) ((event i k, a) ∷ xs)
+      → allItems bs (rests rest order) ≡ serial decides order (left {N = N} pending (event i k) a false) xs
   waits xs ih i k a q pending h bs proper line ends =
       ih (left {N = N} pending (event i k) a false) (left-undecided {N = N} decides pending h (event i k) a false q) bs proper
       (λ l g. line l g ∙ sym (shift l pending (event i k) a false xs))
@@ -131,8 +131,8 @@ module _ {K N A : Type 0} (decides : A → Bool) (lines : ℕ) (order : List ℕ
   -- a taking
   takes : (xs : List (Item K N × A)) → Alone xs → (i : ℕ) (n : N) (a : A) → (pending : ℕ → List (K × A))
       → ((l : ℕ) → Undecided decides (pending l)) → (bs : List (Part K N A)) → Every (Proper decides) bs
-      → Lines (tellAll bs (rests rest order)) pending ((taking i n, a) ∷ xs) → map lastOf bs ≡ (taking i n, a) ∷ only (isEnd decides) xs
-      → tellAll bs (rests rest order) ≡ (taking i n, a) ∷ serial decides order pending xs
+      → Lines (allItems bs (rests rest order)) pending ((taking i n, a) ∷ xs) → map lastOf bs ≡ (taking i n, a) ∷ only (isEnd decides) xs
+      → allItems bs (rests rest order) ≡ (taking i n, a) ∷ serial decides order pending xs
   takes xs ih i n a pending h [] proper line ends = clash cc
   takes xs ih i n a pending h (finished l ys k b ∷ bs) proper line ends =
       let e : _≡_ {A = Item K N × A} (event l k, b) (taking i n, a) = cc in
@@ -141,14 +141,14 @@ module _ {K N A : Type 0} (decides : A → Bool) (lines : ℕ) (order : List ℕ
   takes xs ih i n a pending h (took l m b ∷ bs) proper line ends =
       let e : _≡_ {A = Item K N × A} (taking l m, b) (taking i n, a) = cc in
       let behind : map lastOf bs ≡ only (isEnd decides) xs = cc in
-      let same : tellAll bs (rests rest order) ≡ serial decides order pending xs = ih pending h bs (proper .1) line behind in
+      let same : allItems bs (rests rest order) ≡ serial decides order pending xs = ih pending h bs (proper .1) line behind in
       λ z. e z ∷ same z
 
   -- an event that decides
   stops : (xs : List (Item K N × A)) → Alone xs → (i : ℕ) (k : K) (a : A) → decides a ≡ true → i < lines → (pending : ℕ → List (K × A))
       → ((l : ℕ) → Undecided decides (pending l)) → (bs : List (Part K N A)) → Every (Proper decides) bs
-      → Lines (tellAll bs (rests rest order)) pending ((event i k, a) ∷ xs) → map lastOf bs ≡ (event i k, a) ∷ only (isEnd decides) xs
-      → tellAll bs (rests rest order) ≡ stretch i (pending i ++ ((k, a) ∷ [])) ++ serial decides order (upd pending i []) xs
+      → Lines (allItems bs (rests rest order)) pending ((event i k, a) ∷ xs) → map lastOf bs ≡ (event i k, a) ∷ only (isEnd decides) xs
+      → allItems bs (rests rest order) ≡ stretch i (pending i ++ ((k, a) ∷ [])) ++ serial decides order (upd pending i []) xs
   stops xs ih i k a q o pending h [] proper line ends = clash cc
   stops xs ih i k a q o pending h (took l n b ∷ bs) proper line ends =
       let e : _≡_ {A = Item K N × A} (taking l n, b) (event i k, a) = cc in
@@ -158,7 +158,7 @@ module _ {K N A : Type 0} (decides : A → Bool) (lines : ℕ) (order : List ℕ
       let e : _≡_ {A = Item K N × A} (event l m, b) (event i k, a) = cc in
       let (line-same, kind-same, answer-same) = same-event {N = N} l i m k b a e in
       let behind : map lastOf bs ≡ only (isEnd decides) xs = cc in
-      let zs : List (Item K N × A) = tellAll bs (rests rest order) in
+      let zs : List (Item K N × A) = allItems bs (rests rest order) in
       let moved : Lines (stretch i (ys ++ ((k, a) ∷ [])) ++ zs) pending ((event i k, a) ∷ xs) = rw (line-same, kind-same, answer-same) at line in
       let (front, rear) = decided i k a q ys (pending i) (proper .0 .0) (h i) zs xs (moved i o) in
       let same : zs ≡ serial decides order (upd pending i []) xs =
@@ -171,8 +171,8 @@ module _ {K N A : Type 0} (decides : A → Bool) (lines : ℕ) (order : List ℕ
   alone (x ∷ xs) o pending h bs proper line ends = go (x .0) (x .1) (decides (x .1)) refl (o .0) (alone xs (o .1)) line ends
     where
       go : (e : Item K N) (a : A) (d : Bool) → decides a ≡ d → OnLine lines e → Alone xs
-          → Lines (tellAll bs (rests rest order)) pending ((e, a) ∷ xs) → map lastOf bs ≡ only (isEnd decides) ((e, a) ∷ xs)
-          → tellAll bs (rests rest order) ≡ out pending e a d ++ serial decides order (left pending e a d) xs
+          → Lines (allItems bs (rests rest order)) pending ((e, a) ∷ xs) → map lastOf bs ≡ only (isEnd decides) ((e, a) ∷ xs)
+          → allItems bs (rests rest order) ≡ out pending e a d ++ serial decides order (left pending e a d) xs
       go (event i k) a true q p ih line ends = stops xs ih i k a q p pending h bs proper line (rw q at ends)
       go (event i k) a false q p ih line ends = waits xs ih i k a q pending h bs proper line ends
       go (taking i n) a d q p ih line ends = takes xs ih i n a pending h bs proper line ends
@@ -181,7 +181,7 @@ pub rearranged-is : {K N A : Type 0} (decides : A → Bool) (lines : ℕ) (order
     → (xs zs : List (Item K N × A)) → Every (OnLine lines) (items xs) → Rearranged decides lines order xs zs → zs ≡ serialize decides order xs
 rearranged-is decides lines order each xs zs o r =
     let v = r .whole in
-    v .told
+    v .made
     ∙ alone decides lines order each (v .rest) (v .unfinished) xs o (λ i. []) (λ i. tt) (v .parts) (v .proper)
-    (rw (v .told) at (r .each-line))
-    (sym (whole-ends decides lines order each (v .rest) (v .unfinished) (v .parts) (v .proper)) ∙ (rw (v .told) at (r .ends)))
+    (rw (v .made) at (r .each-line))
+    (sym (whole-ends decides lines order each (v .rest) (v .unfinished) (v .parts) (v .proper)) ∙ (rw (v .made) at (r .ends)))

@@ -1,5 +1,5 @@
--- What it means that a record is another one put in serial order, in the demand's own words and without the definition of `serialize`.
--- That there is one such record and no other is shown in proofs/Kept and proofs/Unique.
+-- What it means that a history is another one put in serial order, in the demand's own words and without the definition of `serialize`.
+-- That there is one such history and no other is shown in proofs/Kept and proofs/Unique.
 -- Assumes nothing.
 use mathlib.Core.Path.{_≡_}
 use mathlib.Core.Bool.{Bool, true, false, cond}
@@ -33,7 +33,7 @@ module _ {K N A : Type 0} (decides : A → Bool) where
   abbrev pub isEnd : Item K N × A → Bool
   isEnd x = cond (isTaking (x .0)) true (decides (x .1))
 
--- a part of a serial record: a line's stretch with its last event, or a taking
+-- a part of a serial history: a line's stretch with its last event, or a taking
 pub data Part (K N A : Type 0) : Type 0 where
   finished : ℕ → List (K × A) → K → A → Part K N A
   took : ℕ → N → A → Part K N A
@@ -50,22 +50,22 @@ module _ {K N A : Type 0} where
   Proper decides (took i n a) = Unit {0}
 
   -- its items with their answers
-  abbrev pub tell : Part K N A → List (Item K N × A)
-  tell (finished i xs k a) = stretch i (xs ++ ((k, a) ∷ []))
-  tell (took i n a) = (taking i n, a) ∷ []
+  abbrev pub itemsOf : Part K N A → List (Item K N × A)
+  itemsOf (finished i xs k a) = stretch i (xs ++ ((k, a) ∷ []))
+  itemsOf (took i n a) = (taking i n, a) ∷ []
 
   -- parts one behind the other, and zs at the end
-  abbrev pub tellAll : List (Part K N A) → List (Item K N × A) → List (Item K N × A)
-  tellAll [] zs = zs
-  tellAll (b ∷ bs) zs = tell b ++ tellAll bs zs
+  abbrev pub allItems : List (Part K N A) → List (Item K N × A) → List (Item K N × A)
+  allItems [] zs = zs
+  allItems (b ∷ bs) zs = itemsOf b ++ allItems bs zs
 
--- a record that is told whole: stretches that stand undivided, and takings, in some order; then the lines' rests, in which nothing is decided
+-- a history that is made whole: stretches that stand undivided, and takings, in some order; then the lines' rests, in which nothing is decided
 pub record Whole {K N A : Type 0} (decides : A → Bool) (order : List ℕ) (zs : List (Item K N × A)) : Type 0 where
   pub parts : List (Part K N A)
   pub rest : ℕ → List (K × A)
   pub proper : Every (Proper decides) parts
   pub unfinished : (i : ℕ) → Undecided decides (rest i)
-  pub told : zs ≡ tellAll parts (rests rest order)
+  pub made : zs ≡ allItems parts (rests rest order)
 
 -- zs is xs put in serial order: each line's events are those of xs, in their order; stretches are whole and rests are at the end;
 -- and the last events of the stretches and the takings follow each other as in xs.

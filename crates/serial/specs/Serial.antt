@@ -1,8 +1,8 @@
--- Demand 3, as definitions: a run over several lines, the same run told one stretch after the other, and what is asked of the machine that runs.
--- A run is a list of items: events of lines, and takings. Its record is the list of its items, each with the answer that it got.
+-- Demand 3, as definitions: a run over several lines, the same run put one stretch after the other, and what is asked of the machine that runs.
+-- A run is a list of items: events of lines, and takings. Its history is the list of its items, each with the answer that it got.
 -- `serialize` cuts each line's events behind each one whose answer decides a message, and puts these stretches whole, in the order of their last events;
 -- takings stay in place among them, and the unfinished rests of the lines come at the end, in any order of the lines that is given.
--- The theorem: of a machine that is `Lined`, that record is `ToldAlike` (proofs/Theorem), and so is every record that the demand's words allow (`Rearranged` of
+-- The theorem: of a machine that is `Lined`, that history is `GoesAlike` (proofs/Theorem), and so is every history that the demand's words allow (`Rearranged` of
 -- specs/Kept; proofs/Demand). What the demand leaves open is settled in docs/DECISIONS.md, "Runs".
 -- Assumes nothing.
 use mathlib.Core.Path.{_≡_}
@@ -20,7 +20,7 @@ pub data Item (K N : Type 0) : Type 0 where
   taking : ℕ → N → Item K N
 
 module _ {S I A : Type 0} (step : S → I → A × S) where
-  -- the record of a run: each item with its answer
+  -- the history of a run: each item with its answer
   abbrev pub annotate : S → List I → List (I × A)
   annotate s [] = []
   annotate s (e ∷ es) = (e, (step s e) .0) ∷ annotate ((step s e) .1) es
@@ -30,7 +30,7 @@ module _ {S I A : Type 0} (step : S → I → A × S) where
   final s [] = s
   final s (e ∷ es) = final ((step s e) .1) es
 
--- the items of a record, without their answers
+-- the items of a history, without their answers
 abbrev pub items : {I A : Type 0} → List (I × A) → List I
 items {I} {A} xs = map (λ (x : I × A). x .0) xs
 
@@ -39,12 +39,12 @@ abbrev pub Every : {X : Type 0} → (X → Type 0) → List X → Type 0
 Every Q [] = Unit {0}
 Every Q (x ∷ xs) = Q x × Every Q xs
 
--- The statement: zs tells the run es from s alike. Its items, run from s in the order of zs, get the very answers that zs has, and end in the same state.
-pub record ToldAlike {S I A : Type 0} (step : S → I → A × S) (s : S) (es : List I) (zs : List (I × A)) : Type 0 where
+-- The statement: in the order of zs the run es goes alike. The items of zs, run from s in the order of zs, get the very answers that zs has, and end in the same state.
+pub record GoesAlike {S I A : Type 0} (step : S → I → A × S) (s : S) (es : List I) (zs : List (I × A)) : Type 0 where
   pub answers : annotate step s (items zs) ≡ zs
   pub state : final step s (items zs) ≡ final step s es
 
--- ---- the serial form of a record
+-- ---- the serial form of a history
 
 -- how many of a list pass a test
 abbrev pub count : {X : Type 0} → (X → Bool) → List X → ℕ
@@ -100,7 +100,7 @@ module _ {K N A : Type 0} where
   serial decides order pending (x ∷ xs) =
       out pending (x .0) (x .1) (decides (x .1)) ++ serial decides order (left pending (x .0) (x .1) (decides (x .1))) xs
 
-  -- the serial form of a record; the rests come in the given order of the lines
+  -- the serial form of a history; the rests come in the given order of the lines
   abbrev pub serialize : (A → Bool) → List ℕ → List (Item K N × A) → List (Item K N × A)
   serialize decides order xs = serial decides order (λ i. []) xs
 

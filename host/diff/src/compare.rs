@@ -68,7 +68,7 @@ pub fn state_difference(world: &World, library: &Library, op: Op) -> Option<Stri
             u32::from(world.model.ledger.serials[line]),
         ];
         for (field, name) in names.iter().enumerate() {
-            let found = u32::from(library.book.lines[FIELDS * line + field]);
+            let found = u32::from(library.book.numbers[FIELDS * line + field]);
             if expected[field] != found {
                 let what = format!("line {}, {}", line, name);
                 return Some(differs(&what, expected[field], found));

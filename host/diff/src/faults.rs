@@ -73,11 +73,11 @@ impl Fault {
         match (self, answer.number) {
             (Fault::RepeatToldAsAccepted, 3) => answer.number = 2,
             (Fault::NoRoomAcknowledged, 31) => answer.reply = 0x06,
-            (Fault::SerialNotAdvanced, 4) => book.lines[at + SERIAL] = before.lines[at + SERIAL],
+            (Fault::SerialNotAdvanced, 4) => book.numbers[at + SERIAL] = before.numbers[at + SERIAL],
             (Fault::NumberAdvancedOnNak, 23) => {
-                book.lines[at + NEXT] = (book.lines[at + NEXT] + 1) % 8
+                book.numbers[at + NEXT] = (book.numbers[at + NEXT] + 1) % 8
             }
-            (Fault::RefusalForgotten, 31) => book.lines[at + REFUSING] = 0,
+            (Fault::RefusalForgotten, 31) => book.numbers[at + REFUSING] = 0,
             (Fault::EntryOnlyAcknowledged, 4) => book.counts = before.counts,
             (Fault::TailClearedAfterTaking, 8) => {
                 let end = book.counts[IN_USE] as usize;
@@ -89,19 +89,19 @@ impl Fault {
                 }
             }
             (Fault::LengthInvented, 8) => answer.length += 1,
-            (Fault::SerialInvented, 8) => answer.serial = book.lines[at + SERIAL],
+            (Fault::SerialInvented, 8) => answer.serial = book.numbers[at + SERIAL],
             (Fault::TextWrittenBy28, 28) => {
                 library.unfinished.inside_mut()[TEXT_LIMIT * line + TEXT_LIMIT - 1] ^= 1
             }
             (Fault::LastByteNotAdded, 22) => {
-                let place = usize::from(before.lines[at + COLLECTED]);
+                let place = usize::from(before.numbers[at + COLLECTED]);
                 library.frames.inside_mut()[FRAME_PART * line + place] ^= 1;
             }
-            (Fault::SecondsRestartedByEnq, 20) => book.lines[at + SECONDS] = 0,
-            (Fault::OtherLineTouched, 1) => book.lines[(at + FIELDS + SECONDS) % NUMBERS] ^= 1,
+            (Fault::SecondsRestartedByEnq, 20) => book.numbers[at + SECONDS] = 0,
+            (Fault::OtherLineTouched, 1) => book.numbers[(at + FIELDS + SECONDS) % NUMBERS] ^= 1,
             (Fault::BrokenJournalEndsFrame, 43) => {
                 if let Op::Event { .. } = op {
-                    book.lines[at + STATE] = 1;
+                    book.numbers[at + STATE] = 1;
                 }
             }
             (Fault::WrittenOnWrongSize, 41) => library.frames.inside_mut()[0] ^= 1,

@@ -1,6 +1,6 @@
 //! The library with memories of its own, driven by the model's operations.
 
-use crate::boundary::{self, Answered, Counts, Lines};
+use crate::boundary::{self, Answered, Counts, Numbers};
 use crate::fenced::Fenced;
 use crate::layout::{
     COLLECTED, COUNTS, FIELDS, IN_USE, JOINED, LAST, NEXT, NUMBERS, REFUSING, SECONDS, SERIAL,
@@ -16,7 +16,7 @@ const FENCE: u8 = 0x5A;
 #[derive(Clone)]
 pub struct Book {
     before: [u16; 4],
-    pub lines: Lines,
+    pub numbers: Numbers,
     between: [u32; 2],
     pub counts: Counts,
     behind: [u32; 2],
@@ -59,7 +59,7 @@ impl Library {
             // Whatever stood there, it is fresh afterwards.
             book: Book {
                 before: [0xF00D; 4],
-                lines: [0xABCD; NUMBERS],
+                numbers: [0xABCD; NUMBERS],
                 between: [0xF00D_F00D; 2],
                 counts: [0xABCD_ABCD; COUNTS],
                 behind: [0xF00D_F00D; 2],
@@ -80,7 +80,7 @@ impl Library {
             Op::Event { line, kind } => return Some(self.event(line, kind)),
             Op::Take { line, buffer } => return Some(self.take(line, buffer)),
             Op::Fresh => {
-                boundary::fresh(&mut self.book.lines, &mut self.book.counts);
+                boundary::fresh(&mut self.book.numbers, &mut self.book.counts);
                 self.lent = [
                     Memory::Journal.size(),
                     Memory::Unfinished.size(),
@@ -116,7 +116,7 @@ impl Library {
         call(
             line,
             value,
-            &mut self.book.lines,
+            &mut self.book.numbers,
             &mut self.book.counts,
             &mut self.journal.inside_mut()[..journal],
             &mut self.unfinished.inside_mut()[..unfinished],
@@ -129,7 +129,7 @@ impl Library {
         let lent = self.lent[Memory::Journal as usize];
         boundary::take(
             line,
-            &self.book.lines,
+            &self.book.numbers,
             &mut self.book.counts,
             &mut self.journal.inside_mut()[..lent],
             self.buffer.inside_mut(),
@@ -138,7 +138,7 @@ impl Library {
 
     /// One number of a line.
     pub fn number(&mut self, line: u8, field: usize) -> &mut u16 {
-        &mut self.book.lines[FIELDS * usize::from(line) + field]
+        &mut self.book.numbers[FIELDS * usize::from(line) + field]
     }
 
     pub fn memory(&mut self, memory: Memory) -> &mut Fenced<u8> {

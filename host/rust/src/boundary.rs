@@ -6,7 +6,7 @@
 use crate::layout::{self, COUNTS, NUMBERS};
 
 /// Each line's numbers, in the order of [`layout`].
-pub type Lines = [u16; NUMBERS];
+pub type Numbers = [u16; NUMBERS];
 
 /// Each line's used count, then the bytes of the journal in use.
 pub type Counts = [u32; COUNTS];
@@ -50,11 +50,11 @@ pub struct Layout {
 extern "C" {
     fn ngachodui_sizes() -> Layout;
     #[link_name = concat!("ngachodui_fresh_", layout::version!())]
-    fn ngachodui_fresh(lines: *mut u16, counts: *mut u32);
+    fn ngachodui_fresh(numbers: *mut u16, counts: *mut u32);
     fn ngachodui_byte(
         line: u8,
         byte: u8,
-        lines: *mut u16,
+        numbers: *mut u16,
         counts: *mut u32,
         journal: *mut u8,
         journal_length: usize,
@@ -66,7 +66,7 @@ extern "C" {
     fn ngachodui_seconds(
         line: u8,
         seconds: u8,
-        lines: *mut u16,
+        numbers: *mut u16,
         counts: *mut u32,
         journal: *mut u8,
         journal_length: usize,
@@ -77,7 +77,7 @@ extern "C" {
     ) -> Answered;
     fn ngachodui_take(
         line: u8,
-        lines: *const u16,
+        numbers: *const u16,
         counts: *mut u32,
         journal: *mut u8,
         journal_length: usize,
@@ -129,14 +129,14 @@ pub fn own_sizes() -> Layout {
     }
 }
 
-pub fn fresh(lines: &mut Lines, counts: &mut Counts) {
-    unsafe { ngachodui_fresh(lines.as_mut_ptr(), counts.as_mut_ptr()) }
+pub fn fresh(numbers: &mut Numbers, counts: &mut Counts) {
+    unsafe { ngachodui_fresh(numbers.as_mut_ptr(), counts.as_mut_ptr()) }
 }
 
 pub fn byte(
     line: u8,
     byte: u8,
-    lines: &mut Lines,
+    numbers: &mut Numbers,
     counts: &mut Counts,
     journal: &mut [u8],
     unfinished: &mut [u8],
@@ -146,7 +146,7 @@ pub fn byte(
         ngachodui_byte(
             line,
             byte,
-            lines.as_mut_ptr(),
+            numbers.as_mut_ptr(),
             counts.as_mut_ptr(),
             journal.as_mut_ptr(),
             journal.len(),
@@ -161,7 +161,7 @@ pub fn byte(
 pub fn seconds(
     line: u8,
     seconds: u8,
-    lines: &mut Lines,
+    numbers: &mut Numbers,
     counts: &mut Counts,
     journal: &mut [u8],
     unfinished: &mut [u8],
@@ -171,7 +171,7 @@ pub fn seconds(
         ngachodui_seconds(
             line,
             seconds,
-            lines.as_mut_ptr(),
+            numbers.as_mut_ptr(),
             counts.as_mut_ptr(),
             journal.as_mut_ptr(),
             journal.len(),
@@ -185,7 +185,7 @@ pub fn seconds(
 
 pub fn take(
     line: u8,
-    lines: &Lines,
+    numbers: &Numbers,
     counts: &mut Counts,
     journal: &mut [u8],
     buffer: &mut [u8],
@@ -193,7 +193,7 @@ pub fn take(
     unsafe {
         ngachodui_take(
             line,
-            lines.as_ptr(),
+            numbers.as_ptr(),
             counts.as_mut_ptr(),
             journal.as_mut_ptr(),
             journal.len(),

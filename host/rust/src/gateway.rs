@@ -1,7 +1,7 @@
 //! A gateway that owns its memories.
 
 use crate::answers::Answer;
-use crate::boundary::{self, Counts, Lines};
+use crate::boundary::{self, Counts, Numbers};
 use crate::layout::{COUNTS, FRAMES_SIZE, JOURNAL_SIZE, LINES, NUMBERS, UNFINISHED_SIZE};
 
 /// Eight serial lines and one journal, with all the memory that they need.
@@ -37,7 +37,7 @@ pub struct Gateway {
 
 #[derive(Clone)]
 struct Memory {
-    lines: Lines,
+    numbers: Numbers,
     counts: Counts,
     journal: [u8; JOURNAL_SIZE],
     unfinished: [u8; UNFINISHED_SIZE],
@@ -53,13 +53,13 @@ impl Gateway {
     pub fn fresh() -> Gateway {
         assert_eq!(boundary::sizes(), boundary::own_sizes());
         let mut memory = Box::new(Memory {
-            lines: [0; NUMBERS],
+            numbers: [0; NUMBERS],
             counts: [0; COUNTS],
             journal: [0; JOURNAL_SIZE],
             unfinished: [0; UNFINISHED_SIZE],
             frames: [0; FRAMES_SIZE],
         });
-        boundary::fresh(&mut memory.lines, &mut memory.counts);
+        boundary::fresh(&mut memory.numbers, &mut memory.counts);
         Gateway { memory }
     }
 
@@ -69,7 +69,7 @@ impl Gateway {
         Answer::of(boundary::byte(
             line,
             byte,
-            &mut memory.lines,
+            &mut memory.numbers,
             &mut memory.counts,
             &mut memory.journal,
             &mut memory.unfinished,
@@ -84,7 +84,7 @@ impl Gateway {
         Answer::of(boundary::seconds(
             line,
             seconds,
-            &mut memory.lines,
+            &mut memory.numbers,
             &mut memory.counts,
             &mut memory.journal,
             &mut memory.unfinished,
@@ -98,7 +98,7 @@ impl Gateway {
         let memory = &mut *self.memory;
         Answer::of(boundary::take(
             line,
-            &memory.lines,
+            &memory.numbers,
             &mut memory.counts,
             &mut memory.journal,
             buffer,

@@ -1,6 +1,6 @@
 //! The library with the memory that a host lends it.
 
-use crate::boundary::{self, Answered, Counts, Lines};
+use crate::boundary::{self, Answered, Counts, Numbers};
 use crate::layout::{COUNTS, FIELDS, IN_USE, LINES, NUMBERS, SERIAL};
 
 /// A memory, of which the first bytes are lent.
@@ -24,7 +24,7 @@ impl From<Vec<u8>> for Memory {
 }
 
 pub struct Gateway {
-    pub lines: Lines,
+    pub numbers: Numbers,
     pub counts: Counts,
     pub journal: Memory,
     pub unfinished: Memory,
@@ -35,7 +35,7 @@ impl Gateway {
     pub fn fresh(journal: Memory, unfinished: Memory, frames: Memory) -> Gateway {
         let mut gateway = Gateway {
             // Whatever stood there, it is fresh afterwards.
-            lines: [0xABCD; NUMBERS],
+            numbers: [0xABCD; NUMBERS],
             counts: [0xABCD_ABCD; COUNTS],
             journal,
             unfinished,
@@ -47,14 +47,14 @@ impl Gateway {
 
     /// Fresh again; the memories keep what they hold.
     pub fn renew(&mut self) {
-        boundary::fresh(&mut self.lines, &mut self.counts);
+        boundary::fresh(&mut self.numbers, &mut self.counts);
     }
 
     pub fn byte(&mut self, line: u8, byte: u8) -> Answered {
         boundary::byte(
             line,
             byte,
-            &mut self.lines,
+            &mut self.numbers,
             &mut self.counts,
             self.journal.lend(),
             self.unfinished.lend(),
@@ -66,7 +66,7 @@ impl Gateway {
         boundary::seconds(
             line,
             seconds,
-            &mut self.lines,
+            &mut self.numbers,
             &mut self.counts,
             self.journal.lend(),
             self.unfinished.lend(),
@@ -77,7 +77,7 @@ impl Gateway {
     pub fn take(&mut self, line: u8, buffer: &mut [u8]) -> Answered {
         boundary::take(
             line,
-            &self.lines,
+            &self.numbers,
             &mut self.counts,
             self.journal.lend(),
             buffer,
@@ -86,11 +86,11 @@ impl Gateway {
 
     /// A line's numbers: its record, and its next serial as the last.
     pub fn line(&self, line: usize) -> &[u16] {
-        &self.lines[FIELDS * line..][..FIELDS]
+        &self.numbers[FIELDS * line..][..FIELDS]
     }
 
     pub fn number(&mut self, line: usize, field: usize) -> &mut u16 {
-        &mut self.lines[FIELDS * line + field]
+        &mut self.numbers[FIELDS * line + field]
     }
 
     /// The used count and the next serial of a line, where it is one of the eight.

@@ -33,13 +33,13 @@ returns : tie.Need-returns
 returns c =
     let tested = c .before in
     let a = tested .before .before .before .before .args in
-    no-line (now (a .numbers)) (now (a .used)) (record { line = a .line; kind = Byte (a .byte) }) (now (a .journal)) (now (a .unfinished)) (now (a .frames)) _ (omega arith) (c .told .ensures)
+    no-line (now (a .numbers)) (now (a .counts)) (record { line = a .line; kind = Byte (a .byte) }) (now (a .journal)) (now (a .unfinished)) (now (a .frames)) _ (omega arith) (c .in-numbers .ensures)
 
 returns-2 : tie.Need-returns-2
 returns-2 c =
     let right = c .before .before in
     let a = entry right .args in
-    wrong-size (now (a .numbers)) (now (a .used)) (record { line = a .line; kind = Byte (a .byte) }) (now (a .journal)) (now (a .unfinished)) (now (a .frames)) _ (omega arith) (sym (right .are-right .ensures) ∙ not-true _ (c .before .if2 .taken)) (c .told2 .ensures)
+    wrong-size (now (a .numbers)) (now (a .counts)) (record { line = a .line; kind = Byte (a .byte) }) (now (a .journal)) (now (a .unfinished)) (now (a .frames)) _ (omega arith) (sym (right .are-right .ensures) ∙ not-true _ (c .before .if2 .taken)) (c .in-numbers2 .ensures)
 
 returns-3 : tie.Need-returns-3
 returns-3 c =
@@ -47,7 +47,7 @@ returns-3 c =
     let collected = taken .before .before .before in
     let past = size collected in
     let a = entry (past .before) .args in
-    by-collected (now (a .numbers)) (now (a .used)) (a .line) (a .byte) (now (a .journal)) (now (a .unfinished)) (now (a .frames)) (on-line past) (sizes past) (collected .collect .ensures) (taken .if3 .taken) (c .told3 .ensures)
+    by-collected (now (a .numbers)) (now (a .counts)) (a .line) (a .byte) (now (a .journal)) (now (a .unfinished)) (now (a .frames)) (on-line past) (sizes past) (collected .collect .ensures) (taken .if3 .taken) (c .in-numbers3 .ensures)
 
 event-requires : tie.Need-event-requires
 event-requires c κs =
@@ -55,7 +55,7 @@ event-requires c κs =
     let collected = other .before .before .before in
     let past = size collected in
     let a = entry (past .before) .args in
-    (omega arith, kept-sizes (now (a .numbers)) (now (a .used)) (a .line) (a .byte) (now (a .journal)) (now (a .unfinished)) (now (a .frames)) (on-line past) (sizes past) (collected .collect .ensures) (other .if3 .left))
+    (omega arith, kept-sizes (now (a .numbers)) (now (a .counts)) (a .line) (a .byte) (now (a .journal)) (now (a .unfinished)) (now (a .frames)) (on-line past) (sizes past) (collected .collect .ensures) (other .if3 .left))
 
 returns-4 : tie.Need-returns-4
 returns-4 c =
@@ -66,7 +66,7 @@ returns-4 c =
     let collected = other .before .before .before in
     let past = size collected in
     let a = entry (past .before) .args in
-    not-collected (now (a .numbers)) (now (a .used)) (a .line) (a .byte) (now (a .journal)) (now (a .unfinished)) (now (a .frames)) (on-line past) (sizes past) (collected .collect .ensures) (other .if3 .left) (made .event .ensures)
+    not-collected (now (a .numbers)) (now (a .counts)) (a .line) (a .byte) (now (a .journal)) (now (a .unfinished)) (now (a .frames)) (on-line past) (sizes past) (collected .collect .ensures) (other .if3 .left) (made .event .ensures)
 
 pub byte-spec : {M : Type 1} → statement M
 byte-spec =

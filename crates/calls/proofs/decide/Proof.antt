@@ -25,7 +25,7 @@ returns : tie.Need-returns
 returns c =
     let made = decided (c .before .before) in
     let a = entry (ledger made) .args in
-    put-decided (now (a .numbers)) (now (a .used)) (a .line) (a .e) (now (a .journal)) (now (a .unfinished)) (now (a .frames)) (a .n) (ledger made .ledger-of .ensures .result) (made .decide .ensures) (c .put-back .ensures)
+    put-decided (now (a .numbers)) (now (a .counts)) (a .line) (a .e) (now (a .journal)) (now (a .unfinished)) (now (a .frames)) (a .n) (ledger made .ledger-of .ensures .result) (made .decide .ensures) (c .put-back .ensures)
 
 pub decide-spec : {M : Type 1} → statement M
 decide-spec =

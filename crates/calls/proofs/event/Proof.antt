@@ -24,8 +24,8 @@ returns c =
     let tested = c .before .before in
     let start = entry tested in
     let a = start .args in
-    beyond (now (a .numbers)) (now (a .used)) (a .e) (now (a .journal)) (now (a .unfinished)) (now (a .frames)) _ (start .pre .0) (start .pre .1)
-    (not-within (now (a .numbers)) (a .e .line) (start .pre .0) (sym (tested .is-within .ensures) ∙ not-true _ (c .before .if1 .taken))) (c .told .ensures)
+    beyond (now (a .numbers)) (now (a .counts)) (a .e) (now (a .journal)) (now (a .unfinished)) (now (a .frames)) _ (start .pre .0) (start .pre .1)
+    (not-within (now (a .numbers)) (a .e .line) (start .pre .0) (sym (tested .is-within .ensures) ∙ not-true _ (c .before .if1 .taken))) (c .in-numbers .ensures)
 
 returns-2 : tie.Need-returns-2
 returns-2 c =
@@ -33,7 +33,7 @@ returns-2 c =
     let past = begun .before .before in
     let start = entry (past .before) in
     let a = start .args in
-    by-begun (now (a .numbers)) (now (a .used)) (a .e) (now (a .journal)) (now (a .unfinished)) (now (a .frames)) (start .pre .1) (within past) (begun .begin .ensures) (c .before .if2 .taken) (c .told2 .ensures)
+    by-begun (now (a .numbers)) (now (a .counts)) (a .e) (now (a .journal)) (now (a .unfinished)) (now (a .frames)) (start .pre .1) (within past) (begun .begin .ensures) (c .before .if2 .taken) (c .in-numbers2 .ensures)
 
 step-requires : tie.Need-step-requires
 step-requires c κs =
@@ -41,7 +41,7 @@ step-requires c κs =
     let past = other .before .before .before in
     let start = entry (past .before) in
     let a = start .args in
-    (start .pre .0, still-within (now (a .numbers)) (now (a .used)) (a .e) (now (a .journal)) (now (a .unfinished)) (now (a .frames)) (start .pre .1) (within past) (other .before .begin .ensures) (other .if2 .left))
+    (start .pre .0, still-within (now (a .numbers)) (now (a .counts)) (a .e) (now (a .journal)) (now (a .unfinished)) (now (a .frames)) (start .pre .1) (within past) (other .before .begin .ensures) (other .if2 .left))
 
 returns-3 : tie.Need-returns-3
 returns-3 c =
@@ -52,7 +52,7 @@ returns-3 c =
     let past = other .before .before .before in
     let start = entry (past .before) in
     let a = start .args in
-    by-other (now (a .numbers)) (now (a .used)) (a .e) (now (a .journal)) (now (a .unfinished)) (now (a .frames)) (start .pre .1) (within past) (other .before .begin .ensures) (other .if2 .left) (stepped .step .ensures)
+    by-other (now (a .numbers)) (now (a .counts)) (a .e) (now (a .journal)) (now (a .unfinished)) (now (a .frames)) (start .pre .1) (within past) (other .before .begin .ensures) (other .if2 .left) (stepped .step .ensures)
 
 pub event-spec : {M : Type 1} → statement M
 event-spec =

@@ -3,7 +3,7 @@
 use borrow.Author.Needs.{needs}
 use mathlib.Core.Path.{ap, _∙_}
 use denote.Ref.{now}
-use Rattle.numbers.specs.Plain.{told}
+use Rattle.numbers.specs.Plain.{inNumbers}
 use Rattle.calls.proofs.Ways.{put-record-there}
 use Rattle.calls.proofs.leave.Statement.{statement}
 use Rattle.calls.proofs.leave.Tie as tie
@@ -13,7 +13,7 @@ returns c =
     let put = c .before .before in
     let start = put .before .before in
     let a = start .args in
-    (put-record-there (now (a .numbers)) (a .i) (a .line) (start .pre) (put .put-record .ensures), c .told .ensures ∙ ap told (c .before .answer .ensures))
+    (put-record-there (now (a .numbers)) (a .i) (a .line) (start .pre) (put .put-record .ensures), c .in-numbers .ensures ∙ ap inNumbers (c .before .answer .ensures))
 
 pub leave-spec : {M : Type 1} → statement M
 leave-spec =

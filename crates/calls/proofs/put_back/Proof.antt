@@ -13,7 +13,7 @@ returns c =
     let line = serial .before .before .before in
     let start = line .before .before .before in
     let a = start .args in
-    put-there (now (a .numbers)) (now (a .used)) (a .line) _ (start .pre .0) (line .put-record .ensures) (serial .put-serial .ensures) (put .put-used .ensures) (c .told .ensures)
+    put-there (now (a .numbers)) (now (a .counts)) (a .line) _ (start .pre .0) (line .put-record .ensures) (serial .put-serial .ensures) (put .put-used .ensures) (c .in-numbers .ensures)
 
 pub put-back-spec : {M : Type 1} → statement M
 put-back-spec =

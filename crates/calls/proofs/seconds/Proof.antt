@@ -14,14 +14,14 @@ returns : tie.Need-returns
 returns c =
     let tested = c .before in
     let a = tested .before .before .before .before .args in
-    no-line (now (a .numbers)) (now (a .used)) (record { line = a .line; kind = Seconds (a .seconds) }) (now (a .journal)) (now (a .unfinished)) (now (a .frames)) _ (omega arith) (c .told .ensures)
+    no-line (now (a .numbers)) (now (a .counts)) (record { line = a .line; kind = Seconds (a .seconds) }) (now (a .journal)) (now (a .unfinished)) (now (a .frames)) _ (omega arith) (c .in-numbers .ensures)
 
 returns-2 : tie.Need-returns-2
 returns-2 c =
     let right = c .before .before in
     let past = right .before in
     let a = past .before .before .before .before .args in
-    wrong-size (now (a .numbers)) (now (a .used)) (record { line = a .line; kind = Seconds (a .seconds) }) (now (a .journal)) (now (a .unfinished)) (now (a .frames)) _ (omega arith) (sym (right .are-right .ensures) ∙ not-true _ (c .before .if2 .taken)) (c .told2 .ensures)
+    wrong-size (now (a .numbers)) (now (a .counts)) (record { line = a .line; kind = Seconds (a .seconds) }) (now (a .journal)) (now (a .unfinished)) (now (a .frames)) _ (omega arith) (sym (right .are-right .ensures) ∙ not-true _ (c .before .if2 .taken)) (c .in-numbers2 .ensures)
 
 event-requires : tie.Need-event-requires
 event-requires c κs = let past = c .before .before .before .before .before in (omega arith, sym (past .before .are-right .ensures) ∙ not-false _ (past .if2 .left))

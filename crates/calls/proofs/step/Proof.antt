@@ -2,7 +2,7 @@
 -- Assumes nothing.
 use borrow.Author.Needs.{needs}
 use denote.Ref.{now}
-use Rattle.calls.proofs.Ways.{record-told, put-after, by-decide}
+use Rattle.calls.proofs.Ways.{record-read, put-after, by-decide}
 use Rattle.calls.proofs.step.Statement.{statement}
 use Rattle.calls.proofs.step.Tie as tie
 
@@ -18,26 +18,26 @@ alone c = c .before .before .before .before
 
 returns : tie.Need-returns
 returns c =
-    let told = c .before .before .before in
-    let stepped = alone (told .before .before) in
+    let matched = c .before .before .before in
+    let stepped = alone (matched .before .before) in
     let read = record-read stepped in
     let start = entry read in
     let a = start .args in
-    record-told (now (a .numbers)) (now (a .used)) (a .e) (now (a .journal)) (now (a .unfinished)) (now (a .frames)) (start .pre .1) (read .record-of .ensures)
-    (put-after (now (a .numbers)) (now (a .used)) _ (a .e) (now (a .journal)) (now (a .unfinished)) (now (a .frames)) (start .pre .0) (stepped .step-alone .ensures) (told .look .given .1) (c .leave .ensures .0) (c .leave .ensures .1))
+    record-read (now (a .numbers)) (now (a .counts)) (a .e) (now (a .journal)) (now (a .unfinished)) (now (a .frames)) (start .pre .1) (read .record-of .ensures)
+    (put-after (now (a .numbers)) (now (a .counts)) _ (a .e) (now (a .journal)) (now (a .unfinished)) (now (a .frames)) (start .pre .0) (stepped .step-alone .ensures) (matched .look .given .1) (c .leave .ensures .0) (c .leave .ensures .1))
 
 returns-2 : tie.Need-returns-2
 returns-2 c =
     let back = c .before .before .before in
     let decided = back .before .before .before in
     let lent = decided .before .before .before .before in
-    let told = lent .before .before .before in
-    let stepped = alone (told .before .before) in
+    let matched = lent .before .before .before in
+    let stepped = alone (matched .before .before) in
     let read = record-read stepped in
     let start = entry read in
     let a = start .args in
-    record-told (now (a .numbers)) (now (a .used)) (a .e) (now (a .journal)) (now (a .unfinished)) (now (a .frames)) (start .pre .1) (read .record-of .ensures)
-    (by-decide (now (a .numbers)) (now (a .used)) _ (a .e) (now (a .journal)) (now (a .unfinished)) (now (a .frames)) (stepped .step-alone .ensures) (told .look2 .given .1) (decided .decide .ensures))
+    record-read (now (a .numbers)) (now (a .counts)) (a .e) (now (a .journal)) (now (a .unfinished)) (now (a .frames)) (start .pre .1) (read .record-of .ensures)
+    (by-decide (now (a .numbers)) (now (a .counts)) _ (a .e) (now (a .journal)) (now (a .unfinished)) (now (a .frames)) (stepped .step-alone .ensures) (matched .look2 .given .1) (decided .decide .ensures))
 
 pub step-spec : {M : Type 1} → statement M
 step-spec =

@@ -1,4 +1,4 @@
--- `calls::take` meets its contract: 40, or the journal's taking of the ledger that the numbers tell.
+-- `calls::take` meets its contract: 40, or the journal's taking of the ledger that the numbers stand for.
 -- Assumes nothing.
 use borrow.Author.Needs.{needs}
 use native.Mathlib.Omega.{arith}
@@ -17,14 +17,14 @@ taken c = let back = c .before .before .before in back .before .before
 returns : tie.Need-returns
 returns c =
     let a = c .before .before .before .before .args in
-    taken-nowhere (now (a .numbers)) (now (a .used)) (a .line) (now (a .journal)) (now (a .buffer)) (omega arith) (c .told .ensures)
+    taken-nowhere (now (a .numbers)) (now (a .counts)) (a .line) (now (a .journal)) (now (a .buffer)) (omega arith) (c .in-numbers .ensures)
 
 cast-put-used : tie.Need-cast-put-used
 cast-put-used c =
     let took = taken (c .before .before) in
     let ledger = took .before .before .before in
     let a = entry ledger .args in
-    let fits = narrow-taken (now (a .numbers)) (now (a .used)) (a .line) (now (a .journal)) (now (a .buffer)) _ (took .take .ensures .result) (ledger .ledger-of .ensures .narrow) in
+    let fits = narrow-taken (now (a .numbers)) (now (a .counts)) (a .line) (now (a .journal)) (now (a .buffer)) _ (took .take .ensures .result) (ledger .ledger-of .ensures .narrow) in
     record { fits = omega (arith, fits) }
 
 returns-2 : tie.Need-returns-2
@@ -33,7 +33,7 @@ returns-2 c =
     let took = taken (put .before .before .before) in
     let ledger = took .before .before .before in
     let a = entry ledger .args in
-    taken-there (now (a .numbers)) (now (a .used)) (a .line) (now (a .journal)) (now (a .buffer)) (omega arith) (ledger .ledger-of .ensures .result) (took .take .ensures) (c .told-taking .ensures) (put .put-used .ensures)
+    taken-there (now (a .numbers)) (now (a .counts)) (a .line) (now (a .journal)) (now (a .buffer)) (omega arith) (ledger .ledger-of .ensures .result) (took .take .ensures) (c .taking-in-numbers .ensures) (put .put-used .ensures)
 
 pub take-spec : {M : Type 1} → statement M
 take-spec =

@@ -7,7 +7,7 @@ use native.Mathlib.Omega.{arith}
 use borrow.Author.Needs.{needs}
 use lib.ListN.{getD, drop}
 use denote.Ref.{now}
-use Rattle.memory.proofs.Told.{told}
+use Rattle.memory.proofs.Branches.{branches}
 use Rattle.sequence.specs.Numbers.{isDigit}
 use Rattle.listing.specs.Items.{operandAt, operandOf, isLaidOut, itemOf}
 use Rattle.listing.proofs.Operands.{inside, outside, no-digit, no-space, no-second-space, laid-out}
@@ -16,11 +16,11 @@ use Rattle.listing.proofs.read.Tie as tie
 
 returns : tie.Need-returns
 unfolding itemOf isLaidOut
-returns c = search told
+returns c = search branches
 
 returns-2 : tie.Need-returns-2
 unfolding itemOf isLaidOut
-returns-2 c = search told
+returns-2 c = search branches
 
 returns-3 : tie.Need-returns-3
 returns-3 c =

@@ -16,11 +16,11 @@ within c = sym (c .before .is-within .ensures) ∙ not-false _ (c .if1 .left)
 returns : tie.Need-returns
 returns c = let none = c .before in rw (sym (none .before .is-within .ensures) ∙ not-true _ (none .if1 .taken)) (c .fresh .ensures)
 
-told-line-requires : tie.Need-told-line-requires
-told-line-requires c κs = let a = c .before .before .args in within-facts (now (a .numbers)) (a .i) (within c)
+line-of-requires : tie.Need-line-of-requires
+line-of-requires c κs = let a = c .before .before .args in within-facts (now (a .numbers)) (a .i) (within c)
 
 returns-2 : tie.Need-returns-2
-returns-2 c = rw (within (c .before)) (c .told-line .ensures)
+returns-2 c = rw (within (c .before)) (c .line-of .ensures)
 
 pub record-of-spec : {M : Type 1} → statement M
-record-of-spec = tie.close (tie.spec (λ c κs. search needs) (λ c κs. search needs) returns told-line-requires returns-2)
+record-of-spec = tie.close (tie.spec (λ c κs. search needs) (λ c κs. search needs) returns line-of-requires returns-2)

@@ -26,13 +26,13 @@ record Going (whole rest : AfterRun) (input : List ℕ) (at : ℕ) (out₀ out :
   written-within : put ≤ length out
 
 abbrev Inv-loop : tie.InvT-loop
-Inv-loop events input out₀ numbers₀ used₀ journal₀ unfinished₀ frames₀ buffer₀ count₀ at₀ put₀ left₀ out numbers used journal unfinished frames buffer count at put left =
-    let d₀ = deskOf numbers₀ used₀ journal₀ unfinished₀ frames₀ buffer₀ in
-    let d = deskOf numbers used journal unfinished frames buffer in
+Inv-loop events input out₀ numbers₀ counts₀ journal₀ unfinished₀ frames₀ buffer₀ count₀ at₀ put₀ left₀ out numbers counts journal unfinished frames buffer count at put left =
+    let d₀ = deskOf numbers₀ counts₀ journal₀ unfinished₀ frames₀ buffer₀ in
+    let d = deskOf numbers counts journal unfinished frames buffer in
     Going (pieceOf events input out₀ d₀) (runOf left input count at put out d) input at out₀ out put d₀ d
 
 abbrev μ-loop : tie.MeasureT-loop
-μ-loop events input out₀ numbers₀ used₀ journal₀ unfinished₀ frames₀ buffer₀ count₀ at₀ put₀ left₀ out numbers used journal unfinished frames buffer count at put left = left
+μ-loop events input out₀ numbers₀ counts₀ journal₀ unfinished₀ frames₀ buffer₀ count₀ at₀ put₀ left₀ out numbers counts journal unfinished frames buffer count at put left = left
 
 -- the places, each from one behind it: the call of `turn`, the count before it, the start of this turn of the loop, the function's start
 abbrev call : tie.After-slice-known10 Inv-loop μ-loop → tie.After-turn Inv-loop μ-loop
@@ -56,7 +56,7 @@ stopped-from c = turning (stopped-call c)
 
 -- the desk before a turn
 abbrev desk : tie.At-loop Inv-loop μ-loop → Desk
-desk l = deskOf (l .loop .numbers) (l .loop .used) (l .loop .journal) (l .loop .unfinished) (l .loop .frames) (l .loop .buffer)
+desk l = deskOf (l .loop .numbers) (l .loop .counts) (l .loop .journal) (l .loop .unfinished) (l .loop .frames) (l .loop .buffer)
 
 loop-holds : tie.Need-loop-holds Inv-loop μ-loop
 loop-holds c = record {

@@ -15,19 +15,19 @@ alone c = let taken = c .before .before .before .before in taken .before
 
 returns : tie.Need-returns
 returns c =
-    let told = c .before .before .before in
-    let stepped = alone (told .before .before) in
+    let matched = c .before .before .before in
+    let stepped = alone (matched .before .before) in
     let a = entry stepped .args in
-    rw (c .done .ensures) (step-after (a .line) (a .ledger) (a .e) (now (a .journal)) (now (a .unfinished)) (now (a .frames)) _ _ (stepped .step-alone .ensures) (told .look .given .1) (c .before .answer .ensures))
+    rw (c .done .ensures) (step-after (a .line) (a .ledger) (a .e) (now (a .journal)) (now (a .unfinished)) (now (a .frames)) _ _ (stepped .step-alone .ensures) (matched .look .given .1) (c .before .answer .ensures))
 
 returns-2 : tie.Need-returns-2
 returns-2 c =
     let back = c .before .before .before in
     let decided = back .before .before .before in
-    let told = decided .before .before .before .before .before in
-    let stepped = alone (told .before .before) in
+    let matched = decided .before .before .before .before .before in
+    let stepped = alone (matched .before .before) in
     let a = entry stepped .args in
-    step-asks (a .line) (a .ledger) (a .e) (now (a .journal)) (now (a .unfinished)) (now (a .frames)) _ (stepped .step-alone .ensures) (told .look2 .given .1) (decided .decide .ensures)
+    step-asks (a .line) (a .ledger) (a .e) (now (a .journal)) (now (a .unfinished)) (now (a .frames)) _ (stepped .step-alone .ensures) (matched .look2 .given .1) (decided .decide .ensures)
 
 pub step-spec : {M : Type 1} → statement M
 step-spec =

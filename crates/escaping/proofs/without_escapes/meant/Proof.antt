@@ -9,7 +9,7 @@ use Rattle.kinds.specs.declared.Delimiters.{Delimiters}
 use Rattle.memory.specs.Tests.{isOneOf}
 use Rattle.escaping.specs.Unescape.{Keep, Held, letters, turnOpen}
 use Rattle.memory.proofs.Tests.{never-both}
-use Rattle.memory.proofs.Told.{told}
+use Rattle.memory.proofs.Branches.{branches}
 use Rattle.escaping.proofs.without_escapes.meant.Statement.{statement}
 use Rattle.escaping.proofs.without_escapes.meant.Tie as tie
 
@@ -26,15 +26,15 @@ last-letter d x t f s r =
 
 returns : tie.Need-returns
 unfolding turnOpen
-returns c = search told
+returns c = search branches
 
 returns-2 : tie.Need-returns-2
 unfolding turnOpen
-returns-2 c = search told
+returns-2 c = search branches
 
 returns-3 : tie.Need-returns-3
 unfolding turnOpen
-returns-3 c = search told
+returns-3 c = search branches
 
 returns-4 : tie.Need-returns-4
 returns-4 c =

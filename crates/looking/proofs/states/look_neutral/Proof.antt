@@ -1,17 +1,17 @@
 -- `looking::states::look_neutral` meets its contract.
 -- Assumes nothing.
-use Rattle.memory.proofs.Told.{told}
+use Rattle.memory.proofs.Branches.{branches}
 use Rattle.looking.specs.Looks.{neutralLook}
 use Rattle.looking.proofs.states.look_neutral.Statement.{statement}
 use Rattle.looking.proofs.states.look_neutral.Tie as tie
 
 returns : tie.Need-returns
 unfolding neutralLook
-returns c = search told
+returns c = search branches
 
 returns-2 : tie.Need-returns-2
 unfolding neutralLook
-returns-2 c = search told
+returns-2 c = search branches
 
 pub look-neutral-spec : {M : Type 1} → statement M
 look-neutral-spec = tie.close (tie.spec returns returns-2)

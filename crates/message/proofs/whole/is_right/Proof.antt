@@ -17,19 +17,19 @@ use Rattle.records.specs.Fields.{before, behind}
 use Rattle.records.specs.Records.{endsWithCr}
 use Rattle.sequence.specs.Numbers.{started}
 use Rattle.faults.specs.Faults.{recordStep}
-use Rattle.message.specs.Rest.{breaks, rightRest, countsOf, Telling}
+use Rattle.message.specs.Rest.{breaks, rightRest, countsOf, Tally}
 use Rattle.faults.specs.declared.Step.the-variants.{Fine}
 use Rattle.records.proofs.Scans.{tailAt, rest-part}
 use Rattle.message.proofs.Breaks.{ordinary-plain, cr-some, break-within, ends-behind, broken-by-cr, broken-by-other}
 use Rattle.message.proofs.Starting.{fine-passes}
 use Rattle.message.proofs.Remaining.{left-bad, left-wrong, left-fine}
-use Rattle.message.proofs.Telling.{led-none, led-some, l-row}
+use Rattle.message.proofs.Tally.{led-none, led-some, l-row}
 use Rattle.message.proofs.whole.is_right.Statement.{statement}
 use Rattle.message.proofs.whole.is_right.Tie as tie
 
 abbrev Inv-loop : tie.InvT-loop
 Inv-loop d classes rest followers counts₀ other₀ at₀ counts other at =
-    (at ≤ length rest) × Telling other counts × (rightRest d (countsOf other counts) (drop at rest) ≡ rightRest d started rest)
+    (at ≤ length rest) × Tally other counts × (rightRest d (countsOf other counts) (drop at rest) ≡ rightRest d started rest)
 
 abbrev μ-loop : tie.MeasureT-loop
 μ-loop d classes rest followers counts₀ other₀ at₀ counts other at = length rest - at
@@ -46,7 +46,7 @@ led : (c : tie.Else1 Inv-loop μ-loop)
     let a = l .before .before .args in
     let other = c .before .lead .result in
     let ns = c .before .lead .last .1 .1 .1 .0 in
-    (recordStep (a .d) (countsOf (l .loop .other) (l .loop .counts)) false (before cr (tailAt (a .rest .now) (l .loop .at))) ≡ Fine (countsOf other ns)) × Telling other ns
+    (recordStep (a .d) (countsOf (l .loop .other) (l .loop .counts)) false (before cr (tailAt (a .rest .now) (l .loop .at))) ≡ Fine (countsOf other ns)) × Tally other ns
 led c =
     let l = c .before .before .before .before .before .before in
     let a = l .before .before .args in
@@ -186,13 +186,13 @@ loop-again c =
     let ns = o .before .before .before .lead .last .1 .1 .1 .0 in
     let by-cr : is cr (getD tail (find breaks tail) 0) ≡ true = ap (is cr) (breaking o) ∙ eq-eqb _ _ (c .if2 .left) in
     let (same, clean) = broken-by-cr tail (break-within tail (ends i)) by-cr in
-    let (fine, told) = led (o .before .before) in
+    let (fine, tally) = led (o .before .before) in
     let end : find (is cr) tail + 1 ≡ e + 3 = omega (arith, found o) in
     let behind-is : behind cr tail ≡ drop (at + (e + 3)) (a .rest .now) =
     ap (λ (n : ℕ). drop n tail) end ∙ ap (drop (e + 3)) (rest-part (a .rest .now) at) ∙ drop-drop (e + 3) at (a .rest .now) in
     let on = left-fine (a .d) s tail (cr-some tail (ends i)) (countsOf other ns) fine clean in (
       omega (arith, short o),
-      told,
+      tally,
       ap (rightRest (a .d) (countsOf other ns)) (sym behind-is) ∙ on ∙ ap (rightRest (a .d) s) (rest-part (a .rest .now) at) ∙ l .loop .inv .2,
     )
 

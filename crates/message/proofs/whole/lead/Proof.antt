@@ -21,7 +21,7 @@ use Rattle.kinds.proofs.Rows.{kind-at, row-lt}
 use Rattle.records.proofs.Scans.{rest-part}
 use Rattle.message.proofs.Breaks.{ends-behind}
 use Rattle.message.proofs.Starting.{fieldAt, untyped, three-bytes, typed-step}
-use Rattle.message.proofs.Telling.{no-row, some-row, not-l, count-told, row-some, step-misplaced, step-miscounted, step-fine, led-wrong, led-fine}
+use Rattle.message.proofs.Tally.{no-row, some-row, not-l, count-tallied, row-some, step-misplaced, step-miscounted, step-fine, led-wrong, led-fine}
 use Rattle.message.proofs.whole.lead.Statement.{statement}
 use Rattle.message.proofs.whole.lead.Tie as tie
 
@@ -80,7 +80,7 @@ count : (c : tie.Else2)
 count c =
     let e = c .before .before in
     let a = e .before .before .before in
-    count-told (a .args .other) (a .args .counts .now) (a .pre .2) (named e .0) (follows c) ∙ ap (λ (i : ℕ). getD (a .args .counts .now) i 0) (sym (its-row e))
+    count-tallied (a .args .other) (a .args .counts .now) (a .pre .2) (named e .0) (follows c) ∙ ap (λ (i : ℕ). getD (a .args .counts .now) i 0) (sym (its-row e))
 
 row-at-requires : tie.Need-row-at-requires
 row-at-requires c κs = c .before .pre .3

@@ -1,7 +1,7 @@
 -- `numbers::plain::collects` meets its contract.
 -- Assumes nothing.
 use borrow.Author.Needs.{needs}
-use Rattle.memory.proofs.Told.{told}
+use Rattle.memory.proofs.Branches.{branches}
 use Rattle.line.specs.Line.{mostCollected}
 use Rattle.numbers.specs.Plain.{onlyCollects}
 use Rattle.numbers.proofs.plain.collects.Statement.{statement}
@@ -9,15 +9,15 @@ use Rattle.numbers.proofs.plain.collects.Tie as tie
 
 returns : tie.Need-returns
 unfolding onlyCollects mostCollected
-returns c = search told
+returns c = search branches
 
 returns-2 : tie.Need-returns-2
 unfolding onlyCollects mostCollected
-returns-2 c = search told
+returns-2 c = search branches
 
 returns-3 : tie.Need-returns-3
 unfolding onlyCollects mostCollected
-returns-3 c = search told
+returns-3 c = search branches
 
 pub collects-spec : {M : Type 1} → statement M
 collects-spec =

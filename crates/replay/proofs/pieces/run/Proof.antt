@@ -24,11 +24,11 @@ record Going (kept : Kept) (input₀ input out journal unfinished frames buffer 
   buffer-length : length buffer ≡ messageLimit
 
 abbrev Inv-loop : tie.InvT-loop
-Inv-loop fd name n input₀ out₀ journal₀ unfinished₀ frames₀ buffer₀ numbers₀ used₀ kept₀ turns₀ input out journal unfinished frames buffer numbers used kept turns =
+Inv-loop fd name n input₀ out₀ journal₀ unfinished₀ frames₀ buffer₀ numbers₀ counts₀ kept₀ turns₀ input out journal unfinished frames buffer numbers counts kept turns =
     Going kept input₀ input out journal unfinished frames buffer
 
 abbrev μ-loop : tie.MeasureT-loop
-μ-loop fd name n input₀ out₀ journal₀ unfinished₀ frames₀ buffer₀ numbers₀ used₀ kept₀ turns₀ input out journal unfinished frames buffer numbers used kept turns = turns
+μ-loop fd name n input₀ out₀ journal₀ unfinished₀ frames₀ buffer₀ numbers₀ counts₀ kept₀ turns₀ input out journal unfinished frames buffer numbers counts kept turns = turns
 
 -- the places, each from one behind it: the call of `advance`, that of `run`, the loop's test, this turn's start, the function's start
 abbrev advanced : tie.After-struct-known Inv-loop μ-loop → tie.After-advance Inv-loop μ-loop

@@ -1,42 +1,42 @@
 -- `replaying::lines::is_usual` meets its contract.
 -- Assumes nothing.
 use borrow.Author.Needs.{needs}
-use Rattle.memory.proofs.Told.{told}
+use Rattle.memory.proofs.Branches.{branches}
 use Rattle.replaying.specs.Lines.{isUsual}
 use Rattle.replaying.proofs.lines.is_usual.Statement.{statement}
 use Rattle.replaying.proofs.lines.is_usual.Tie as tie
 
 returns : tie.Need-returns
 unfolding isUsual
-returns c = search told
+returns c = search branches
 
 returns-2 : tie.Need-returns-2
 unfolding isUsual
-returns-2 c = search told
+returns-2 c = search branches
 
 returns-3 : tie.Need-returns-3
 unfolding isUsual
-returns-3 c = search told
+returns-3 c = search branches
 
 returns-4 : tie.Need-returns-4
 unfolding isUsual
-returns-4 c = search told
+returns-4 c = search branches
 
 returns-5 : tie.Need-returns-5
 unfolding isUsual
-returns-5 c = search told
+returns-5 c = search branches
 
 returns-6 : tie.Need-returns-6
 unfolding isUsual
-returns-6 c = search told
+returns-6 c = search branches
 
 returns-7 : tie.Need-returns-7
 unfolding isUsual
-returns-7 c = search told
+returns-7 c = search branches
 
 returns-8 : tie.Need-returns-8
 unfolding isUsual
-returns-8 c = search told
+returns-8 c = search branches
 
 pub is-usual-spec : {M : Type 1} → statement M
 is-usual-spec =

@@ -31,7 +31,7 @@ taking-start c = start (c .before .before .before .before)
 
 -- the desk that is lent
 abbrev desk : tie.Start → Desk
-desk s = let a = s .args in deskOf (now (a .numbers)) (now (a .used)) (now (a .journal)) (now (a .unfinished)) (now (a .frames)) (now (a .buffer))
+desk s = let a = s .args in deskOf (now (a .numbers)) (now (a .counts)) (now (a .journal)) (now (a .unfinished)) (now (a .frames)) (now (a .buffer))
 
 slice-aggregate-take : tie.Need-slice-aggregate-take
 slice-aggregate-take c =

@@ -26,13 +26,13 @@ returns : tie.Need-returns
 returns c =
     let k = byte-kind (byte c) in
     let a = start (k .before .before) .args in
-    as-kind (now (a .numbers)) (now (a .used)) (a .e) (now (a .journal)) (now (a .unfinished)) (now (a .frames)) (k .kind .given .1) (byte c .byte .ensures)
+    as-kind (now (a .numbers)) (now (a .counts)) (a .e) (now (a .journal)) (now (a .unfinished)) (now (a .frames)) (k .kind .given .1) (byte c .byte .ensures)
 
 returns-2 : tie.Need-returns-2
 returns-2 c =
     let k = seconds-kind (seconds c) in
     let a = start (k .before .before) .args in
-    as-kind (now (a .numbers)) (now (a .used)) (a .e) (now (a .journal)) (now (a .unfinished)) (now (a .frames)) (k .kind2 .given .1) (seconds c .seconds .ensures)
+    as-kind (now (a .numbers)) (now (a .counts)) (a .e) (now (a .journal)) (now (a .unfinished)) (now (a .frames)) (k .kind2 .given .1) (seconds c .seconds .ensures)
 
 pub event-spec : {M : Type 1} → statement M
 event-spec =

@@ -6,7 +6,7 @@ use denote.Ref.{now}
 use Prim.Native.Nat.{_+_, _≤_}
 use lib.ListN.{length}
 use Rattle.listing.specs.Texts.{rowText}
-use Rattle.replaying.proofs.Ways.{row-fits, told-row, told-within, never-short}
+use Rattle.replaying.proofs.Ways.{row-fits, row-put, row-within, never-short}
 use Rattle.replaying.proofs.turns.put_row.Statement.{statement}
 use Rattle.replaying.proofs.turns.put_row.Tie as tie
 
@@ -26,8 +26,8 @@ returns : tie.Need-returns
 returns c =
     let w = row (c .before .before .before) in
     let a = start w .args in (
-      told-row (a .number) (a .line) (a .answer) (a .size) (a .behind) (now (a .out)) (a .put) (fits w) (w .write-row .ensures) (c .before .end .given .1),
-      told-within (a .number) (a .line) (a .answer) (a .size) (a .behind) (now (a .out)) (a .put) (fits w) (w .write-row .ensures) (c .before .end .given .1),
+      row-put (a .number) (a .line) (a .answer) (a .size) (a .behind) (now (a .out)) (a .put) (fits w) (w .write-row .ensures) (c .before .end .given .1),
+      row-within (a .number) (a .line) (a .answer) (a .size) (a .behind) (now (a .out)) (a .put) (fits w) (w .write-row .ensures) (c .before .end .given .1),
     )
 
 returns-2 : tie.Need-returns-2

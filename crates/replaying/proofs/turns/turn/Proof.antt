@@ -10,13 +10,13 @@ use Rattle.replaying.specs.Lines.{nextOf}
 use Rattle.replaying.specs.Turns.{deskOf}
 use Rattle.replaying.specs.declared.Stop.the-variants.{Input}
 use Rattle.replaying.specs.declared.Next.the-variants.{Whole}
-use Rattle.replaying.proofs.Ways.{no-room, has-room, stays, asked-told, acted-behind}
+use Rattle.replaying.proofs.Ways.{no-room, has-room, stays, asked-put, acted-behind}
 use Rattle.replaying.proofs.Newlines.{behind-within}
 use lib.ListN.{length}
 use Rattle.replaying.proofs.turns.turn.Statement.{statement}
 use Rattle.replaying.proofs.turns.turn.Tie as tie
 
--- the places, each from one behind it: the function's start, the line found, its item, the calls of `ask` and `tell`
+-- the places, each from one behind it: the function's start, the line found, its item, the calls of `ask` and `put_columns`
 abbrev start : tie.After-slice-known5 → tie.Start
 start c = c .before .before .before .before .before .before
 
@@ -29,12 +29,12 @@ item c = c .before .before .before .before .before .before .before .before
 abbrev asked : tie.After-slice-known9 → tie.After-ask
 asked c = c .before .before .before .before .before .before .before .before
 
-abbrev told : tie.After-slice-known10 → tie.After-tell
-told c = c .before .before
+abbrev columns : tie.After-slice-known10 → tie.After-put-columns
+columns c = c .before .before
 
 -- the desk that is lent
 abbrev desk : tie.Start → Desk
-desk s = let a = s .args in deskOf (now (a .numbers)) (now (a .used)) (now (a .journal)) (now (a .unfinished)) (now (a .frames)) (now (a .buffer))
+desk s = let a = s .args in deskOf (now (a .numbers)) (now (a .counts)) (now (a .journal)) (now (a .unfinished)) (now (a .frames)) (now (a .buffer))
 
 -- past the tests there is room for a row
 roomy : (c : tie.After-next) → line-start c .args .put + rowRoom ≤ length (now (line-start c .args .out))
@@ -66,19 +66,19 @@ returns-3 c =
     let stay = stays (desk s) (now (a .out)) (a .put) Input in
     (has-room (desk s) (now (a .out)) (a .put) (now (a .input)) (a .at) (a .number) (roomy n) (sym (c .enum-told .given .1) ∙ n .next .ensures) stay, tt, tt)
 
-tell-requires : tie.Need-tell-requires
-tell-requires c κs = roomy (item (asked (c .before)) .before .before)
+put-columns-requires : tie.Need-put-columns-requires
+put-columns-requires c κs = roomy (item (asked (c .before)) .before .before)
 
 returns-4 : tie.Need-returns-4
 returns-4 c =
-    let t = told c in
+    let t = columns c in
     let q = asked (t .before .before) in
     let i = item q in
     let n = i .before .before in
     let s = line-start n in
     let a = s .args in
-    let (row, ends) = t .tell .ensures in
-    let done = asked-told (desk s) (now (a .out)) (a .put) (i .item .given .0 .0) (a .number) (i .item .given .0 .1 .0) (q .ask .ensures) row in
+    let (row, ends) = t .put-columns .ensures in
+    let done = asked-put (desk s) (now (a .out)) (a .put) (i .item .given .0 .0) (a .number) (i .item .given .0 .1 .0) (q .ask .ensures) row in
     let within = behind-within (now (a .input)) (a .at) (next-is i) in (
       has-room (desk s) (now (a .out)) (a .put) (now (a .input)) (a .at) (a .number) (roomy n) (next-is i) done,
       acted-behind (desk s) (now (a .out)) (a .put) (i .item .given .0 .0) (a .number) (i .item .given .0 .1 .0) (length (now (a .input))) within (done .turn),
@@ -96,11 +96,11 @@ turn-spec =
     (λ c. search needs)
     (λ c. search needs)
     (λ c κs. search needs)
-    tell-requires
+    put-columns-requires
     returns-3
-    (λ c. told c .tell .kept .1 .1 .1 .0)
-    (λ c. asked (told c .before .before) .ask .kept .1 .1 .1 .0)
-    (λ c. asked (told c .before .before) .ask .kept .1 .1 .1 .1 .0)
-    (λ c. asked (told c .before .before) .ask .kept .1 .1 .1 .1 .1 .0)
-    (λ c. asked (told c .before .before) .ask .kept .1 .1 .1 .1 .1 .1 .0)
+    (λ c. columns c .put-columns .kept .1 .1 .1 .0)
+    (λ c. asked (columns c .before .before) .ask .kept .1 .1 .1 .0)
+    (λ c. asked (columns c .before .before) .ask .kept .1 .1 .1 .1 .0)
+    (λ c. asked (columns c .before .before) .ask .kept .1 .1 .1 .1 .1 .0)
+    (λ c. asked (columns c .before .before) .ask .kept .1 .1 .1 .1 .1 .1 .0)
     returns-4)

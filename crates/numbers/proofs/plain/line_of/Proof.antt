@@ -4,8 +4,8 @@ use borrow.Author.Needs.{needs}
 use native.Mathlib.Omega.{arith}
 use denote.Ref.{now}
 use Rattle.numbers.proofs.Numbers.{numbers-facts}
-use Rattle.numbers.proofs.plain.told_line.Statement.{statement}
-use Rattle.numbers.proofs.plain.told_line.Tie as tie
+use Rattle.numbers.proofs.plain.line_of.Statement.{statement}
+use Rattle.numbers.proofs.plain.line_of.Tie as tie
 
 last-of-requires : tie.Need-last-of-requires
 last-of-requires c κs = let w = numbers-facts (now (c .before .before .before .args .numbers)) (c .before .before .before .args .i) (c .before .before .before .pre .1) in omega (arith, w .last)
@@ -19,8 +19,8 @@ cast-t31 c = record { fits = let w = numbers-facts (now (c .before .before .befo
 returns : tie.Need-returns
 returns c = rw (c .before .before .before .before .before .last-of .ensures, c .before .before .before .before .before .before .before .state-of .ensures)
 
-pub told-line-spec : {M : Type 1} → statement M
-told-line-spec =
+pub line-of-spec : {M : Type 1} → statement M
+line-of-spec =
     tie.close
     (tie.spec
     (λ c. search needs)

@@ -1,4 +1,4 @@
--- The gateway that numbers tell, after what has changed was put back into them.
+-- The gateway that numbers stand for, after what has changed was put back into them.
 -- Assumes nothing.
 use mathlib.Core.Path.{_≡_, refl, sym, ap, _∙_}
 use mathlib.Core.Logic.{_≢_}
@@ -62,16 +62,16 @@ serials-alike : (ns us us′ : List ℕ) → ledgerOf ns us .serials ≡ ledgerO
 unfolding ledgerOf
 serials-alike ns us us′ = refl
 
-in-use-told : (ns us : List ℕ) → ledgerOf ns us .in_use ≡ getD us lines 0
+in-use-back : (ns us : List ℕ) → ledgerOf ns us .in_use ≡ getD us lines 0
 unfolding ledgerOf
-in-use-told ns us = refl
+in-use-back ns us = refl
 
 module _ (ns ns′ us : List ℕ) (i : ℕ) (h : i < lines) (d′ : Ledger) (long : length us ≡ lines + 1) where
   abbrev us′ : List ℕ
   us′ = withUsed us i d′
 
   in-use-put : ledgerOf ns′ us′ .in_use ≡ d′ .in_use
-  in-use-put = in-use-told ns′ us′ ∙ getD-set-same (set us i (getD (d′ .used) i 0)) lines (d′ .in_use) 0 (omega (arith, length-set us i (getD (d′ .used) i 0)))
+  in-use-put = in-use-back ns′ us′ ∙ getD-set-same (set us i (getD (d′ .used) i 0)) lines (d′ .in_use) 0 (omega (arith, length-set us i (getD (d′ .used) i 0)))
 
   used-put : d′ .used ≡ set (ledgerOf ns us .used) i (getD (d′ .used) i 0) → ledgerOf ns′ us′ .used ≡ d′ .used
   used-put t =

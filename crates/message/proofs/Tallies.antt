@@ -1,4 +1,4 @@
--- What the last other record's row and an array of counts tell: the next number of a type, and the counts behind a record.
+-- What the last other record's row and an array of counts hold: the next number of a type, and the counts behind a record.
 -- Assumes nothing.
 use mathlib.Core.Path.{_≡_, refl, ap, sym, _∙_}
 use mathlib.Core.Bool.{true, false}
@@ -15,7 +15,7 @@ use Rattle.memory.proofs.Table.{values, entry}
 use Rattle.kinds.specs.Kinds.{mayFollow, rowOf, kindAt, letterRow, isTerminator}
 use Rattle.sequence.specs.Numbers.{countOf, counted}
 use Rattle.faults.specs.Faults.{kindStep}
-use Rattle.message.specs.Rest.{countsOf, Telling, LedTo}
+use Rattle.message.specs.Rest.{countsOf, Tally, LedTo}
 use Rattle.sequence.specs.declared.Counts.{Counts}
 use Rattle.kinds.specs.declared.Kind.{Kind}
 use Rattle.kinds.specs.declared.Kind.the-variants.{Header, Patient, Order, Result, Query, Terminator, Comment, Manufacturer}
@@ -41,23 +41,23 @@ some-row Unknown n = absurd (n refl)
 spelt : (ns : List ℕ) → length ns ≡ 8 → ns ≡ values (λ i. getD ns i 0) 0 8
 spelt ns l = ext-getD 0 ns (values (λ i. getD ns i 0) 0 8) l (λ i h. sym (entry (λ i. getD ns i 0) 0 8 i (omega arith)))
 
--- where k may follow: the array tells its count, L's too
-module _ (other : ℕ) (ns : List ℕ) (told : Telling other ns) where
+-- where k may follow: the array has its count, L's too
+module _ (other : ℕ) (ns : List ℕ) (tally : Tally other ns) where
   pub not-l : (k : Kind) → mayFollow (kindAt other) k ≡ true → other ≡ 5 → ⊥
   not-l k f e = let g : mayFollow Terminator k ≡ true = rw e at f in never-both (mayFollow Terminator k) g (l-last k)
 
   no-l-yet : (k : Kind) → mayFollow (kindAt other) k ≡ true → getD ns 5 0 ≡ 0
-  no-l-yet k f = told .2 (not-l k f)
+  no-l-yet k f = tally .2 (not-l k f)
 
-  pub count-told : (k : Kind) → mayFollow (kindAt other) k ≡ true → countOf (countsOf other ns) k ≡ getD ns (rowOf k) 0
-  count-told Header f = never-both (mayFollow (kindAt other) Header) f (h-first (kindAt other))
-  count-told Patient f = refl
-  count-told Order f = refl
-  count-told Result f = refl
-  count-told Query f = refl
-  count-told Terminator f = sym (no-l-yet Terminator f)
-  count-told Comment f = refl
-  count-told Manufacturer f = refl
+  pub count-tallied : (k : Kind) → mayFollow (kindAt other) k ≡ true → countOf (countsOf other ns) k ≡ getD ns (rowOf k) 0
+  count-tallied Header f = never-both (mayFollow (kindAt other) Header) f (h-first (kindAt other))
+  count-tallied Patient f = refl
+  count-tallied Order f = refl
+  count-tallied Result f = refl
+  count-tallied Query f = refl
+  count-tallied Terminator f = sym (no-l-yet Terminator f)
+  count-tallied Comment f = refl
+  count-tallied Manufacturer f = refl
 
 pub row-some : (other k : Kind) → mayFollow other k ≡ true → 0 < rowOf k
 row-some other Header f = never-both (mayFollow other Header) f (h-first other)
@@ -83,48 +83,48 @@ module _ (s : Counts) (k : Kind) (n : ℕ) where
   unfolding kindStep
   step-fine f e = rw (f, eq-eqb n (countOf s k + 1) e)
 
--- the counts behind a record of a row with number n, as another row and array tell them
+-- the counts behind a record of a row with number n, as another row and array hold them
 abbrev Counting : ℕ → List ℕ → ℕ → ℕ → ℕ → List ℕ → Type 0
-Counting other ns row n other₂ ns₂ = (countsOf other₂ ns₂ ≡ counted (countsOf other ns) (kindAt row) n) × Telling other₂ ns₂
+Counting other ns row n other₂ ns₂ = (countsOf other₂ ns₂ ≡ counted (countsOf other ns) (kindAt row) n) × Tally other₂ ns₂
 
 -- C and M are passed over; at each other record they restart, at P also O and at O also R
-module _ (other : ℕ) (ns : List ℕ) (n : ℕ) (told : Telling other ns) (unended : other ≡ 5 → ⊥) where
+module _ (other : ℕ) (ns : List ℕ) (n : ℕ) (tally : Tally other ns) (unended : other ≡ 5 → ⊥) where
   pub counted-passed-over : (row : ℕ) → 5 < row → row < 8 → Counting other ns row n other (set ns row n)
   counted-passed-over row p q =
       elim (decLt row 7) [
-        | yes lt ↦ let same : row ≡ 6 = omega arith in rw (same, spelt ns (told .1)) (refl, (told .0, refl, told .2))
-        | no ge ↦ let same : row ≡ 7 = omega arith in rw (same, spelt ns (told .1)) (refl, (told .0, refl, told .2))
+        | yes lt ↦ let same : row ≡ 6 = omega arith in rw (same, spelt ns (tally .1)) (refl, (tally .0, refl, tally .2))
+        | no ge ↦ let same : row ≡ 7 = omega arith in rw (same, spelt ns (tally .1)) (refl, (tally .0, refl, tally .2))
       ]
 
   pub counted-patient : (row : ℕ) → row ≡ 1 → Counting other ns row n row (set (set (set (set ns row n) 6 0) 7 0) 2 0)
-  counted-patient row same = rw (same, spelt ns (told .1)) (refl, (omega arith, refl, λ e. told .2 unended))
+  counted-patient row same = rw (same, spelt ns (tally .1)) (refl, (omega arith, refl, λ e. tally .2 unended))
 
   pub counted-order : (row : ℕ) → row ≡ 2 → Counting other ns row n row (set (set (set (set ns row n) 6 0) 7 0) 3 0)
-  counted-order row same = rw (same, spelt ns (told .1)) (refl, (omega arith, refl, λ e. told .2 unended))
+  counted-order row same = rw (same, spelt ns (tally .1)) (refl, (omega arith, refl, λ e. tally .2 unended))
 
   pub counted-other : (row : ℕ) → 2 < row → row ≤ 5 → Counting other ns row n row (set (set (set ns row n) 6 0) 7 0)
   counted-other row p q =
       elim (decLt row 4) [
-        | yes lt ↦ let same : row ≡ 3 = omega arith in rw (same, spelt ns (told .1)) (refl, (omega arith, refl, λ e. told .2 unended))
+        | yes lt ↦ let same : row ≡ 3 = omega arith in rw (same, spelt ns (tally .1)) (refl, (omega arith, refl, λ e. tally .2 unended))
         | no ge ↦
             elim (decLt row 5) [
-              | yes lt ↦ let same : row ≡ 4 = omega arith in rw (same, spelt ns (told .1)) (refl, (omega arith, refl, λ e. told .2 unended))
-              | no ge ↦ let same : row ≡ 5 = omega arith in rw (same, spelt ns (told .1)) (refl, (omega arith, refl, λ e. absurd (e refl)))
+              | yes lt ↦ let same : row ≡ 4 = omega arith in rw (same, spelt ns (tally .1)) (refl, (omega arith, refl, λ e. tally .2 unended))
+              | no ge ↦ let same : row ≡ 5 = omega arith in rw (same, spelt ns (tally .1)) (refl, (omega arith, refl, λ e. absurd (e refl)))
             ]
       ]
 
--- a step told by row 8, or by a row and an array that tell its counts
+-- a step held by row 8, or by a row and an array that hold its counts
 pub led-wrong : {st : Step} (ns : List ℕ) → (f : Fault) × (st ≡ Wrong f) → LedTo st 8 ns
 led-wrong ns w = rw (w .1)
 
-pub led-fine : {st : Step} {t : Counts} (other : ℕ) (ns : List ℕ) → st ≡ Fine t → countsOf other ns ≡ t → Telling other ns → LedTo st other ns
-led-fine other ns e q told = rw e (sym q, told)
+pub led-fine : {st : Step} {t : Counts} (other : ℕ) (ns : List ℕ) → st ≡ Fine t → countsOf other ns ≡ t → Tally other ns → LedTo st other ns
+led-fine other ns e q tally = rw e (sym q, tally)
 
 pub led-none : (st : Step) (other : ℕ) (ns : List ℕ) → LedTo st other ns → other ≡ 8 → (f : Fault) × (st ≡ Wrong f)
 led-none (Fine s) other ns led e = absurd (omega (arith, led .1 .0))
 led-none (Wrong f) other ns led e = (f, refl)
 
-pub led-some : (st : Step) (other : ℕ) (ns : List ℕ) → LedTo st other ns → (other ≡ 8 → ⊥) → (st ≡ Fine (countsOf other ns)) × Telling other ns
+pub led-some : (st : Step) (other : ℕ) (ns : List ℕ) → LedTo st other ns → (other ≡ 8 → ⊥) → (st ≡ Fine (countsOf other ns)) × Tally other ns
 led-some (Fine s) other ns led n = (ap Fine (led .0), led .1)
 led-some (Wrong f) other ns led n = absurd (n led)
 

@@ -1,5 +1,0 @@
--- The set for a need that a definition by tests asks: each test's value from the fact that a branch was told.
--- Assumes nothing.
-use borrow.Author.Tests.{lt-ltb, le-ltb, le-leb, lt-leb, eq-eqb, ne-eqb}
-
-pub ruleset told = (lt-ltb, le-ltb, le-leb, lt-leb, eq-eqb, ne-eqb)
