@@ -1,5 +1,5 @@
 pub mod Breaks
 pub mod Remaining
 pub mod Starting
-pub mod Tally
+pub mod Tallies
 pub mod OneOutcome

@@ -2,7 +2,7 @@
 -- Assumes nothing.
 use borrow.Author.Needs.{needs}
 use native.Mathlib.Omega.{arith}
-use Rattle.message.proofs.Tally.{counted-passed-over, counted-patient, counted-order, counted-other}
+use Rattle.message.proofs.Tallies.{counted-passed-over, counted-patient, counted-order, counted-other}
 use Rattle.message.proofs.whole.count_on.Statement.{statement}
 use Rattle.message.proofs.whole.count_on.Tie as tie
 

@@ -23,7 +23,7 @@ use Rattle.records.proofs.Scans.{tailAt, rest-part}
 use Rattle.message.proofs.Breaks.{ordinary-plain, cr-some, break-within, ends-behind, broken-by-cr, broken-by-other}
 use Rattle.message.proofs.Starting.{fine-passes}
 use Rattle.message.proofs.Remaining.{left-bad, left-wrong, left-fine}
-use Rattle.message.proofs.Tally.{led-none, led-some, l-row}
+use Rattle.message.proofs.Tallies.{led-none, led-some, l-row}
 use Rattle.message.proofs.whole.is_right.Statement.{statement}
 use Rattle.message.proofs.whole.is_right.Tie as tie
 

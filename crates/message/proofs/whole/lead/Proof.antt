@@ -21,7 +21,7 @@ use Rattle.kinds.proofs.Rows.{kind-at, row-lt}
 use Rattle.records.proofs.Scans.{rest-part}
 use Rattle.message.proofs.Breaks.{ends-behind}
 use Rattle.message.proofs.Starting.{fieldAt, untyped, three-bytes, typed-step}
-use Rattle.message.proofs.Tally.{no-row, some-row, not-l, count-tallied, row-some, step-misplaced, step-miscounted, step-fine, led-wrong, led-fine}
+use Rattle.message.proofs.Tallies.{no-row, some-row, not-l, count-tallied, row-some, step-misplaced, step-miscounted, step-fine, led-wrong, led-fine}
 use Rattle.message.proofs.whole.lead.Statement.{statement}
 use Rattle.message.proofs.whole.lead.Tie as tie
 

@@ -12,7 +12,7 @@ use Rattle.characters.specs.Control.{cr}
 use Rattle.kinds.specs.Kinds.{kindOf, letterRow}
 use Rattle.message.proofs.Breaks.{cr-some, not-last}
 use Rattle.message.proofs.Starting.{cr-names-none, type-unknown, type-long, type-named, b-first, b-later, b-second}
-use Rattle.message.proofs.Tally.{no-row}
+use Rattle.message.proofs.Tallies.{no-row}
 use Rattle.message.proofs.whole.row_at.Statement.{statement}
 use Rattle.message.proofs.whole.row_at.Tie as tie
 
