@@ -234,9 +234,9 @@ module _ (ns us : List ℕ) (e : Event) (j u f : List ℕ) (s : rightLengths (le
       by-step ns us e j u f h s within y
 
 -- the record that the numbers stand for
-pub record-read : (ns us : List ℕ) (e : Event) (j u f : List ℕ) {l : Line} {r : Answered} {ns′ us′ j′ u′ f′ : List ℕ} → isWithin ns (e .line) ≡ true → l ≡ recordOf ns (e .line) → Stepping ns us l e j u f r ns′ us′ j′ u′ f′
+pub by-record : (ns us : List ℕ) (e : Event) (j u f : List ℕ) {l : Line} {r : Answered} {ns′ us′ j′ u′ f′ : List ℕ} → isWithin ns (e .line) ≡ true → l ≡ recordOf ns (e .line) → Stepping ns us l e j u f r ns′ us′ j′ u′ f′
     → Stepping ns us (lineOf ns (e .line)) e j u f r ns′ us′ j′ u′ f′
-record-read ns us e j u f {l} {r} {ns′} {us′} {j′} {u′} {f′} w q c =
+by-record ns us e j u f {l} {r} {ns′} {us′} {j′} {u′} {f′} w q c =
     let k : l ≡ lineOf ns (e .line) = q ∙ rw w in
     subst (λ (x : Line). Stepping ns us x e j u f r ns′ us′ j′ u′ f′) k c
 

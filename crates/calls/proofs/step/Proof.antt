@@ -2,7 +2,7 @@
 -- Assumes nothing.
 use borrow.Author.Needs.{needs}
 use denote.Ref.{now}
-use Rattle.calls.proofs.Ways.{record-read, put-after, by-decide}
+use Rattle.calls.proofs.Ways.{by-record, put-after, by-decide}
 use Rattle.calls.proofs.step.Statement.{statement}
 use Rattle.calls.proofs.step.Tie as tie
 
@@ -23,7 +23,7 @@ returns c =
     let read = record-read stepped in
     let start = entry read in
     let a = start .args in
-    record-read (now (a .numbers)) (now (a .counts)) (a .e) (now (a .journal)) (now (a .unfinished)) (now (a .frames)) (start .pre .1) (read .record-of .ensures)
+    by-record (now (a .numbers)) (now (a .counts)) (a .e) (now (a .journal)) (now (a .unfinished)) (now (a .frames)) (start .pre .1) (read .record-of .ensures)
     (put-after (now (a .numbers)) (now (a .counts)) _ (a .e) (now (a .journal)) (now (a .unfinished)) (now (a .frames)) (start .pre .0) (stepped .step-alone .ensures) (matched .look .given .1) (c .leave .ensures .0) (c .leave .ensures .1))
 
 returns-2 : tie.Need-returns-2
@@ -36,7 +36,7 @@ returns-2 c =
     let read = record-read stepped in
     let start = entry read in
     let a = start .args in
-    record-read (now (a .numbers)) (now (a .counts)) (a .e) (now (a .journal)) (now (a .unfinished)) (now (a .frames)) (start .pre .1) (read .record-of .ensures)
+    by-record (now (a .numbers)) (now (a .counts)) (a .e) (now (a .journal)) (now (a .unfinished)) (now (a .frames)) (start .pre .1) (read .record-of .ensures)
     (by-decide (now (a .numbers)) (now (a .counts)) _ (a .e) (now (a .journal)) (now (a .unfinished)) (now (a .frames)) (stepped .step-alone .ensures) (matched .look2 .given .1) (decided .decide .ensures))
 
 pub step-spec : {M : Type 1} → statement M
