@@ -1,21 +1,21 @@
--- A host's run from numbers in order is the gateway's run: the same answers, and at its end the numbers stand for the gateway's state. So what is promised of runs holds for hosts.
+-- A host's run from numbers in order is the gateway's run: the same answers, and at its end the numbers stand for the gateway's state.
 -- Assumes nothing.
 use mathlib.Core.Path.{_≡_, refl, sym, ap, subst, _∙_}
-use mathlib.Core.Bool.{Bool, true, false, cond, not, _&&_, _||_}
-use mathlib.Core.List.{List, [], _∷_}
+use mathlib.Core.Bool.{Bool, true, false, _||_}
+use mathlib.Core.List.{List, [], _∷_, map}
 use Prim.Native.Nat.{ℕ}
-use lib.Dec.{ltb, eqb}
+use lib.Dec.{ltb}
 use Rattle.memory.specs.Sizes.{lines}
 use Rattle.memory.specs.Tests.{unless}
 use Rattle.memory.proofs.Tests.{clash}
 use Rattle.room.specs.Room.{todaysShares}
-use Rattle.answers.specs.Paper.{numberOf, valuesOf}
+use Rattle.answers.specs.Paper.{valuesOf}
 use Rattle.answers.specs.declared.Answer.{Answer}
 use Rattle.answers.specs.declared.Answer.the-variants.{NoLine}
 use Rattle.answers.proofs.Paper.{every-answer}
 use Rattle.receiving.specs.Verdicts.{verdictOf}
 use Rattle.receiving.specs.Steps.{Memory, stepOf}
-use Rattle.gateway.specs.Events.{lineAt, putBack, freshGateway, eventOf}
+use Rattle.gateway.specs.Events.{lineAt, putBack, eventOf}
 use Rattle.looking.specs.declared.Event.{Event}
 use Rattle.gateway.specs.declared.Gateway.{Gateway}
 use Rattle.looking.specs.declared.Verdict.{Verdict}
@@ -23,13 +23,12 @@ use Rattle.gateway_laws.specs.Classes.{Class, quiet, opening, closing, refusing
 use Rattle.gateway_laws.proofs.Rows.{Of, of-class}
 use Rattle.gateway_laws.proofs.Proper.{verdict-proper}
 use Rattle.serial.specs.Serial.{event, taking, annotate, final, Every}
-use Rattle.promises.specs.Machine.{State, Response, GatewayItem, onLine, step, Sound, May}
-use Rattle.promises.specs.Runs.{RightSizes, fresh, answered, isFault}
+use Rattle.promises.specs.Machine.{State, Response, GatewayItem, onLine, step, Sound}
+use Rattle.promises.specs.Runs.{fresh, answered, isFault}
 use Rattle.promises.proofs.Runs.{always-sound, never-faulty}
 use Rattle.numbers.specs.Plain.{inNumbers}
-use Rattle.ngachodui_laws.specs.Hosting.{Means}
-use Rattle.ngachodui_laws.specs.HostRuns.{HostState, gatewayState, InOrder, freshHost, HostResponse, hostStep, Alike}
-use Rattle.numbers.specs.declared.Answered.{Answered}
+use Rattle.ngachodui_laws.specs.HostRuns.{HostState, gatewayState, InOrder, freshHost, HostResponse, hostStep, Run, historyOf, endOf}
+use Rattle.ngachodui_laws.specs.Inner.Hosting.{answerInNumbers, inNumbersOf, seenOf}
 use Rattle.ngachodui_laws.proofs.Hosts.{hosts-the-gateway, taking-hosts, fresh-hosts}
 
 -- no event is answered 8, so an event's answer in numbers has all that its answer has
@@ -58,21 +57,19 @@ never-gives against v o = refl
 
 -- and but for 8 no answer carries values
 abbrev isPlain : Answer → Bool
-isPlain a = isGiving (classOf a) || (not (eqb (numberOf a) 8) && isNone (valuesOf a))
+isPlain a = isGiving (classOf a) || isNone (valuesOf a)
 
-plain-values : (gives eight : Bool) (vs : List ℕ) → gives || (not eight && isNone vs) ≡ true → gives ≡ false → cond eight (0 ∷ 0 ∷ []) [] ≡ vs
-plain-values false false [] p q = refl
-plain-values false false (v ∷ vs) p q = clash cc
-plain-values false true vs p q = clash cc
-plain-values true eight vs p q = clash cc
+no-values : (gives empty : Bool) → gives || empty ≡ true → gives ≡ false → empty ≡ true
+no-values false empty p q = p
+no-values true empty p q = clash cc
 
-means-event : (a : Answer) → isGiving (classOf a) ≡ false → Means (inNumbers a) a
+none-of : (vs : List ℕ) → isNone vs ≡ true → vs ≡ []
+none-of [] h = refl
+none-of (v ∷ vs) h = clash cc
+
+event-answer : (a : Answer) → isGiving (classOf a) ≡ false → inNumbers a ≡ answerInNumbers a
 unfolding inNumbers
-means-event a h = record {
-  number = refl;
-  reply = refl;
-  values = plain-values (isGiving (classOf a)) (eqb (numberOf a) 8) (valuesOf a) (every-answer isPlain (λ vs. refl) a) h;
-}
+event-answer a h = rw (none-of (valuesOf a) (no-values (isGiving (classOf a)) (isNone (valuesOf a)) (every-answer isPlain (λ vs. refl) a) h))
 
 event-gives : (g : Gateway) (e : Event) (m : Memory) → isGiving (classOf (eventOf todaysShares g e m .handled .answer)) ≡ false
 unfolding eventOf stepOf
@@ -84,38 +81,37 @@ event-gives g e m = by-line (ltb (e .line) lines)
         ap isGiving (verdict-proper todaysShares (lineAt g (e .line)) (g .ledger) e (m .journal) (m .unfinished) (m .frames)) ∙ never-gives (verdictClass v) v (of-class v)
     by-line false = refl
 
--- one call
+-- one call: what the host sees is the gateway's response, and its numbers stand for the gateway's state then
 pub record OneCall (s : HostState) (e : GatewayItem) : Type 0 where
   pub state : gatewayState ((hostStep s e) .1) ≡ (step (gatewayState s) e) .1
-  pub means : Means ((hostStep s e) .0 .answered) ((step (gatewayState s) e) .0 .answer)
-  pub buffer : (hostStep s e) .0 .buffer ≡ (step (gatewayState s) e) .0 .buffer
+  pub response : (hostStep s e) .0 ≡ inNumbersOf ((step (gatewayState s) e) .0)
   pub in-order : InOrder ((hostStep s e) .1)
 
 pub one-call : (s : HostState) → InOrder s → (e : GatewayItem) → OneCall s e
 one-call s o (event i k) =
     let g = gatewayState s .gateway in
     let h = hosts-the-gateway (s .numbers) (s .counts) o (onLine i k) (s .memory) in
+    let a = h .answer ∙ event-answer (eventOf todaysShares g (onLine i k) (s .memory) .handled .answer) (event-gives g (onLine i k) (s .memory)) in
     record {
       state = λ z. record { gateway = h .gateway z; memory = h .memory z };
-      means = subst (λ (x : Answered). Means x (eventOf todaysShares g (onLine i k) (s .memory) .handled .answer)) (sym (h .answer)) (means-event _ (event-gives g (onLine i k) (s .memory)));
-      buffer = refl;
+      response = λ z. record { answered = a z; buffer = [] };
       in-order = h .ordered;
     }
 one-call s o (taking i b) =
     let h = taking-hosts (s .numbers) (s .counts) o i (s .memory .journal) b (record { result = refl; counts = refl; journal = refl; buffer = refl }) in
     record {
       state = λ z. record { gateway = h .gateway z; memory = record { journal = h .journal z; unfinished = s .memory .unfinished; frames = s .memory .frames } };
-      means = h .answer;
-      buffer = h .buffer;
+      response = λ z. record { answered = h .answer z; buffer = h .buffer z };
       in-order = h .ordered;
     }
 
--- a run of calls
-pub runs-alike : (s : HostState) → InOrder s → (es : List GatewayItem) → Alike (annotate hostStep s es) (annotate step (gatewayState s) es)
-runs-alike s o [] = tt
+-- a run of calls: the same items, and each response as the host sees it
+pub runs-alike : (s : HostState) → InOrder s → (es : List GatewayItem) → annotate hostStep s es ≡ map seenOf (annotate step (gatewayState s) es)
+runs-alike s o [] = refl
 runs-alike s o (e ∷ es) =
     let c = one-call s o e in
-    (refl, c .means, c .buffer, subst (λ (x : State). Alike (annotate hostStep ((hostStep s e) .1) es) (annotate step x es)) (c .state) (runs-alike ((hostStep s e) .1) (c .in-order) es))
+    let rest = runs-alike ((hostStep s e) .1) (c .in-order) es ∙ ap (λ (x : State). map seenOf (annotate step x es)) (c .state) in
+    λ z. (e, c .response z) ∷ rest z
 
 pub ends-alike : (s : HostState) → InOrder s → (es : List GatewayItem) → gatewayState (final hostStep s es) ≡ final step (gatewayState s) es
 ends-alike s o [] = refl
@@ -127,28 +123,41 @@ pub stays-in-order : (s : HostState) → InOrder s → (es : List GatewayItem) �
 stays-in-order s o [] = o
 stays-in-order s o (e ∷ es) = stays-in-order ((hostStep s e) .1) (one-call s o e .in-order) es
 
--- so the promises of runs from fresh hold for hosts; two of them, of the host's own numbers
-alike-faultless : (xs : List (GatewayItem × HostResponse)) (ys : List (GatewayItem × Response)) → Alike xs ys → Every (λ y. isFault (answered (y .1)) ≡ false) ys → Every (λ x. isFault (x .1 .answered .number) ≡ false) xs
-alike-faultless [] [] a f = tt
-alike-faultless [] (y ∷ ys) a f = absurd a
-alike-faultless (x ∷ xs) [] a f = absurd a
-alike-faultless (x ∷ xs) (y ∷ ys) a f = (ap isFault (a .1 .number) ∙ f .0, alike-faultless xs ys (a .3) (f .1))
+seen-faultless : (ys : List (GatewayItem × Response)) → Every (λ y. isFault (answered (y .1)) ≡ false) ys → Every (λ x. isFault (x .1 .answered .number) ≡ false) (map seenOf ys)
+seen-faultless [] f = tt
+seen-faultless (y ∷ ys) f = (f .0, seen-faultless ys (f .1))
 
-module _ (m : Memory) (sizes : RightSizes m) (es : List GatewayItem) (may : Every May es) where
-  fresh-in-order : (gatewayState (freshHost m) .gateway ≡ freshGateway) × InOrder (freshHost m)
-  fresh-in-order = fresh-hosts (record { numbers = refl; counts = refl })
+-- from a fresh start: a host's run is the gateway's run from fresh
+module _ (r : Run) where
+  abbrev from : HostState
+  from = freshHost (r .memory)
 
-  fresh-is : gatewayState (freshHost m) ≡ fresh m
-  fresh-is = λ z. record { gateway = (fresh-in-order .0) z; memory = m }
+  pub fresh-in-order : InOrder from
+  fresh-in-order = fresh-hosts {ns = from .numbers} {us = from .counts} (record { numbers = refl; counts = refl }) .1
+
+  pub fresh-is : gatewayState from ≡ fresh (r .memory)
+  fresh-is =
+      let g = fresh-hosts {ns = from .numbers} {us = from .counts} (record { numbers = refl; counts = refl }) .0 in
+      λ z. record { gateway = g z; memory = r .memory }
+
+  pub end-in-order : InOrder (endOf r)
+  end-in-order = stays-in-order from fresh-in-order (r .calls)
+
+  pub end-is : gatewayState (endOf r) ≡ final step (fresh (r .memory)) (r .calls)
+  end-is = ends-alike from fresh-in-order (r .calls) ∙ ap (λ (x : State). final step x (r .calls)) fresh-is
+
+  pub history-is : historyOf r ≡ map seenOf (annotate step (fresh (r .memory)) (r .calls))
+  history-is = runs-alike from fresh-in-order (r .calls) ∙ ap (λ (x : State). map seenOf (annotate step x (r .calls))) fresh-is
+
+  -- what holds of the gateway's state at the end holds of what the host's numbers then stand for
+  pub at-end : (P : State → Type 0) → P (final step (fresh (r .memory)) (r .calls)) → P (gatewayState (endOf r))
+  at-end P p = subst P (sym end-is) p
 
   -- no call of a host is answered 41, 42 or 43
-  pub host-never-faulty : Every (λ x. isFault (x .1 .answered .number) ≡ false) (annotate hostStep (freshHost m) es)
-  host-never-faulty =
-      alike-faultless (annotate hostStep (freshHost m) es) (annotate step (fresh m) es)
-      (subst (λ (x : State). Alike (annotate hostStep (freshHost m) es) (annotate step x es)) fresh-is (runs-alike (freshHost m) (fresh-in-order .1) es)) (never-faulty m sizes es may)
+  pub host-never-faulty : Every (λ x. isFault (x .1 .answered .number) ≡ false) (historyOf r)
+  host-never-faulty = subst (Every (λ (x : GatewayItem × HostResponse). isFault (x .1 .answered .number) ≡ false)) (sym history-is)
+      (seen-faultless (annotate step (fresh (r .memory)) (r .calls)) (never-faulty (r .memory) (r .sizes) (r .calls) (r .may)))
 
   -- and what it keeps is sound: eight records within their limits, right sizes, a whole journal that keeps every share
-  pub host-always-sound : Sound (gatewayState (final hostStep (freshHost m) es))
-  host-always-sound =
-      let end : gatewayState (final hostStep (freshHost m) es) ≡ final step (fresh m) es = ends-alike (freshHost m) (fresh-in-order .1) es ∙ ap (λ (x : State). final step x es) fresh-is in
-      subst Sound (sym end) (always-sound m sizes es may)
+  pub host-always-sound : Sound (gatewayState (endOf r))
+  host-always-sound = at-end Sound (always-sound (r .memory) (r .sizes) (r .calls) (r .may))

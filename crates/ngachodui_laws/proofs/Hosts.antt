@@ -28,7 +28,8 @@ use Rattle.gateway_laws.proofs.Laws.{unchanged, left-unchanged, limits-kept}
 use Rattle.layout.specs.Layout.{freshNumbers, Fresh}
 use Rattle.numbers.specs.Plain.{lineOf, ledgerOf, withinNumbers, withUsed, inNumbers}
 use Rattle.calls.specs.Calls.{AfterCall, refused, putBack, callOf, Calling, Taken, takingInNumbers}
-use Rattle.ngachodui_laws.specs.Hosting.{linesOf, gatewayOf, Ordered, Hosts, Means, HostsTaking}
+use Rattle.ngachodui_laws.specs.Hosting.{linesOf, gatewayOf, Ordered}
+use Rattle.ngachodui_laws.specs.Inner.Hosting.{Hosts, answerInNumbers, HostsTaking}
 use Rattle.numbers.specs.declared.Answered.{Answered}
 use Rattle.numbers.proofs.Numbers.{line-within, numbers-back, used-back}
 use Rattle.ngachodui_laws.proofs.Stores.{stored, stored-length, within-other, within-own}
@@ -119,15 +120,15 @@ call-hosts ns us o e j u f {r} {ns′} {us′} {j′} {u′} {f′} c =
     } in
     subst (λ (x : AfterCall). Hosts x (eventOf todaysShares (gatewayOf ns us) e (memoryOf j u f))) (sym same) (hosts-the-gateway ns us o e (memoryOf j u f))
 
--- an answer to a taking means what the gateway's means
-pub means : (t : Took) → Means (takingInNumbers t) (tookAnswer t)
+-- an answer to a taking is the gateway's in plain numbers
+pub taking-answer : (t : Took) → takingInNumbers t ≡ answerInNumbers (tookAnswer t)
 unfolding inNumbers takingInNumbers replyOf
-means (Took.Taken n serial) = record { number = refl; reply = refl; values = refl }
-means Took.NothingWaiting = record { number = refl; reply = refl; values = refl }
-means Took.BufferShort = record { number = refl; reply = refl; values = refl }
-means Took.Broken = record { number = refl; reply = refl; values = refl }
-means Took.NoLine = record { number = refl; reply = refl; values = refl }
-means Took.WrongSize = record { number = refl; reply = refl; values = refl }
+taking-answer (Took.Taken n serial) = refl
+taking-answer Took.NothingWaiting = refl
+taking-answer Took.BufferShort = refl
+taking-answer Took.Broken = refl
+taking-answer Took.NoLine = refl
+taking-answer Took.WrongSize = refl
 
 module _ (ns us : List ℕ) (o : Ordered ns us) (i : ℕ) (j b : List ℕ) where
   abbrev taken : AfterTaking
@@ -149,7 +150,7 @@ module _ (ns us : List ℕ) (o : Ordered ns us) (i : ℕ) (j b : List ℕ) where
       let ledger : ledgerOf ns us′ ≡ taken .taking .ledger = ap (ledgerOf ns) (t .counts) ∙ used-after (ltb i lines) refl in
       record {
         gateway = λ z. record { lines = linesOf ns 0 lines; ledger = ledger z };
-        answer = subst (λ (x : Answered). Means x (tookAnswer (taken .taking .answer))) (sym (t .result)) (means (taken .taking .answer));
+        answer = t .result ∙ taking-answer (taken .taking .answer);
         journal = t .journal;
         buffer = t .buffer;
         ordered = record { numbers = o .numbers; counts = ap length (t .counts) ∙ long-after (ltb i lines); within = o .within };

@@ -62,7 +62,7 @@ serials-alike : (ns us us′ : List ℕ) → ledgerOf ns us .serials ≡ ledgerO
 unfolding ledgerOf
 serials-alike ns us us′ = refl
 
-in-use-back : (ns us : List ℕ) → ledgerOf ns us .in_use ≡ getD us lines 0
+pub in-use-back : (ns us : List ℕ) → ledgerOf ns us .in_use ≡ getD us lines 0
 unfolding ledgerOf
 in-use-back ns us = refl
 

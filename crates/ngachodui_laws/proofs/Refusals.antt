@@ -30,7 +30,7 @@ use Rattle.calls.specs.Calls.{AfterCall, refused, putBack, callOf, Taken as Tak
 use Rattle.ngachodui_laws.specs.Hosting.{gatewayOf, isRefusal}
 use Rattle.numbers.specs.declared.Answered.{Answered}
 use Rattle.numbers.proofs.Numbers.{numbers-back, used-back}
-use Rattle.ngachodui_laws.proofs.Hosts.{put-unchanged, means}
+use Rattle.ngachodui_laws.proofs.Hosts.{put-unchanged, taking-answer}
 
 -- 20 and 40 to 47 are the answers that leave everything, but for an event that is ignored or only collected
 abbrev isQuiet : Class → Bool
@@ -69,7 +69,7 @@ module _ (ns us : List ℕ) (e : Event) (m : Memory) where
   step = stepOf todaysShares (lineOf ns (e .line)) (ledgerOf ns us) e m
 
   -- each test of an event, and the step behind them
-  by-tests : (P : AfterCall → Type 0) → P (refused NoLine ns us m) → P (refused WrongSize ns us m) → P (refused BeyondLimits ns us m)
+  pub by-tests : (P : AfterCall → Type 0) → P (refused NoLine ns us m) → P (refused WrongSize ns us m) → P (refused BeyondLimits ns us m)
       → (e .line < lines → withinNumbers ns (e .line) ≡ true → P (putBack ns us (e .line) step)) → P (callOf ns us e m)
   unfolding callOf
   by-tests P p q r s = by-line (ltb (e .line) lines) refl
@@ -114,7 +114,7 @@ pub taking-leaves : (ns us : List ℕ) (i : ℕ) (j b : List ℕ) {r : Answered}
 unfolding takeOf
 taking-leaves ns us i j b {r} {us′} t h =
     let a = takeOf (gatewayOf ns us) i j b .handled .answer in
-    let n : isRefusal (numberOf a) ≡ true = sym (ap isRefusal (ap (λ (x : Answered). x .number) (t .result) ∙ means (takeEntry (ledgerOf ns us) i j b .taking .answer) .number)) ∙ h in
+    let n : isRefusal (numberOf a) ≡ true = sym (ap (λ (x : Answered). isRefusal (x .number)) (t .result ∙ taking-answer (takeEntry (ledgerOf ns us) i j b .taking .answer))) ∙ h in
     let s = taking-refused (gatewayOf ns us) i j b (refusal-class a n) in
     let d : takeEntry (ledgerOf ns us) i j b .taking .ledger ≡ ledgerOf ns us = ap (λ (x : AfterTake). x .handled .gateway .ledger) s in
     (t .counts ∙ by-line d (ltb i lines) refl, t .journal ∙ ap (λ (x : AfterTake). x .journal) s, t .buffer ∙ ap (λ (x : AfterTake). x .buffer) s)

@@ -1,18 +1,20 @@
--- Runs of a host's calls, beside the gateway's runs.
+-- What a host keeps, what a call does to it, and runs of calls from a fresh start.
 -- Assumes nothing.
 use Prim.Native.Nat.{ℕ, _+_}
-use mathlib.Core.Path.{_≡_}
-use mathlib.Core.List.{List, [], _∷_}
+use mathlib.Core.Bool.{Bool, _||_}
+use mathlib.Core.List.{List, []}
+use lib.Dec.{eqb}
 use lib.ListN.{replicate}
 use Rattle.memory.specs.Sizes.{lines}
 use Rattle.journal.specs.Removal.{takeOf as takeEntry}
 use Rattle.receiving.specs.Steps.{Memory, memoryOf}
-use Rattle.serial.specs.Serial.{event, taking}
-use Rattle.promises.specs.Machine.{State, Response, GatewayItem, onLine}
+use Rattle.serial.specs.Serial.{event, taking, annotate, final, Every}
+use Rattle.promises.specs.Machine.{State, GatewayItem, onLine, May}
+use Rattle.promises.specs.Runs.{RightSizes}
 use Rattle.layout.specs.Layout.{freshNumbers}
 use Rattle.numbers.specs.Plain.{ledgerOf}
 use Rattle.calls.specs.Calls.{AfterCall, callOf, usedAfter, takingInNumbers}
-use Rattle.ngachodui_laws.specs.Hosting.{gatewayOf, Ordered, Means}
+use Rattle.ngachodui_laws.specs.Hosting.{gatewayOf, Ordered}
 use Rattle.numbers.specs.declared.Answered.{Answered}
 
 -- all that a host keeps, and the state of the gateway that it stands for
@@ -51,9 +53,30 @@ hostStep s (taking i b) =
       },
     )
 
--- two histories of a run: the same items, and answers that mean the same
-abbrev pub Alike : List (GatewayItem × HostResponse) → List (GatewayItem × Response) → Type 0
-Alike [] [] = Unit {0}
-Alike [] (y ∷ ys) = ⊥
-Alike (x ∷ xs) [] = ⊥
-Alike (x ∷ xs) (y ∷ ys) = (x .0 ≡ y .0) × Means (x .1 .answered) (y .1 .answer) × (x .1 .buffer ≡ y .1 .buffer) × Alike xs ys
+-- the number that a call is answered with, the byte that goes back to the analyzer (0 for none), and what the host keeps after the call
+abbrev pub numberTo : HostState → GatewayItem → ℕ
+numberTo s e = (hostStep s e) .0 .answered .number
+
+abbrev pub replyTo : HostState → GatewayItem → ℕ
+replyTo s e = (hostStep s e) .0 .answered .reply
+
+abbrev pub after : HostState → GatewayItem → HostState
+after s e = (hostStep s e) .1
+
+-- a message is stored (4) or finally refused (30, 31)
+abbrev pub decides : HostResponse → Bool
+decides r = eqb (r .answered .number) 4 || (eqb (r .answered .number) 30 || eqb (r .answered .number) 31)
+
+-- a run of calls: a fresh start with memory of the right sizes, whatever it holds, and any calls, events on lines 0 to 7 and takings from any line
+pub record Run : Type 0 where
+  pub memory : Memory
+  pub sizes : RightSizes memory
+  pub calls : List GatewayItem
+  pub may : Every May calls
+
+-- each call of it with its response, and what the host keeps at its end
+abbrev pub historyOf : Run → List (GatewayItem × HostResponse)
+historyOf r = annotate hostStep (freshHost (r .memory)) (r .calls)
+
+abbrev pub endOf : Run → HostState
+endOf r = final hostStep (freshHost (r .memory)) (r .calls)

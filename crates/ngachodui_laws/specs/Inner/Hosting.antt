@@ -1,0 +1,48 @@
+-- A host's call beside the gateway's event or taking: what the proofs of the demands go by, and no demand names.
+-- Assumes nothing.
+use Prim.Native.Nat.{ℕ}
+use mathlib.Core.Path.{_≡_}
+use mathlib.Core.List.{List}
+use lib.ListN.{getD}
+use Rattle.answers.specs.Paper.{numberOf, valuesOf, replyOf}
+use Rattle.answers.specs.declared.Answer.{Answer}
+use Rattle.gateway.specs.Events.{AfterEvent, AfterTake}
+use Rattle.numbers.specs.Plain.{replyByte, inNumbers}
+use Rattle.numbers.specs.declared.Answered.{Answered}
+use Rattle.calls.specs.Calls.{AfterCall}
+use Rattle.promises.specs.Machine.{Response, GatewayItem}
+use Rattle.ngachodui_laws.specs.Hosting.{gatewayOf, Ordered}
+use Rattle.ngachodui_laws.specs.HostRuns.{HostResponse}
+
+-- an event on a host's numbers is the gateway's event: the numbers after it stand for the gateway after it, answer and memory are its, and the numbers are in order
+pub record Hosts (c : AfterCall) (x : AfterEvent) : Type 0 where
+  pub gateway : gatewayOf (c .numbers) (c .counts) ≡ x .handled .gateway
+  pub answer : c .answered ≡ inNumbers (x .handled .answer)
+  pub memory : c .memory ≡ x .memory
+  pub ordered : Ordered (c .numbers) (c .counts)
+
+-- any answer of the gateway in plain numbers: of its values, which only 8 has, the first is the text's length and the second its serial
+abbrev pub answerInNumbers : Answer → Answered
+answerInNumbers a = record {
+  number = numberOf a;
+  reply = replyByte (replyOf (numberOf a));
+  serial = getD (valuesOf a) 1 0;
+  place = 0;
+  digits = 0;
+  length = getD (valuesOf a) 0 0;
+}
+
+-- a taking on a host's numbers is the gateway's taking
+pub record HostsTaking (ns us′ j′ b′ : List ℕ) (r : Answered) (x : AfterTake) : Type 0 where
+  pub gateway : gatewayOf ns us′ ≡ x .handled .gateway
+  pub answer : r ≡ answerInNumbers (x .handled .answer)
+  pub journal : j′ ≡ x .journal
+  pub buffer : b′ ≡ x .buffer
+  pub ordered : Ordered ns us′
+
+-- what a host sees of the gateway's response, and of an item with its response
+abbrev pub inNumbersOf : Response → HostResponse
+inNumbersOf r = record { answered = answerInNumbers (r .answer); buffer = r .buffer }
+
+abbrev pub seenOf : GatewayItem × Response → GatewayItem × HostResponse
+seenOf x = (x .0, inNumbersOf (x .1))
