@@ -4,3 +4,4 @@ pub mod PutBack
 pub mod Hosts
 pub mod Refusals
 pub mod HostRuns
+pub mod Determined
