@@ -5,3 +5,4 @@ pub mod Hosts
 pub mod Refusals
 pub mod HostRuns
 pub mod Determined
+pub mod Outcomes

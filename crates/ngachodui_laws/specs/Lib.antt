@@ -1,3 +1,4 @@
 pub mod Hosting
 pub mod HostRuns
+pub mod Outcomes
 pub mod Inner

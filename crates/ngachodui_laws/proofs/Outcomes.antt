@@ -1,0 +1,177 @@
+-- The outcome of one call: it is the one that the contracts allow; a refusal and an ignored event leave everything, and no call touches another line.
+-- Assumes nothing.
+use mathlib.Core.Path.{_≡_, refl, sym, ap, _∙_}
+use mathlib.Core.Logic.{_≢_}
+use mathlib.Core.Bool.{Bool, true, false, cond, not, _||_}
+use mathlib.Core.List.{List}
+use Prim.Native.Nat.{ℕ, _<_}
+use native.Mathlib.Omega.{arith}
+use lib.Dec.{ltb}
+use lib.ListN.{getD, set}
+use lib.Seq.{getD-set-other}
+use Rattle.memory.specs.Sizes.{lines}
+use Rattle.memory.specs.Tests.{unless, is}
+use Rattle.memory.proofs.Tests.{clash}
+use Rattle.characters.specs.Control.{stx, enq, eot}
+use Rattle.room.specs.Room.{todaysShares}
+use Rattle.journal.specs.Removal.{takeOf as takeEntry}
+use Rattle.journal.specs.declared.Ledger.{Ledger}
+use Rattle.line.specs.Line.{withinLimits}
+use Rattle.line.specs.declared.Line.{Line}
+use Rattle.line.specs.declared.State.{State as LineState}
+use Rattle.line.specs.declared.State.the-variants.{Neutral, Waiting, Inside}
+use Rattle.answers.specs.declared.Answer.{Answer}
+use Rattle.answers.specs.declared.Answer.the-variants.{Nothing, NoLine, WrongSize, BeyondLimits}
+use Rattle.looking.specs.Lent.{rightSizes}
+use Rattle.looking.specs.Looks.{neutralLook, waitingLook, byState, byteLook, secondsLook, lookOf}
+use Rattle.looking.specs.Views.{framesOf, textsOf}
+use Rattle.looking.specs.declared.Event.{Event}
+use Rattle.looking.specs.declared.Kind.{Kind}
+use Rattle.looking.specs.declared.Kind.the-variants.{Byte, Seconds}
+use Rattle.looking.specs.declared.Look.{Look}
+use Rattle.looking.specs.declared.Look.the-variants.{Done}
+use Rattle.looking.specs.declared.Verdict.{Verdict}
+use Rattle.looking.specs.declared.Verdict.the-variants.{Left}
+use Rattle.receiving.specs.Verdicts.{decided, ownWork, workOf, verdictOf}
+use Rattle.receiving.specs.Steps.{Memory, AfterStep, stepOf}
+use Rattle.gateway_laws.proofs.Laws.{parts-of-others}
+use Rattle.serial.specs.Serial.{event, taking}
+use Rattle.promises.specs.Machine.{GatewayItem, came, onLine}
+use Rattle.layout.specs.Layout.{Fresh}
+use Rattle.numbers.specs.Plain.{lineOf, ledgerOf, withinNumbers, withUsed}
+use Rattle.calls.specs.Calls.{AfterCall, putBack}
+use Rattle.calls.proofs.OneOutcome.{call-once, take-once}
+use Rattle.ngachodui_laws.specs.Hosting.{isRefusal}
+use Rattle.ngachodui_laws.specs.HostRuns.{HostState, freshHost, HostResponse, afterCall, hostStep, numberTo, after}
+use Rattle.ngachodui_laws.specs.Outcomes.{Allows, ignores, lineIn, LineKept}
+use Rattle.ngachodui_laws.proofs.Stores.{number-other}
+use Rattle.ngachodui_laws.proofs.Refusals.{by-tests, refusal-leaves, ignored-leaves, taking-leaves}
+
+-- ---- what the contracts allow
+
+pub one-outcome : (s : HostState) (e : GatewayItem) (r q : HostResponse) (t u : HostState) → Allows s e r t → Allows s e q u → (r ≡ q) × (t ≡ u)
+one-outcome s (event i k) r q t u a b =
+    let c = call-once (s .numbers) (s .counts) (onLine i k) (s .memory .journal) (s .memory .unfinished) (s .memory .frames) (a .0) (b .0) in
+    let none = a .1 ∙ sym (b .1) in (
+      λ z. record { answered = (c .0) z; buffer = none z },
+      λ z. record { numbers = (c .1) z; counts = (c .2) z; memory = record { journal = (c .3) z; unfinished = (c .4) z; frames = (c .5) z } },
+    )
+one-outcome s (taking i n) r q t u a b =
+    let c = take-once (s .numbers) (s .counts) i (s .memory .journal) n (a .taken) (b .taken) in
+    let numbers = a .numbers ∙ sym (b .numbers) in
+    let unfinished = a .unfinished ∙ sym (b .unfinished) in
+    let frames = a .frames ∙ sym (b .frames) in (
+      λ z. record { answered = (c .0) z; buffer = (c .3) z },
+      λ z. record { numbers = numbers z; counts = (c .1) z; memory = record { journal = (c .2) z; unfinished = unfinished z; frames = frames z } },
+    )
+
+pub the-outcome : (s : HostState) (e : GatewayItem) → Allows s e ((hostStep s e) .0) ((hostStep s e) .1)
+the-outcome s (event i k) = (record { result = refl; numbers = refl; counts = refl; journal = refl; unfinished = refl; frames = refl }, refl)
+the-outcome s (taking i b) = record {
+  taken = record { result = refl; counts = refl; journal = refl; buffer = refl };
+  numbers = refl;
+  unfinished = refl;
+  frames = refl;
+}
+
+pub fresh-outcome : (m : Memory) (ns us : List ℕ) → Fresh ns us → _≡_ {A = HostState} (record { numbers = ns; counts = us; memory = m }) (freshHost m)
+fresh-outcome m ns us f = λ z. record { numbers = f .numbers z; counts = f .counts z; memory = m }
+
+-- ---- refusals and ignored events
+
+-- a taking by its contract
+taken-leaves : (s : HostState) (i : ℕ) (b : List ℕ) → isRefusal (numberTo s (taking i b)) ≡ true
+    → (after s (taking i b) .counts ≡ s .counts) × (after s (taking i b) .memory .journal ≡ s .memory .journal) × ((hostStep s (taking i b)) .0 .buffer ≡ b)
+taken-leaves s i b h = taking-leaves (s .numbers) (s .counts) i (s .memory .journal) b (record { result = refl; counts = refl; journal = refl; buffer = refl }) h
+
+pub refused-leaves : (s : HostState) (e : GatewayItem) → isRefusal (numberTo s e) ≡ true → after s e ≡ s
+refused-leaves s (event i k) h = ap (λ (c : AfterCall). (afterCall c) .1) (refusal-leaves (s .numbers) (s .counts) (onLine i k) (s .memory) h)
+refused-leaves s (taking i b) h =
+    let x = taken-leaves s i b h in
+    λ z. record { numbers = s .numbers; counts = (x .0) z; memory = record { journal = (x .1) z; unfinished = s .memory .unfinished; frames = s .memory .frames } }
+
+pub buffer-left : (s : HostState) (i : ℕ) (b : List ℕ) → isRefusal (numberTo s (taking i b)) ≡ true → (hostStep s (taking i b)) .0 .buffer ≡ b
+buffer-left s i b h = taken-leaves s i b h .2
+
+-- an ignored event comes to nothing, whatever lies in its line's memory
+not-taken : (t : Bool) (x y : Look) → not t ≡ true → cond t x y ≡ y
+not-taken true x y h = clash cc
+not-taken false x y h = refl
+
+none-taken : (a b c : Bool) (x y z w : Look) → not (a || (b || c)) ≡ true → cond a x (cond b y (cond c z w)) ≡ w
+none-taken true b c x y z w h = clash cc
+none-taken false true c x y z w h = clash cc
+none-taken false false true x y z w h = clash cc
+none-taken false false false x y z w h = refl
+
+byte-ignored : (state : LineState) (l : Line) (b : ℕ) (inside : Look) → ignores state (Byte b) ≡ true → byState state (neutralLook b) (waitingLook l b) inside ≡ Done (Left Nothing)
+unfolding neutralLook waitingLook
+byte-ignored Neutral l b inside h = not-taken (is enq b) _ _ h
+byte-ignored Waiting l b inside h = none-taken (is stx b) (is eot b) (is enq b) _ _ _ _ h
+byte-ignored Inside l b inside h = clash cc
+
+seconds-ignored : (state : LineState) (n : ℕ) (x y : Look) → ignores state (Seconds n) ≡ true → byState state (Done (Left Nothing)) x y ≡ Done (Left Nothing)
+seconds-ignored Neutral n x y h = refl
+seconds-ignored Waiting n x y h = clash cc
+seconds-ignored Inside n x y h = clash cc
+
+look-ignored : (l : Line) (k : Kind) (texts frames : List ℕ) → ignores (l .state) k ≡ true → lookOf l k texts frames ≡ Done (Left Nothing)
+unfolding byteLook secondsLook
+look-ignored l (Byte b) texts frames h = byte-ignored (l .state) l b _ h
+look-ignored l (Seconds n) texts frames h = seconds-ignored (l .state) n _ _ h
+
+verdict-ignored : (l : Line) (d : Ledger) (e : Event) (m : Memory) → ignores (l .state) (e .kind) ≡ true
+    → (a : Answer) × (verdictOf todaysShares l d e (m .journal) (m .unfinished) (m .frames) ≡ Left a)
+unfolding verdictOf ownWork
+verdict-ignored l d e m h =
+    by (ltb (e .line) lines) (rightSizes (m .journal) (m .unfinished) (m .frames)) (withinLimits l)
+  where
+    work : Verdict
+    work = workOf todaysShares l d e (m .journal) (m .unfinished) (m .frames)
+
+    by : (x y z : Bool) → (a : Answer) × (unless x (Left NoLine) (unless y (Left WrongSize) (unless z (Left BeyondLimits) work)) ≡ Left a)
+    by false y z = (NoLine, refl)
+    by true false z = (WrongSize, refl)
+    by true true false = (BeyondLimits, refl)
+    by true true true =
+        let texts = textsOf (e .line) (m .unfinished) in
+        let frames = framesOf (e .line) (m .frames) in
+        (Nothing, ap (λ (x : Look). decided x todaysShares l d (e .line) (m .journal) texts frames) (look-ignored l (e .kind) texts frames h))
+
+pub ignored-is-left : (s : HostState) (i : ℕ) (k : Kind) → ignores (lineOf (s .numbers) i .state) k ≡ true → after s (came i k) ≡ s
+ignored-is-left s i k h =
+    let v = verdict-ignored (lineOf (s .numbers) i) (ledgerOf (s .numbers) (s .counts)) (onLine i k) (s .memory) h in
+    ap (λ (c : AfterCall). (afterCall c) .1) (ignored-leaves (s .numbers) (s .counts) (onLine i k) (s .memory) (v .0) (v .1))
+
+-- ---- the other lines
+
+used-other : (us : List ℕ) (i l : ℕ) (d : Ledger) → l < lines → l ≢ i → getD (withUsed us i d) l 0 ≡ getD us l 0
+used-other us i l d h n = getD-set-other (set us i (getD (d .used) i 0)) lines l (d .in_use) 0 (λ q. absurd (omega arith)) ∙ getD-set-other us i l (getD (d .used) i 0) 0 n
+
+pub others-kept : (s : HostState) (e : GatewayItem) (l : ℕ) → l < lines → l ≢ lineIn e → LineKept l s (after s e)
+others-kept s (event i k) l h n =
+    by-tests (s .numbers) (s .counts) (onLine i k) (s .memory) (λ c. LineKept l s ((afterCall c) .1)) all all all stepped
+  where
+    all : LineKept l s s
+    all = record { numbers = λ m q. refl; used = refl; text = refl; frame = refl }
+
+    step : AfterStep
+    step = stepOf todaysShares (lineOf (s .numbers) i) (ledgerOf (s .numbers) (s .counts)) (onLine i k) (s .memory)
+
+    stepped : i < lines → withinNumbers (s .numbers) i ≡ true → LineKept l s ((afterCall (putBack (s .numbers) (s .counts) i step)) .1)
+    stepped p w =
+        let parts = parts-of-others todaysShares (lineOf (s .numbers) i) (ledgerOf (s .numbers) (s .counts)) (onLine i k) (s .memory) l (λ q. n (sym q)) in
+        record {
+          numbers = λ m q. number-other (s .numbers) i (step .stepped .line) (step .stepped .ledger) l m n q;
+          used = used-other (s .counts) i l (step .stepped .ledger) h n;
+          text = parts .0;
+          frame = parts .1;
+        }
+others-kept s (taking i b) l h n = record { numbers = λ m q. refl; used = by-line (ltb i lines); text = refl; frame = refl }
+  where
+    ledger : Ledger
+    ledger = takeEntry (ledgerOf (s .numbers) (s .counts)) i (s .memory .journal) b .taking .ledger
+
+    by-line : (t : Bool) → getD (unless t (s .counts) (withUsed (s .counts) i ledger)) l 0 ≡ getD (s .counts) l 0
+    by-line true = used-other (s .counts) i l ledger h n
+    by-line false = refl

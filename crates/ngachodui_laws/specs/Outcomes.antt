@@ -1,0 +1,62 @@
+-- The outcome of one call: what the library's contracts allow, what an ignored event is, and what a call leaves of the other lines.
+-- Assumes nothing.
+use Prim.Native.Nat.{ℕ, _<_}
+use mathlib.Core.Path.{_≡_}
+use mathlib.Core.Bool.{Bool, true, false, not, _||_}
+use mathlib.Core.List.{List, []}
+use lib.ListN.{getD}
+use Rattle.memory.specs.Sizes.{lines}
+use Rattle.memory.specs.Tests.{is}
+use Rattle.characters.specs.Control.{stx, enq, eot}
+use Rattle.line.specs.declared.State.{State as LineState}
+use Rattle.line.specs.declared.State.the-variants.{Neutral, Waiting, Inside}
+use Rattle.looking.specs.Views.{framesOf, textsOf}
+use Rattle.looking.specs.declared.Kind.{Kind}
+use Rattle.looking.specs.declared.Kind.the-variants.{Byte, Seconds}
+use Rattle.serial.specs.Serial.{event, taking}
+use Rattle.promises.specs.Machine.{GatewayItem, onLine}
+use Rattle.layout.specs.Layout.{fields, serialAt}
+use Rattle.numbers.specs.Plain.{numberAt}
+use Rattle.calls.specs.Calls.{Calling, Taken}
+use Rattle.ngachodui_laws.specs.HostRuns.{HostState, HostResponse}
+
+-- what the contract of `ngachodui_take` allows: the lines' numbers are lent to it to read, and neither the unfinished texts nor the frames are lent at all
+pub record AllowsTaking (s : HostState) (i : ℕ) (b : List ℕ) (r : HostResponse) (t : HostState) : Type 0 where
+  pub taken : Taken (s .numbers) (s .counts) i (s .memory .journal) b (r .answered) (t .counts) (t .memory .journal) (r .buffer)
+  pub numbers : t .numbers ≡ s .numbers
+  pub unfinished : t .memory .unfinished ≡ s .memory .unfinished
+  pub frames : t .memory .frames ≡ s .memory .frames
+
+-- from the state s, the contract of the call allows the response r and the state t; an event, `ngachodui_byte` or `ngachodui_seconds`, has no buffer
+abbrev pub Allows : HostState → GatewayItem → HostResponse → HostState → Type 0
+Allows s (event i k) r t =
+    Calling (s .numbers) (s .counts) (onLine i k) (s .memory .journal) (s .memory .unfinished) (s .memory .frames)
+    (r .answered) (t .numbers) (t .counts) (t .memory .journal) (t .memory .unfinished) (t .memory .frames) × (r .buffer ≡ [])
+Allows s (taking i b) r t = AllowsTaking s i b r t
+
+-- what a line in this state ignores: all but ENQ where no transfer is open; between frames all bytes but STX, EOT and ENQ; inside a frame nothing
+abbrev pub ignores : LineState → Kind → Bool
+ignores Neutral (Byte b) = not (is enq b)
+ignores Neutral (Seconds n) = true
+ignores Waiting (Byte b) = not (is stx b || (is eot b || is enq b))
+ignores Waiting (Seconds n) = false
+ignores Inside (Byte b) = false
+ignores Inside (Seconds n) = false
+
+-- the line that a call names
+abbrev pub lineIn : GatewayItem → ℕ
+lineIn (event i k) = i
+lineIn (taking i b) = i
+
+-- line l has what it had: its eight numbers, its used count, and its parts of the unfinished texts and of the frames
+pub record LineKept (l : ℕ) (s t : HostState) : Type 0 where
+  pub numbers : (k : ℕ) → k < fields → numberAt (t .numbers) l k ≡ numberAt (s .numbers) l k
+  pub used : getD (t .counts) l 0 ≡ getD (s .counts) l 0
+  pub text : textsOf l (t .memory .unfinished) ≡ textsOf l (s .memory .unfinished)
+  pub frame : framesOf l (t .memory .frames) ≡ framesOf l (s .memory .frames)
+
+-- nothing was stored and nothing taken: counts, serials and the journal are as they were
+pub record StoreKept (s t : HostState) : Type 0 where
+  pub counts : t .counts ≡ s .counts
+  pub serials : (l : ℕ) → l < lines → numberAt (t .numbers) l serialAt ≡ numberAt (s .numbers) l serialAt
+  pub journal : t .memory .journal ≡ s .memory .journal
