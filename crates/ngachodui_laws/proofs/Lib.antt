@@ -6,3 +6,4 @@ pub mod Refusals
 pub mod HostRuns
 pub mod Determined
 pub mod Outcomes
+pub mod Queue

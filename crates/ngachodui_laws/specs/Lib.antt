@@ -1,4 +1,5 @@
 pub mod Hosting
 pub mod HostRuns
 pub mod Outcomes
+pub mod Queue
 pub mod Inner

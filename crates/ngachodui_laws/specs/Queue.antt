@@ -1,0 +1,51 @@
+-- What goes in and comes out on one line in a run of calls, as a host sees it: nothing is lost, and nothing comes twice.
+-- Assumes nothing.
+use Prim.Native.Nat.{ℕ, _<_}
+use mathlib.Core.Path.{_≡_}
+use mathlib.Core.Bool.{cond, _&&_}
+use mathlib.Core.List.{List, [], _∷_, _++_}
+use lib.Dec.{eqb}
+use lib.ListN.{take}
+use Rattle.memory.specs.Sizes.{lines}
+use Rattle.header.specs.Entry.{Entry}
+use Rattle.room.specs.Room.{todaysShares}
+use Rattle.journal_laws.specs.Held.{Held}
+use Rattle.journal_laws.specs.Runs.{Numbered, numbered, waiting}
+use Rattle.numbers.specs.Plain.{ledgerOf}
+use Rattle.serial.specs.Serial.{event, taking}
+use Rattle.promises.specs.Machine.{GatewayItem, came}
+use Rattle.promises.specs.Queue.{completed}
+use Rattle.ngachodui_laws.specs.HostRuns.{HostState, gatewayState, freshHost, HostResponse, numberTo, after, Run, historyOf, endOf}
+
+-- the text that a taking gave: with 8, so many bytes at the buffer's start, under the serial that was answered
+abbrev pub given : HostResponse → List Numbered
+given r = cond (eqb (r .answered .number) 8) (record { serial = r .answered .serial; text = take (r .answered .length) (r .buffer) } ∷ []) []
+
+abbrev pub takenIn : ℕ → GatewayItem → HostResponse → List Numbered
+takenIn l (event i k) r = []
+takenIn l (taking i b) r = cond (eqb i l) (given r) []
+
+-- all that was taken from line l, read off a history
+abbrev pub allTaken : ℕ → List (GatewayItem × HostResponse) → List Numbered
+allTaken l [] = []
+allTaken l (x ∷ xs) = takenIn l (x .0) (x .1) ++ allTaken l xs
+
+-- the text that a call stores on line l: the one that its event completes there, with 4
+abbrev pub storedBy : ℕ → HostState → GatewayItem → List (List ℕ)
+storedBy l s (event i k) = cond (eqb i l && eqb (numberTo s (came i k)) 4) (completed (gatewayState s) i k ∷ []) []
+storedBy l s (taking i b) = []
+
+-- all that calls store on line l, from this state on
+abbrev pub allStored : ℕ → HostState → List GatewayItem → List (List ℕ)
+allStored l s [] = []
+allStored l s (e ∷ es) = storedBy l s e ++ allStored l (after s e) es
+
+-- the journal is whole, keeps every share and holds these entries
+abbrev pub Holds : HostState → List Entry → Type 0
+Holds s es = Held todaysShares (ledgerOf (s .numbers) (s .counts)) (s .memory .journal) es
+
+-- on each line, what was stored, with serials from 0, is what was taken, in order and byte for byte, and then what waits in the journal
+pub record NothingLost (r : Run) : Type 0 where
+  pub entries : List Entry
+  pub holds : Holds (endOf r) entries
+  pub queue : (l : ℕ) → l < lines → numbered 0 (allStored l (freshHost (r .memory)) (r .calls)) ≡ allTaken l (historyOf r) ++ waiting l entries
