@@ -7,3 +7,4 @@ pub mod HostRuns
 pub mod Determined
 pub mod Outcomes
 pub mod Queue
+pub mod Sending

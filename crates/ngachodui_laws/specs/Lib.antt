@@ -2,4 +2,5 @@ pub mod Hosting
 pub mod HostRuns
 pub mod Outcomes
 pub mod Queue
+pub mod Sending
 pub mod Inner
