@@ -6,5 +6,6 @@ pub mod Refusals
 pub mod HostRuns
 pub mod Determined
 pub mod Outcomes
+pub mod Stretches
 pub mod Queue
 pub mod Sending
