@@ -9,3 +9,4 @@ pub mod Outcomes
 pub mod Stretches
 pub mod Queue
 pub mod Sending
+pub mod Rooms

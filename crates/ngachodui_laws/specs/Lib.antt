@@ -3,4 +3,5 @@ pub mod HostRuns
 pub mod Outcomes
 pub mod Queue
 pub mod Sending
+pub mod Freed
 pub mod Inner
