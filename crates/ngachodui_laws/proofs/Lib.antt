@@ -10,3 +10,4 @@ pub mod Stretches
 pub mod Queue
 pub mod Sending
 pub mod Rooms
+pub mod Demands

@@ -4,4 +4,5 @@ pub mod Outcomes
 pub mod Queue
 pub mod Sending
 pub mod Freed
+pub mod Demands
 pub mod Inner

@@ -1,0 +1,37 @@
+-- All that is claimed is kept: each field by the theorem behind it.
+-- Assumes nothing.
+use Rattle.ngachodui_laws.specs.Demands.{Demands}
+use Rattle.ngachodui_laws.proofs.HostRuns.{end-in-order, host-never-faulty, host-always-sound}
+use Rattle.ngachodui_laws.proofs.Outcomes.{one-outcome, the-outcome, fresh-outcome, refused-leaves, buffer-left, ignored-is-left, others-kept}
+use Rattle.ngachodui_laws.proofs.Sending.{sent, given-back}
+use Rattle.ngachodui_laws.proofs.Stretches.{stretches, stretches-met, stretches-all}
+use Rattle.ngachodui_laws.proofs.Rooms.{share-kept, no-space, space, freed-own, freed-others, alone-refused, alone-stored, acknowledged-stored, only-4-stores}
+use Rattle.ngachodui_laws.proofs.Queue.{nothing-lost}
+
+pub kept : Demands
+kept = record {
+  one-outcome = one-outcome;
+  the-outcome = the-outcome;
+  fresh-outcome = fresh-outcome;
+  never-faulty = host-never-faulty;
+  always-sound = λ r. (end-in-order r, host-always-sound r);
+  refusal-leaves = refused-leaves;
+  buffer-left = buffer-left;
+  ignored-leaves = ignored-is-left;
+  others-kept = others-kept;
+  sent = sent;
+  given-back = given-back;
+  stretches = stretches;
+  stretches-met = stretches-met;
+  stretches-all = stretches-all;
+  share-kept = share-kept;
+  no-space = no-space;
+  space = space;
+  freed-own = freed-own;
+  freed-others = freed-others;
+  alone-refused = alone-refused;
+  alone-stored = alone-stored;
+  acknowledged-stored = acknowledged-stored;
+  only-4-stores = only-4-stores;
+  nothing-lost = nothing-lost;
+}

@@ -1,0 +1,102 @@
+-- What is claimed, in one record, of the functions that hosts call. `kept` (proofs/Demands) is a value of it: every field is proved.
+-- `hostStep s e` is a call: the answer to an event or a taking e, and every number and byte that the host keeps then, where it kept s before (specs/HostRuns).
+-- A `Run` is a fresh start, with memory of the right sizes whatever it holds, and then any calls, events on lines 0 to 7 and takings from any line.
+-- Answers are a host's own numbers. What a text needs, and whether there is room, is asked of the gateway that these numbers stand for (`gatewayState`).
+-- Assumes nothing.
+use Prim.Native.Nat.{ℕ, _+_, _≤_, _<_}
+use mathlib.Core.Path.{_≡_}
+use mathlib.Core.Logic.{_≢_}
+use mathlib.Core.Bool.{Bool, true, false}
+use mathlib.Core.List.{List}
+use lib.ListN.{length}
+use Rattle.memory.specs.Sizes.{lines}
+use Rattle.header.specs.Header.{entrySize}
+use Rattle.room.specs.Room.{share}
+use Rattle.journal_laws.specs.Runs.{waiting}
+use Rattle.answers.specs.Paper.{ack}
+use Rattle.looking.specs.declared.Kind.{Kind}
+use Rattle.receiving.specs.Steps.{Memory}
+use Rattle.serial.specs.Serial.{taking, annotate, final, serialize, count, Every, OrderOf, GoesAlike}
+use Rattle.serial.specs.Kept.{Rearranged}
+use Rattle.promises.specs.Machine.{GatewayItem, came, Sound, May}
+use Rattle.promises.specs.Runs.{isFault, Completes, Overfull, NoSpace, Space, Larger, usedBy, usedWith, mostAlone}
+use Rattle.layout.specs.Layout.{Fresh, serialAt}
+use Rattle.numbers.specs.Plain.{lineOf, numberAt}
+use Rattle.ngachodui_laws.specs.Hosting.{isRefusal}
+use Rattle.ngachodui_laws.specs.HostRuns.{HostState, gatewayState, InOrder, freshHost, HostResponse, hostStep, numberTo, replyTo, after, decides, Run, historyOf, endOf}
+use Rattle.ngachodui_laws.specs.Outcomes.{Allows, ignores, lineIn, LineKept, StoreKept}
+use Rattle.ngachodui_laws.specs.Queue.{allTaken, NothingLost}
+use Rattle.ngachodui_laws.specs.Sending.{CanSend, sentTo, Delivered, GivesBack}
+use Rattle.ngachodui_laws.specs.Freed.{takenThen, Frees, Alone}
+
+pub record Demands : Type 0 where
+  -- ---- 1. Every call has one outcome
+
+  -- Whatever numbers and memory a host hands over, the contract of a call allows one answer, and one value of every number and byte after it.
+  pub one-outcome : (s : HostState) (e : GatewayItem) (r q : HostResponse) (t u : HostState) → Allows s e r t → Allows s e q u → (r ≡ q) × (t ≡ u)
+  -- That outcome is `hostStep`, so whatever is said of `hostStep` here is said of the calls.
+  pub the-outcome : (s : HostState) (e : GatewayItem) → Allows s e ((hostStep s e) .0) ((hostStep s e) .1)
+  -- What makes a gateway fresh leaves the numbers of `freshHost`, and no others.
+  pub fresh-outcome : (m : Memory) (ns us : List ℕ) → Fresh ns us → _≡_ {A = HostState} (record { numbers = ns; counts = us; memory = m }) (freshHost m)
+  -- No call of a run finds memory of another size, a record beyond its limits or a broken journal: 41, 42 and 43 do not come.
+  pub never-faulty : (r : Run) → Every (λ x. isFault (x .1 .answered .number) ≡ false) (historyOf r)
+  -- After every run the numbers are in order, and the gateway that they stand for is sound: its journal is whole and keeps each line's share.
+  pub always-sound : (r : Run) → InOrder (endOf r) × Sound (gatewayState (endOf r))
+  -- A call that is refused (20, 40 to 47) changes no number and no byte, from any state at all; a refused taking leaves its buffer too.
+  pub refusal-leaves : (s : HostState) (e : GatewayItem) → isRefusal (numberTo s e) ≡ true → after s e ≡ s
+  pub buffer-left : (s : HostState) (i : ℕ) (b : List ℕ) → isRefusal (numberTo s (taking i b)) ≡ true → (hostStep s (taking i b)) .0 .buffer ≡ b
+  -- Nor does an event that its line ignores.
+  pub ignored-leaves : (s : HostState) (i : ℕ) (k : Kind) → ignores (lineOf (s .numbers) i .state) k ≡ true → after s (came i k) ≡ s
+  -- A call on one line leaves every other line its numbers, its used count and its parts of the memory, from any state at all.
+  pub others-kept : (s : HostState) (e : GatewayItem) (l : ℕ) → l < lines → l ≢ lineIn e → LineKept l s (after s e)
+  -- ---- 2. What we cut and send is stored, and given back
+
+  -- Send ENQ and then a message's frames, as we cut them, to a line that is fresh and has the room. The answers are 1; 0 within a frame; 2 at the end of each frame
+  -- but the last; 4 at the end of that. The journal then holds one entry more, behind the others: the message, byte for byte, under the line's next serial.
+  pub sent : (s : HostState) (i : ℕ) (m : List ℕ) (c : CanSend s i m) → Delivered s i m (c .intact .entries)
+  -- Once as many texts are taken from the line as waited there before, whatever else has come meanwhile on any line, the next taking into a buffer that is long
+  -- enough gives the message: its length and serial in the answer, its bytes at the buffer's start.
+  pub given-back : (s : HostState) (i : ℕ) (m : List ℕ) (c : CanSend s i m) (es : List GatewayItem) → Every May es
+      → length (allTaken i (annotate hostStep (sentTo s i m) es)) ≡ length (waiting i (c .intact .entries)) → (b : List ℕ) → length m ≤ length b
+      → GivesBack (final hostStep (sentTo s i m) es) i b (numberAt (s .numbers) i serialAt) m
+  -- ---- 3. How the lines' calls are mixed makes no difference
+
+  -- Tell a run again message by message: each line's events in their order and, up to each one that decides a message (4, 30, 31), in one piece; the pieces by
+  -- their last events, the takings among these where they were; what is unfinished at the end, in any order of the lines. Every call then gets the same answer, a
+  -- taking the same buffer, and the host ends with the same numbers and bytes.
+  pub stretches : (r : Run) (order : List ℕ) → OrderOf lines order → (zs : List (GatewayItem × HostResponse)) → Rearranged decides lines order (historyOf r) zs
+      → GoesAlike hostStep (freshHost (r .memory)) (r .calls) zs
+  -- There is such a telling, and `serialize` computes it.
+  pub stretches-met : (r : Run) (order : List ℕ) → OrderOf lines order → Rearranged decides lines order (historyOf r) (serialize decides order (historyOf r))
+  -- Every call with its answer stands in it as often as in the run.
+  pub stretches-all : (r : Run) (order : List ℕ) → OrderOf lines order → (zs : List (GatewayItem × HostResponse)) → Rearranged decides lines order (historyOf r) zs
+      → (p : GatewayItem × HostResponse → Bool) → count p zs ≡ count p (historyOf r)
+  -- ---- Room
+
+  -- A line's own share is its own: 31 is answered only to a message that, its header counted, exceeds what is left of its line's share.
+  pub share-kept : (r : Run) (i : ℕ) → i < lines → (k : Kind) → numberTo (endOf r) (came i k) ≡ 31 → Overfull (gatewayState (endOf r)) i k
+  -- 31 is answered only where the lines' claims, with the message, exceed the journal, and 4 only where they do not.
+  pub no-space : (r : Run) (i : ℕ) → i < lines → (k : Kind) → numberTo (endOf r) (came i k) ≡ 31 → NoSpace (gatewayState (endOf r)) i k
+  pub space : (r : Run) (i : ℕ) → i < lines → (k : Kind) → numberTo (endOf r) (came i k) ≡ 4 → Space (gatewayState (endOf r)) i k
+  -- Freed room serves again: after a taking of n bytes, and whatever calls store nothing, 31 is answered on that line only to a message that takes more room.
+  pub freed-own : (r : Run) (l : ℕ) → l < lines → (b : List ℕ) (n : ℕ) (fs : List GatewayItem) → Every May fs → Frees (endOf r) l b n fs → (k : Kind)
+      → numberTo (takenThen (endOf r) l b fs) (came l k) ≡ 31 → Larger (gatewayState (takenThen (endOf r) l b fs)) l k n
+  -- And on any other line, where what was taken lay beyond its own line's share.
+  pub freed-others : (r : Run) (l : ℕ) → l < lines → (b : List ℕ) (n : ℕ) (fs : List GatewayItem) → Every May fs → Frees (endOf r) l b n fs
+      → share + entrySize n ≤ usedBy (gatewayState (endOf r)) l → (i : ℕ) → i < lines → (k : Kind)
+      → numberTo (takenThen (endOf r) l b fs) (came i k) ≡ 31 → Larger (gatewayState (takenThen (endOf r) l b fs)) i k n
+  -- One line alone, where no other has stored: 31 only for a message with which the line would use more than 18,432 bytes, and 4 only for one with which it does not.
+  pub alone-refused : (r : Run) (i : ℕ) → i < lines → Alone r i → (k : Kind) → numberTo (endOf r) (came i k) ≡ 31
+      → Completes (gatewayState (endOf r)) i k (λ n. mostAlone < usedWith (gatewayState (endOf r)) i n)
+  pub alone-stored : (r : Run) (i : ℕ) → i < lines → Alone r i → (k : Kind) → numberTo (endOf r) (came i k) ≡ 4
+      → Completes (gatewayState (endOf r)) i k (λ n. usedWith (gatewayState (endOf r)) i n ≤ mostAlone)
+  -- ---- What is acknowledged is stored, and nothing is lost
+
+  -- An event that completes a text and gets ACK is answered 4: its text is stored.
+  pub acknowledged-stored : (r : Run) (i : ℕ) → i < lines → (k : Kind) → Completes (gatewayState (endOf r)) i k (λ n. Unit {0}) → replyTo (endOf r) (came i k) ≡ ack
+      → numberTo (endOf r) (came i k) ≡ 4
+  -- An event with any other answer, a repeat (3) too, leaves counts, serials and journal as they were.
+  pub only-4-stores : (r : Run) (i : ℕ) → i < lines → (k : Kind) → numberTo (endOf r) (came i k) ≢ 4 → StoreKept (endOf r) (after (endOf r) (came i k))
+  -- Nothing is lost and nothing comes twice: the texts answered 4 on a line, numbered from 0, are those that its takings gave, in order and byte for byte, and then
+  -- those that wait.
+  pub nothing-lost : (r : Run) → NothingLost r
