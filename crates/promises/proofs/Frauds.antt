@@ -30,8 +30,9 @@ use Rattle.promises.specs.Machine.{State, Response, response, GatewayIte
 use Rattle.promises.specs.Runs.{RightSizes, fresh, replied, isAck}
 use Rattle.promises.specs.Examples.{both, holds}
 use Rattle.promises.specs.Sending.{Runner, bytesOn, sending, sendingReplies, newEntries, HasRoom, Intact, DeliversBy, Demand2, GivesBack}
+use Rattle.promises.proofs.Sound.{sound-intact}
 use Rattle.promises.proofs.Kept.{fresh-sound}
-use Rattle.promises.proofs.Rooms.{room-held, sound-intact}
+use Rattle.promises.proofs.Rooms.{room-held}
 use Rattle.promises.proofs.Examples.{shown}
 
 -- ---- one message, sent to line 0 of a fresh gateway

@@ -2,6 +2,7 @@ pub mod Sound
 pub mod Came
 pub mod Kept
 pub mod Runs
+pub mod Exactly
 pub mod Queue
 pub mod Stretches
 pub mod Examples

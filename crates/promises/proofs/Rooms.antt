@@ -123,18 +123,3 @@ module _ (s : State) (w : Intact s) (i : ℕ) (line : i < lines) (ms : List (Lis
 
   pub room-sound : Sound s
   room-sound = record { as-many = w .as-many; within = w .within; texts = w .texts; frames = w .frames; entries = w .entries; held = room-held }
-
--- every state that a run leaves is intact
-pub sound-intact : (s : State) → Sound s → Intact s
-sound-intact s w = record {
-  as-many = w .as-many;
-  within = w .within;
-  texts = w .texts;
-  frames = w .frames;
-  journal = w .held .long;
-  lines-used = w .held .lines-used;
-  lines-serials = w .held .lines-serials;
-  serials = w .held .serials;
-  entries = w .entries;
-  whole = w .held .whole;
-}

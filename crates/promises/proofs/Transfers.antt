@@ -36,7 +36,7 @@ use Rattle.looking.proofs.Views.{own-parts}
 use Rattle.serial.specs.Serial.{final, Every}
 use Rattle.promises.specs.Machine.{State, Response, response, step, Parts, partsOf, storeOf, onEvent, Sound, May, came}
 use Rattle.promises.specs.Sending.{bytesOn, answersTo, replies, sending, sendingReplies, piecesOfAll, transfer, repliesToAll, transferReplies, newEntries, Messages, sizesOf, HasRoom, Intact, Delivers, Demand2, Usable}
-use Rattle.promises.proofs.Sound.{ready as is-ready, event-answer, event-own, event-others, event-journal}
+use Rattle.promises.proofs.Sound.{sound-intact, ready as is-ready, event-answer, event-own, event-others, event-journal}
 use Rattle.promises.proofs.Kept.{keeps}
 use Rattle.promises.proofs.Runs.{stays-sound}
 use Rattle.promises.proofs.Feeding.{feed, ready}
@@ -58,13 +58,14 @@ fed s i [] w h = record { answers = refl; own = refl; store = refl; others = λ 
 fed s i (b ∷ bs) w h =
     let k : Kind = Byte b in
     let r = fed ((step s (came i k)) .1) i bs (keeps s (came i k) w h) h in
-    let parts = event-own s w i k h in
-    let store = event-journal s w i k h in
+    let v = sound-intact s w in
+    let parts = event-own s v i k h in
+    let store = event-journal s v i k h in
     record {
-      answers = ap₂ (λ (t : Response) (ts : List Response). t ∷ ts) (event-answer s w i k h) (r .answers ∙ ap₂ (λ (p : Parts) (j : Store). feed i p j bs .0) parts store);
+      answers = ap₂ (λ (t : Response) (ts : List Response). t ∷ ts) (event-answer s v i k h) (r .answers ∙ ap₂ (λ (p : Parts) (j : Store). feed i p j bs .0) parts store);
       own = r .own ∙ ap₂ (λ (p : Parts) (j : Store). feed i p j bs .1) parts store;
       store = r .store ∙ ap₂ (λ (p : Parts) (j : Store). feed i p j bs .2) parts store;
-      others = λ l n. r .others l n ∙ event-others s w i k h l n;
+      others = λ l n. r .others l n ∙ event-others s v i k h l n;
     }
 
 pub bytes-may : (i : ℕ) → i < lines → (bs : List ℕ) → Every May (bytesOn i bs)
@@ -162,7 +163,7 @@ module _ (limit : ℕ) (usable : Usable limit) (i : ℕ) (h : i < lines) where
     frames = partsOf s i .frames
 
     parts : Own own texts frames
-    parts = own-parts own i (s .memory .unfinished) (s .memory .frames) (is-ready s w i (Byte enq) h)
+    parts = own-parts own i (s .memory .unfinished) (s .memory .frames) (is-ready s (sound-intact s w) i (Byte enq) h)
 
     going : Going [] m number own texts frames
     going = record {
