@@ -81,10 +81,6 @@ pub room-after : (i : ℕ) (ms ns : List (List ℕ)) (j : Store) → length (j .
 room-after i [] ns j long line room = room
 room-after i (m ∷ ms) ns j long line room = room-after i ms ns (storedIn i m j) (used-then i m j long) line (room-then i m (ms ++ ns) j long line room)
 
-pub messages-both : (ms ns : List (List ℕ)) → Messages ms → Messages ns → Messages (ms ++ ns)
-messages-both [] ns p q = q
-messages-both (m ∷ ms) ns p q = (p .0, messages-both ms ns (p .1) q)
-
 pub held-all : (i : ℕ) → i < lines → (ms : List (List ℕ)) (j : Store) (es : List Entry) → Held todaysShares (j .ledger) (j .journal) es → Messages ms
     → fits todaysShares (raised (j .ledger .used) i (sizesOf ms)) ≡ true
     → Held todaysShares (storedAll i ms j .ledger) (storedAll i ms j .journal) (es ++ newEntries (j .ledger) i ms)

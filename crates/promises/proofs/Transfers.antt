@@ -42,7 +42,8 @@ use Rattle.promises.proofs.Runs.{stays-sound}
 use Rattle.promises.proofs.Feeding.{feed, ready}
 use Rattle.promises.proofs.Delivered.{Open, Going}
 use Rattle.promises.proofs.Walk.{numberAfter, Delivered, walk}
-use Rattle.promises.proofs.Rooms.{room-first, room-then, storedAll, stored-append, room-before, room-after, messages-both, held-all, room-held, room-sound}
+use Rattle.promises.proofs.Every.{every-both}
+use Rattle.promises.proofs.Rooms.{room-first, room-then, storedAll, stored-append, room-before, room-after, held-all, room-held, room-sound}
 
 -- ---- bytes on one line
 
@@ -282,7 +283,7 @@ module _ (limit : ℕ) (usable : Usable limit) (i : ℕ) (h : i < lines) where
         ∙ room-after i ms ns (storeOf s) (a .lines-used) h room in
         let y = whole-transfer ns (final step s (bytesOn i (transfer limit ms))) (x .sound) (x .line) are′ room-left in
         delivers s (a .entries) (room-held s a i h (ms ++ ns) room) (transfer limit ms ++ transfer limit ns) (transferReplies limit ms ++ transferReplies limit ns) (ms ++ ns) _
-        (went-on s i (transfer limit ms) (transfer limit ns) (transferReplies limit ms) (transferReplies limit ns) ms ns _ _ x y) (messages-both ms ns are are′) room
+        (went-on s i (transfer limit ms) (transfer limit ns) (transferReplies limit ms) (transferReplies limit ns) ms ns _ _ x y) (every-both (λ (t : List ℕ). isMessage t ≡ true) ms ns are are′) room
 
 -- what hosts are promised: frames are cut within the line's own limit
 own-limit : Usable frameLimit

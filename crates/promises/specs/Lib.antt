@@ -3,6 +3,7 @@ pub mod Runs
 pub mod Came
 pub mod Exactly
 pub mod Queue
+pub mod OnlyMessages
 pub mod Freed
 pub mod Sending
 pub mod Examples
