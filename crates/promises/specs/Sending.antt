@@ -127,5 +127,8 @@ Demand2 f =
 
 -- a taking from line i into the buffer b gives the text m with this serial: both its length and the serial are answered, it stands at the start of the buffer,
 -- and the buffer's rest stays
+abbrev pub GivesBackBy : Runner → State → ℕ → List ℕ → ℕ → List ℕ → Type 0
+GivesBackBy f s i b serial m = (f s (taking i b)) .0 ≡ response (Taken (length m) serial) (splice b 0 m)
+
 abbrev pub GivesBack : State → ℕ → List ℕ → ℕ → List ℕ → Type 0
-GivesBack s i b serial m = (step s (taking i b)) .0 ≡ response (Taken (length m) serial) (splice b 0 m)
+GivesBack s i b serial m = GivesBackBy step s i b serial m
