@@ -15,7 +15,7 @@ use Rattle.looking.specs.declared.Kind.{Kind}
 use Rattle.serial.specs.Serial.{final, Every}
 use Rattle.promises.specs.Machine.{State, GatewayItem, came, step, storeOf, May}
 use Rattle.promises.specs.Runs.{RightSizes, fresh, answered, replied, isAck, Completes}
-use Rattle.promises.specs.Came.{answer, store, Came, quiet, stored, crowded, against}
+use Rattle.promises.specs.Inner.Came.{answer, store, Came, quiet, stored, crowded, against}
 use Rattle.promises.proofs.Sound.{sound-intact}
 use Rattle.promises.proofs.Came.{comes-to, objected}
 use Rattle.promises.proofs.Runs.{always-sound}

@@ -36,10 +36,11 @@ use Rattle.receiving.proofs.Fits.{quiet-keeps}
 use Rattle.receiving.proofs.Decisions.{objection-number}
 use Rattle.gateway_laws.specs.Classes.{classOf}
 use Rattle.gateway_laws.proofs.Proper.{objection-against}
-use Rattle.promises.specs.Machine.{State, Response, response, step, isDecision, decides, Parts, partsOf, storeOf, left, came}
+use Rattle.promises.specs.Machine.{State, Response, response, step, isDecision, decides, Parts, partsOf, storeOf, came}
+use Rattle.promises.specs.Inner.ByParts.{left}
 use Rattle.promises.specs.Runs.{answered, isFault, offeredBy, hasSpace}
 use Rattle.promises.specs.Sending.{Intact}
-use Rattle.promises.specs.Came.{Passes, Settles, Came, quiet, stored, crowded, against}
+use Rattle.promises.specs.Inner.Came.{Passes, Settles, Came, quiet, stored, crowded, against}
 use Rattle.promises.proofs.Sound.{work, ready, event-answer, event-journal}
 
 -- a look that is done decides nothing and comes to no fault: only a message that is complete is decided

@@ -17,7 +17,7 @@ use Rattle.looking.specs.declared.Kind.{Kind}
 use Rattle.promises.specs.Machine.{State, Sound}
 use Rattle.promises.specs.Runs.{offered, hasSpace}
 use Rattle.promises.specs.Sending.{Intact}
-use Rattle.promises.specs.Came.{Came, quiet, stored, crowded, against}
+use Rattle.promises.specs.Inner.Came.{Came, quiet, stored, crowded, against}
 use Rattle.promises.specs.Exactly.{Exactly, numberTo, DecidedExactly}
 use Rattle.promises.proofs.Sound.{sound-intact}
 use Rattle.promises.proofs.Came.{comes-to, objected}

@@ -31,7 +31,7 @@ use Rattle.serial.specs.Serial.{event, taking}
 use Rattle.promises.specs.Machine.{State, onLine, afterEvent, step, GatewayItem, came, storeOf, Sound, May}
 use Rattle.promises.specs.Runs.{RightSizes, fresh}
 use Rattle.promises.specs.Sending.{Intact}
-use Rattle.promises.specs.Came.{store, Came, quiet, stored, crowded, against}
+use Rattle.promises.specs.Inner.Came.{store, Came, quiet, stored, crowded, against}
 use Rattle.promises.proofs.Sound.{sound-intact, work, ready, fitting, event-is}
 use Rattle.promises.proofs.Came.{comes-to}
 

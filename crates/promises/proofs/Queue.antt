@@ -29,7 +29,7 @@ use Rattle.looking.specs.declared.Kind.{Kind}
 use Rattle.serial.specs.Serial.{event, taking, final, Every}
 use Rattle.promises.specs.Machine.{State, response, GatewayItem, came, step, storeOf, Sound, May}
 use Rattle.promises.specs.Runs.{RightSizes, fresh, answered, hasSpace}
-use Rattle.promises.specs.Came.{storedIn, answer, store, Settles, Came, quiet, stored, crowded, against}
+use Rattle.promises.specs.Inner.Came.{storedIn, answer, store, Settles, Came, quiet, stored, crowded, against}
 use Rattle.promises.specs.Queue.{completedIn, completed, gave, storedOn, takenOn, allStored, allTaken, NothingLost}
 use Rattle.promises.proofs.Sound.{sound-intact}
 use Rattle.promises.proofs.Came.{comes-to, undecided-other, objected}

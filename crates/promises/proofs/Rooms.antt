@@ -20,7 +20,7 @@ use Rattle.journal_laws.specs.Runs.{State as Store}
 use Rattle.room.proofs.Totals.{raised-own, raised-other, claims-le}
 use Rattle.journal_laws.proofs.Keeps.{store-held}
 use Rattle.promises.specs.Machine.{State, Sound}
-use Rattle.promises.specs.Came.{storedIn}
+use Rattle.promises.specs.Inner.Came.{storedIn}
 use Rattle.promises.specs.Sending.{newEntries, Messages, sizesOf, HasRoom, Intact}
 
 module _ (sh u : List ℕ) (i a b : ℕ) (long : length u ≡ lines) (line : i < lines) (room : fits sh (raised u i (a + b)) ≡ true) where

@@ -28,7 +28,7 @@ use Rattle.looking.specs.declared.Kind.{Kind}
 use Rattle.serial.specs.Serial.{event, taking, annotate, final, Every}
 use Rattle.promises.specs.Machine.{State, GatewayItem, came, step, Sound, May}
 use Rattle.promises.specs.Runs.{RightSizes, fresh, answered, isFault, Overfull, NoSpace, Space}
-use Rattle.promises.specs.Came.{answer, Came, quiet, stored, crowded, against}
+use Rattle.promises.specs.Inner.Came.{answer, Came, quiet, stored, crowded, against}
 use Rattle.promises.proofs.Sound.{sound-intact}
 use Rattle.promises.proofs.Came.{comes-to, undecided-other, objected}
 use Rattle.promises.proofs.Kept.{keeps, fresh-sound}

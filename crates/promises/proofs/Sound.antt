@@ -21,7 +21,8 @@ use Rattle.looking.specs.declared.Verdict.{Verdict}
 use Rattle.gateway_laws.proofs.Found.{work-fits}
 use Rattle.gateway_laws.proofs.Others.{texts-other, frames-other}
 use Rattle.gateway_laws.proofs.View.{texts-own, frames-own}
-use Rattle.promises.specs.Machine.{State, onLine, afterEvent, step, Parts, partsOf, storeOf, onEvent, Sound, came}
+use Rattle.promises.specs.Machine.{State, onLine, afterEvent, step, Parts, partsOf, storeOf, Sound, came}
+use Rattle.promises.specs.Inner.ByParts.{onEvent}
 use Rattle.promises.specs.Sending.{Intact}
 
 -- every state that a run leaves is intact

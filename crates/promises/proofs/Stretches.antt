@@ -14,9 +14,10 @@ use Rattle.looking.specs.declared.Kind.{Kind}
 use Rattle.serial.specs.Serial.{taking, annotate, serialize, count, Every, OrderOf, Lined, NothingElse, GoesAlike}
 use Rattle.serial.specs.Kept.{Rearranged}
 use Rattle.serial.proofs.Demand as serial
-use Rattle.promises.specs.Machine.{State, Response, GatewayItem, came, step, decides, Parts, partsOf, storeOf, onEvent, onTaking, Sound, May}
+use Rattle.promises.specs.Machine.{State, Response, GatewayItem, came, step, decides, Parts, partsOf, storeOf, Sound, May}
+use Rattle.promises.specs.Inner.ByParts.{onEvent, onTaking}
 use Rattle.promises.specs.Runs.{RightSizes, fresh}
-use Rattle.promises.specs.Came.{Came, quiet as passing, stored, crowded, against}
+use Rattle.promises.specs.Inner.Came.{Came, quiet as passing, stored, crowded, against}
 use Rattle.promises.proofs.Sound.{sound-intact, event-answer, event-own, event-others, event-journal}
 use Rattle.promises.proofs.Came.{comes-to}
 use Rattle.promises.proofs.Kept.{keeps, fresh-sound}

@@ -34,8 +34,9 @@ use Rattle.looking.specs.declared.Kind.{Kind}
 use Rattle.looking.specs.declared.Kind.the-variants.{Byte}
 use Rattle.looking.proofs.Views.{own-parts}
 use Rattle.serial.specs.Serial.{final, Every}
-use Rattle.promises.specs.Machine.{State, Response, response, step, Parts, partsOf, storeOf, onEvent, Sound, May, came}
-use Rattle.promises.specs.Sending.{bytesOn, answersTo, replies, sending, sendingReplies, piecesOfAll, transfer, repliesToAll, transferReplies, newEntries, Messages, sizesOf, HasRoom, Intact, Delivers, Demand2, Usable}
+use Rattle.promises.specs.Machine.{State, Response, response, step, Parts, partsOf, storeOf, Sound, May, came}
+use Rattle.promises.specs.Inner.ByParts.{onEvent}
+use Rattle.promises.specs.Sending.{bytesOn, answersBy, replies, sending, sendingReplies, piecesOfAll, transfer, repliesToAll, transferReplies, newEntries, Messages, sizesOf, HasRoom, Intact, Delivers, Demand2, Usable}
 use Rattle.promises.proofs.Sound.{sound-intact, ready as is-ready, event-answer, event-own, event-others, event-journal}
 use Rattle.promises.proofs.Kept.{keeps}
 use Rattle.promises.proofs.Runs.{stays-sound}
@@ -49,7 +50,7 @@ use Rattle.promises.proofs.Rooms.{room-first, room-then, storedAll, sto
 
 -- they are told by the line's parts and the store, and leave the other lines
 record Fed (s : State) (i : ℕ) (bs : List ℕ) : Type 0 where
-  answers : answersTo s (bytesOn i bs) ≡ feed i (partsOf s i) (storeOf s) bs .0
+  answers : answersBy step s (bytesOn i bs) ≡ feed i (partsOf s i) (storeOf s) bs .0
   own : partsOf (final step s (bytesOn i bs)) i ≡ feed i (partsOf s i) (storeOf s) bs .1
   store : storeOf (final step s (bytesOn i bs)) ≡ feed i (partsOf s i) (storeOf s) bs .2
   others : (l : ℕ) → l ≢ i → partsOf (final step s (bytesOn i bs)) l ≡ partsOf s l
@@ -78,7 +79,7 @@ final-append s i [] cs = refl
 final-append s i (b ∷ bs) cs = final-append ((step s (came i (Byte b))) .1) i bs cs
 
 answers-append : (s : State) (i : ℕ) (bs cs : List ℕ)
-    → answersTo s (bytesOn i (bs ++ cs)) ≡ answersTo s (bytesOn i bs) ++ answersTo (final step s (bytesOn i bs)) (bytesOn i cs)
+    → answersBy step s (bytesOn i (bs ++ cs)) ≡ answersBy step s (bytesOn i bs) ++ answersBy step (final step s (bytesOn i bs)) (bytesOn i cs)
 answers-append s i [] cs = refl
 answers-append s i (b ∷ bs) cs =
     let r = step s (came i (Byte b)) in
@@ -86,7 +87,7 @@ answers-append s i (b ∷ bs) cs =
 
 -- what bytes come to: the answers, the texts stored, and the line's record then
 record Went (s : State) (i : ℕ) (bs : List ℕ) (ts : List Response) (ms : List (List ℕ)) (Line-then : Line → Type 0) : Type 0 where
-  answers : answersTo s (bytesOn i bs) ≡ ts
+  answers : answersBy step s (bytesOn i bs) ≡ ts
   store : storeOf (final step s (bytesOn i bs)) ≡ storedAll i ms (storeOf s)
   others : (l : ℕ) → l ≢ i → partsOf (final step s (bytesOn i bs)) l ≡ partsOf s l
   line : Line-then (lineAt (final step s (bytesOn i bs) .gateway) i)

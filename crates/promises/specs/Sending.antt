@@ -41,9 +41,6 @@ Runner = State → GatewayItem → Response × State
 abbrev pub answersBy : Runner → State → List GatewayItem → List Response
 answersBy f s es = map (λ (x : GatewayItem × Response). x .1) (annotate f s es)
 
-abbrev pub answersTo : State → List GatewayItem → List Response
-answersTo s es = answersBy step s es
-
 -- 0 to each byte of a frame but its last; to that 2, and 4 where no frame of the message follows
 abbrev pub lastAnswer : List Piece → Answer
 lastAnswer [] = Stored

@@ -12,7 +12,8 @@ use Rattle.journal_laws.specs.Runs.{State as Store}
 use Rattle.answers.specs.Paper.{numberOf}
 use Rattle.receiving.specs.Verdicts.{objectionTo}
 use Rattle.looking.specs.declared.Kind.{Kind}
-use Rattle.promises.specs.Machine.{State, Response, step, decides, partsOf, storeOf, onEvent, came}
+use Rattle.promises.specs.Machine.{State, Response, step, decides, partsOf, storeOf, came}
+use Rattle.promises.specs.Inner.ByParts.{onEvent}
 use Rattle.promises.specs.Runs.{answered, isFault, offered, hasSpace}
 
 -- a text stored on line i, behind what the journal holds
