@@ -16,7 +16,8 @@ use Rattle.looking.specs.declared.Kind.{Kind}
 use Rattle.serial.specs.Serial.{event, taking, serialize, count, OrderOf, Lined, NothingElse, GoesAlike}
 use Rattle.serial.specs.Kept.{Rearranged}
 use Rattle.serial.proofs.Demand as serial
-use Rattle.promises.specs.Machine.{State, Response, GatewayItem, isDecision, decides as decidesThere, Parts, partsOf, storeOf, onEvent, onTaking, Sound, May}
+use Rattle.promises.specs.Machine.{State, Response, GatewayItem, isDecision, decides as decidesThere, Parts, partsOf, storeOf, Sound, May}
+use Rattle.promises.specs.Inner.ByParts.{onEvent, onTaking}
 use Rattle.promises.proofs.Stretches.{lined, nothing-else}
 use Rattle.promises.proofs.Kept.{fresh-sound}
 use Rattle.ngachodui_laws.specs.HostRuns.{HostState, gatewayState, InOrder, freshHost, HostResponse, hostStep, decides, Run, historyOf}

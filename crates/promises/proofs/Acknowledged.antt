@@ -10,14 +10,14 @@ use Rattle.memory.specs.Sizes.{lines}
 use Rattle.memory.proofs.Tests.{clash}
 use Rattle.answers.specs.Paper.{ack, replyOf}
 use Rattle.answers.specs.declared.Reply.the-variants.{Byte}
-use Rattle.answers.proofs.Paper.{objection-objects}
 use Rattle.receiving.specs.Steps.{Memory}
 use Rattle.looking.specs.declared.Kind.{Kind}
 use Rattle.serial.specs.Serial.{final, Every}
 use Rattle.promises.specs.Machine.{State, GatewayItem, came, step, storeOf, May}
 use Rattle.promises.specs.Runs.{RightSizes, fresh, answered, replied, isAck, Completes}
-use Rattle.promises.specs.Came.{answer, store, Came, quiet, stored, crowded, against}
-use Rattle.promises.proofs.Came.{comes-to}
+use Rattle.promises.specs.Inner.Came.{answer, store, Came, quiet, stored, crowded, against}
+use Rattle.promises.proofs.Sound.{sound-intact}
+use Rattle.promises.proofs.Came.{comes-to, objected}
 use Rattle.promises.proofs.Runs.{always-sound}
 
 not-acknowledged : (n : ℕ) → isAck (replyOf n) ≡ false → replyOf n ≡ Byte ack → n ≡ 4
@@ -34,7 +34,7 @@ came-acknowledged s i k (quiet x) c e =
     clash cc
 came-acknowledged s i k (stored t m room x) c e = x .number
 came-acknowledged s i k (crowded t m room x) c e = not-acknowledged (answered (answer s i k)) (ap (λ (n : ℕ). isAck (replyOf n)) (x .number) ∙ crowded-nak) e
-came-acknowledged s i k (against t m x) c e = not-acknowledged (answered (answer s i k)) (ap isAck (objection-objects (answered (answer s i k)) (x .number) .refused)) e
+came-acknowledged s i k (against t m x) c e = not-acknowledged (answered (answer s i k)) (ap isAck (objected t (answered (answer s i k)) (x .number) .refused)) e
 
 -- and only 4 changes the store
 came-kept : (s : State) (i : ℕ) (k : Kind) → Came s i k → answered (answer s i k) ≢ 4 → store s i k ≡ storeOf s
@@ -48,7 +48,7 @@ module _ (m : Memory) (sizes : RightSizes m) (es : List GatewayItem) (may : Ever
   s = final step (fresh m) es
 
   this : Came s i k
-  this = comes-to s (always-sound m sizes es may) i k line
+  this = comes-to s (sound-intact s (always-sound m sizes es may)) i k line
 
   -- after any run from fresh: an event that completes a message and is acknowledged is answered 4, and so its message is stored
   pub acknowledged-stored : Completes s i k (λ n. Unit {0}) → replied ((step s (came i k)) .0) ≡ Byte ack → answered ((step s (came i k)) .0) ≡ 4

@@ -1,4 +1,4 @@
--- What an event of the gateway comes to, shown once: at a sound state it passes, or the text that it completes is stored, crowded out, or no message.
+-- What an event of the gateway comes to, shown once: at an intact state it passes, or the text that it completes is stored, crowded out, or no message.
 -- Assumes nothing.
 use mathlib.Core.Path.{_≡_, refl, sym, ap, subst, _∙_}
 use mathlib.Core.Bool.{Bool, true, false, cond, not, _||_}
@@ -13,12 +13,13 @@ use Rattle.faults.proofs.Messages.{message-some, message-short}
 use Rattle.room.specs.Room.{todaysShares}
 use Rattle.journal_laws.specs.Runs.{State as Store}
 use Rattle.journal.specs.declared.Verdict.the-variants.{Fits, NoRoom as Full}
-use Rattle.journal_laws.proofs.Cases.{held-judged}
+use Rattle.journal.specs.Chain.{isSome}
+use Rattle.journal.proofs.Judged.{judged-room}
 use Rattle.answers.specs.Paper.{numberOf, isObjection}
 use Rattle.line.specs.declared.Line.{Line}
 use Rattle.answers.specs.declared.Answer.{Answer}
 use Rattle.answers.specs.declared.Answer.the-variants.{NoRoom}
-use Rattle.answers.proofs.Paper.{every-answer}
+use Rattle.answers.proofs.Paper.{every-answer, Objects, objection-objects}
 use Rattle.looking.specs.Views.{joinedText}
 use Rattle.looking.specs.Looks.{lookOf}
 use Rattle.receiving.specs.Verdicts.{objectionTo, roomVerdict, decisionOf, decided, ownWork}
@@ -35,9 +36,11 @@ use Rattle.receiving.proofs.Fits.{quiet-keeps}
 use Rattle.receiving.proofs.Decisions.{objection-number}
 use Rattle.gateway_laws.specs.Classes.{classOf}
 use Rattle.gateway_laws.proofs.Proper.{objection-against}
-use Rattle.promises.specs.Machine.{State, Response, response, step, isDecision, decides, Parts, partsOf, storeOf, left, Sound, came}
+use Rattle.promises.specs.Machine.{State, Response, response, step, isDecision, decides, Parts, partsOf, storeOf, came}
+use Rattle.promises.specs.Inner.ByParts.{left}
 use Rattle.promises.specs.Runs.{answered, isFault, offeredBy, hasSpace}
-use Rattle.promises.specs.Came.{Passes, Settles, Came, quiet, stored, crowded, against}
+use Rattle.promises.specs.Sending.{Intact}
+use Rattle.promises.specs.Inner.Came.{Passes, Settles, Came, quiet, stored, crowded, against}
 use Rattle.promises.proofs.Sound.{work, ready, event-answer, event-journal}
 
 -- a look that is done decides nothing and comes to no fault: only a message that is complete is decided
@@ -70,7 +73,7 @@ harmless l = record {
   decides = λ n t. tt;
 }
 
-module _ (s : State) (w : Sound s) (i : ℕ) (k : Kind) (line : i < lines) where
+module _ (s : State) (w : Intact s) (i : ℕ) (k : Kind) (line : i < lines) where
   abbrev own : Parts
   own = partsOf s i
 
@@ -138,7 +141,7 @@ module _ (s : State) (w : Sound s) (i : ℕ) (k : Kind) (line : i < lines) where
       judged room has =
           let d = s .gateway .ledger in
           work-is (Decides n) is
-          ∙ rw (m, ← (held-judged todaysShares d i text (s .memory .journal) (w .entries) (w .held) line (message-some _ text m) (message-short _ text m) room has))
+          ∙ rw (m, ← (judged-room d todaysShares i (length text) (s .memory .journal) line (w .journal) (message-some _ text m) (message-short _ text m) room (ap isSome (w .whole)) has))
 
       by-space : (room : Bool) → hasSpace s i (length text) ≡ room → Came s i k
       by-space true has = stored text m has (settles (Stores n) (judged true has) refl (λ c. c ≡ 4) refl)
@@ -146,7 +149,7 @@ module _ (s : State) (w : Sound s) (i : ℕ) (k : Kind) (line : i < lines) where
 
     by-message : (b : Bool) → isMessage text ≡ b → Came s i k
     by-message true m = by-space m (hasSpace s i (length text)) refl
-    by-message false m = against text m (settles (Against (objectionTo text) n) (no-message m) (ap isDecision (objection-against text)) (λ c. isObjection c ≡ true) (objection-number text))
+    by-message false m = against text m (settles (Against (objectionTo text) n) (no-message m) (ap isDecision (objection-against text)) (λ c. c ≡ numberOf (objectionTo text)) refl)
 
   by-look : (x : Look) → look ≡ x → LookFits x (own .line) → Harmless x → Came s i k
   by-look (Done v) is fits plain = quiet (passes v is fits plain)
@@ -171,3 +174,7 @@ neither true x y e q = clash cc
 
 pub undecided-other : (t : Response) → decides t ≡ false → (eqb (answered t) 4 ≡ false) × (eqb (answered t) 31 ≡ false)
 undecided-other t e = neither (decides t) (eqb (answered t) 4) (eqb (answered t) 31) (decisions-decide (t .answer)) e
+
+-- what is no message is answered an objection: neither 4 nor 31, nor a fault
+pub objected : (t : List ℕ) (n : ℕ) → n ≡ numberOf (objectionTo t) → Objects n
+objected t n e = objection-objects n (ap isObjection e ∙ objection-number t)

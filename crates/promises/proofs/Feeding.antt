@@ -34,7 +34,8 @@ use Rattle.looking.specs.Looks.{waitingLook, insideLook, byteLook, frameLook, e
 use Rattle.receiving.specs.Verdicts.{decided, ownWork}
 use Rattle.looking.specs.declared.Kind.the-variants.{Byte}
 use Rattle.looking.specs.declared.Look.{Look}
-use Rattle.promises.specs.Machine.{Response, response, Parts, left, onEvent}
+use Rattle.promises.specs.Machine.{Response, response, Parts}
+use Rattle.promises.specs.Inner.ByParts.{left, onEvent}
 use Rattle.promises.specs.Sending.{Usable}
 
 -- bytes on line i, one behind the other: the answers, and what is left

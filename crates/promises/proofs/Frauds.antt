@@ -1,6 +1,7 @@
 -- The frauds that document 01 wants tried, and the promise that each breaks. They are told of any runner, so that no particular one is meant.
 -- Assumes nothing.
 use mathlib.Core.Path.{_≡_, refl, sym, ap, subst, _∙_}
+use mathlib.Core.Logic.{_≢_, _⊎_, inl, inr}
 use mathlib.Core.Bool.{Bool, true, false, true≢false}
 use mathlib.Core.List.{List, [], _∷_, _++_}
 use mathlib.Core.Option.{Option, none, some}
@@ -26,12 +27,13 @@ use Rattle.answers.specs.declared.Answer.the-variants.{Nothing, Taken}
 use Rattle.receiving.specs.Steps.{Memory, memoryOf}
 use Rattle.looking.specs.declared.Kind.the-variants.{Byte}
 use Rattle.serial.specs.Serial.{taking, final}
-use Rattle.promises.specs.Machine.{State, Response, response, GatewayItem, came, step}
+use Rattle.promises.specs.Machine.{State, Response, response, GatewayItem, came}
 use Rattle.promises.specs.Runs.{RightSizes, fresh, replied, isAck}
 use Rattle.promises.specs.Examples.{both, holds}
-use Rattle.promises.specs.Sending.{Runner, bytesOn, sending, sendingReplies, newEntries, HasRoom, Intact, DeliversBy, Demand2, GivesBack}
+use Rattle.promises.specs.Sending.{Runner, bytesOn, sending, sendingReplies, newEntries, HasRoom, Intact, DeliversBy, Demand2, GivesBackBy}
+use Rattle.promises.proofs.Sound.{sound-intact}
 use Rattle.promises.proofs.Kept.{fresh-sound}
-use Rattle.promises.proofs.Rooms.{room-held, sound-intact}
+use Rattle.promises.proofs.Rooms.{room-held}
 use Rattle.promises.proofs.Examples.{shown}
 
 -- ---- one message, sent to line 0 of a fresh gateway
@@ -106,9 +108,8 @@ first-only f s i bs ts m n es promise x fraud =
     longer es (x ∷ []) (newEntries (s .gateway .ledger) i (m ∷ n ∷ [])) (omega arith)
     (held-once (final f s (bytesOn i bs) .gateway .ledger) (final f s (bytesOn i bs) .memory .journal) (es ++ x ∷ []) (es ++ newEntries (s .gateway .ledger) i (m ∷ n ∷ [])) fraud (promise .held))
 
--- an invented length or serial: what a taking in its turn tells are the text's length and its serial
-pub invented : (s : State) (i : ℕ) (b : List ℕ) (serial : ℕ) (m : List ℕ) → GivesBack s i b serial m → (n x : ℕ) → (step s (taking i b)) .0 .answer ≡ Taken n x
-    → (n ≡ length m) × (x ≡ serial)
-invented s i b serial m promise n x fraud =
-    let same : Taken n x ≡ Taken (length m) serial = sym fraud ∙ ap (λ (t : Response). t .answer) promise in
-    (ap (λ (a : Answer). getD (valuesOf a) 0 0) same, ap (λ (a : Answer). getD (valuesOf a) 1 0) same)
+-- an invented length or serial: whoever tells another length than the text's, or another serial than its own, does not give the text back
+pub invented : (f : Runner) (s : State) (i : ℕ) (b : List ℕ) (serial : ℕ) (m : List ℕ) (n x : ℕ) → (f s (taking i b)) .0 .answer ≡ Taken n x
+    → (n ≢ length m) ⊎ (x ≢ serial) → GivesBackBy f s i b serial m → ⊥
+invented f s i b serial m n x tells (inl other) promise = other (ap (λ (a : Answer). getD (valuesOf a) 0 0) (sym tells ∙ ap (λ (t : Response). t .answer) promise))
+invented f s i b serial m n x tells (inr other) promise = other (ap (λ (a : Answer). getD (valuesOf a) 1 0) (sym tells ∙ ap (λ (t : Response). t .answer) promise))

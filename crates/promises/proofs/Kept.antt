@@ -30,8 +30,9 @@ use Rattle.gateway_laws.proofs.Others.{texts-length, frames-length}
 use Rattle.serial.specs.Serial.{event, taking}
 use Rattle.promises.specs.Machine.{State, onLine, afterEvent, step, GatewayItem, came, storeOf, Sound, May}
 use Rattle.promises.specs.Runs.{RightSizes, fresh}
-use Rattle.promises.specs.Came.{store, Came, quiet, stored, crowded, against}
-use Rattle.promises.proofs.Sound.{work, ready, fitting, event-is}
+use Rattle.promises.specs.Sending.{Intact}
+use Rattle.promises.specs.Inner.Came.{store, Came, quiet, stored, crowded, against}
+use Rattle.promises.proofs.Sound.{sound-intact, work, ready, fitting, event-is}
 use Rattle.promises.proofs.Came.{comes-to}
 
 -- the journal is whole and keeps every share, whatever it holds
@@ -55,33 +56,36 @@ came-holds s w i k h c = by-case c
     by-case (against t m x) = subst Holds (sym (x .left)) same
 
 module _ (s : State) (w : Sound s) where
+  v : Intact s
+  v = sound-intact s w
+
   module _ (i : ℕ) (k : Kind) (h : i < lines) where
     -- what an event leaves
     abbrev after : State
-    after = (afterEvent (putBack (s .gateway) i (settle (work s w i k h) (lineAt (s .gateway) i) (s .gateway .ledger) (onLine i k) (s .memory)))) .1
+    after = (afterEvent (putBack (s .gateway) i (settle (work s v i k h) (lineAt (s .gateway) i) (s .gateway .ledger) (onLine i k) (s .memory)))) .1
 
-    own-within : withinLimits (lineAfter (work s w i k h) (lineAt (s .gateway) i)) ≡ true
+    own-within : withinLimits (lineAfter (work s v i k h) (lineAt (s .gateway) i)) ≡ true
     own-within =
-        within-of (lineAfter (work s w i k h) (lineAt (s .gateway) i))
-        (line-within todaysShares (lineAt (s .gateway) i) (s .gateway .ledger) (onLine i k) (s .memory) (work s w i k h) (within-facts (lineAt (s .gateway) i) (w .within i h)) (fitting s w i k h))
+        within-of (lineAfter (work s v i k h) (lineAt (s .gateway) i))
+        (line-within todaysShares (lineAt (s .gateway) i) (s .gateway .ledger) (onLine i k) (s .memory) (work s v i k h) (within-facts (lineAt (s .gateway) i) (w .within i h)) (fitting s v i k h))
 
     each-within : (l : ℕ) → l < lines → withinLimits (lineAt (after .gateway) l) ≡ true
     each-within l m = elim (ℕ-discrete l i) [
-      | yes q ↦ rw (q, getD-set-same (s .gateway .lines) i (lineAfter (work s w i k h) (lineAt (s .gateway) i)) noRecord (omega (arith, w .as-many))) own-within
-      | no q ↦ rw (getD-set-other (s .gateway .lines) i l (lineAfter (work s w i k h) (lineAt (s .gateway) i)) noRecord q) (w .within l m)
+      | yes q ↦ rw (q, getD-set-same (s .gateway .lines) i (lineAfter (work s v i k h) (lineAt (s .gateway) i)) noRecord (omega (arith, w .as-many))) own-within
+      | no q ↦ rw (getD-set-other (s .gateway .lines) i l (lineAfter (work s v i k h) (lineAt (s .gateway) i)) noRecord q) (w .within l m)
     ]
 
     holds : Holds (storeOf after)
-    holds = subst (λ (x : AfterEvent). Holds (storeOf ((afterEvent x) .1))) (event-is s w i k h) (came-holds s w i k h (comes-to s w i k h))
+    holds = subst (λ (x : AfterEvent). Holds (storeOf ((afterEvent x) .1))) (event-is s v i k h) (came-holds s w i k h (comes-to s v i k h))
 
     event-sound : Sound ((step s (came i k)) .1)
     event-sound =
-        subst (λ (x : AfterEvent). Sound ((afterEvent x) .1)) (sym (event-is s w i k h))
+        subst (λ (x : AfterEvent). Sound ((afterEvent x) .1)) (sym (event-is s v i k h))
         (record {
-          as-many = length-set (s .gateway .lines) i (lineAfter (work s w i k h) (lineAt (s .gateway) i)) ∙ w .as-many;
+          as-many = length-set (s .gateway .lines) i (lineAfter (work s v i k h) (lineAt (s .gateway) i)) ∙ w .as-many;
           within = each-within;
-          texts = texts-length (lineAt (s .gateway) i) i (s .memory .unfinished) (s .memory .frames) (ready s w i k h) (work s w i k h) (fitting s w i k h) ∙ w .texts;
-          frames = frames-length (lineAt (s .gateway) i) i (s .memory .unfinished) (s .memory .frames) (ready s w i k h) (work s w i k h) k ∙ w .frames;
+          texts = texts-length (lineAt (s .gateway) i) i (s .memory .unfinished) (s .memory .frames) (ready s v i k h) (work s v i k h) (fitting s v i k h) ∙ w .texts;
+          frames = frames-length (lineAt (s .gateway) i) i (s .memory .unfinished) (s .memory .frames) (ready s v i k h) (work s v i k h) k ∙ w .frames;
           entries = holds .entries;
           held = holds .held;
         })

@@ -1,8 +1,11 @@
+pub mod Every
 pub mod Sound
 pub mod Came
 pub mod Kept
 pub mod Runs
+pub mod Exactly
 pub mod Queue
+pub mod OnlyMessages
 pub mod Stretches
 pub mod Examples
 pub mod Fronts

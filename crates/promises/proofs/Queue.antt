@@ -22,7 +22,6 @@ use Rattle.journal.specs.declared.Took.the-variants.{Taken, NothingWaiting, Buf
 use Rattle.journal.specs.declared.Verdict.the-variants.{Fits}
 use Rattle.journal_laws.proofs.Cases.{store-fits}
 use Rattle.journal_laws.proofs.Queue.{fresh-runs}
-use Rattle.answers.proofs.Paper.{objection-objects}
 use Rattle.receiving.specs.Steps.{Memory}
 use Rattle.gateway.specs.Events.{takeOf}
 use Rattle.taking.specs.Taking.{tookAnswer}
@@ -30,9 +29,10 @@ use Rattle.looking.specs.declared.Kind.{Kind}
 use Rattle.serial.specs.Serial.{event, taking, final, Every}
 use Rattle.promises.specs.Machine.{State, response, GatewayItem, came, step, storeOf, Sound, May}
 use Rattle.promises.specs.Runs.{RightSizes, fresh, answered, hasSpace}
-use Rattle.promises.specs.Came.{storedIn, answer, store, Settles, Came, quiet, stored, crowded, against}
+use Rattle.promises.specs.Inner.Came.{storedIn, answer, store, Settles, Came, quiet, stored, crowded, against}
 use Rattle.promises.specs.Queue.{completedIn, completed, gave, storedOn, takenOn, allStored, allTaken, NothingLost}
-use Rattle.promises.proofs.Came.{undecided-other, comes-to}
+use Rattle.promises.proofs.Sound.{sound-intact}
+use Rattle.promises.proofs.Came.{comes-to, undecided-other, objected}
 use Rattle.promises.proofs.Kept.{keeps, fresh-sound}
 
 -- an operation of the journal, or none
@@ -104,10 +104,10 @@ module _ (s : State) (w : Sound s) (i : ℕ) (k : Kind) (h : i < lines) where
   event-does (quiet x) = no-operation (undecided-other (answer s i k) (x .undecided) .0) (x .kept)
   event-does (stored t m room x) = stores t m room x
   event-does (crowded t m room x) = no-operation (ap (λ (n : ℕ). eqb n 4) (x .number)) (x .left)
-  event-does (against t m x) = no-operation (objection-objects (answered (answer s i k)) (x .number) .not-4) (x .left)
+  event-does (against t m x) = no-operation (objected t (answered (answer s i k)) (x .number) .not-4) (x .left)
 
 pub does : (s : State) (e : GatewayItem) → Sound s → May e → Does s e
-does s (event i k) w m = event-does s w i k m (comes-to s w i k m)
+does s (event i k) w m = event-does s w i k m (comes-to s (sound-intact s w) i k m)
 does s (taking i b) w m = taking-does s i b
 
 -- ---- runs

@@ -20,7 +20,7 @@ use Rattle.journal_laws.specs.Runs.{State as Store}
 use Rattle.room.proofs.Totals.{raised-own, raised-other, claims-le}
 use Rattle.journal_laws.proofs.Keeps.{store-held}
 use Rattle.promises.specs.Machine.{State, Sound}
-use Rattle.promises.specs.Came.{storedIn}
+use Rattle.promises.specs.Inner.Came.{storedIn}
 use Rattle.promises.specs.Sending.{newEntries, Messages, sizesOf, HasRoom, Intact}
 
 module _ (sh u : List ℕ) (i a b : ℕ) (long : length u ≡ lines) (line : i < lines) (room : fits sh (raised u i (a + b)) ≡ true) where
@@ -81,10 +81,6 @@ pub room-after : (i : ℕ) (ms ns : List (List ℕ)) (j : Store) → length (j .
 room-after i [] ns j long line room = room
 room-after i (m ∷ ms) ns j long line room = room-after i ms ns (storedIn i m j) (used-then i m j long) line (room-then i m (ms ++ ns) j long line room)
 
-pub messages-both : (ms ns : List (List ℕ)) → Messages ms → Messages ns → Messages (ms ++ ns)
-messages-both [] ns p q = q
-messages-both (m ∷ ms) ns p q = (p .0, messages-both ms ns (p .1) q)
-
 pub held-all : (i : ℕ) → i < lines → (ms : List (List ℕ)) (j : Store) (es : List Entry) → Held todaysShares (j .ledger) (j .journal) es → Messages ms
     → fits todaysShares (raised (j .ledger .used) i (sizesOf ms)) ≡ true
     → Held todaysShares (storedAll i ms j .ledger) (storedAll i ms j .journal) (es ++ newEntries (j .ledger) i ms)
@@ -123,18 +119,3 @@ module _ (s : State) (w : Intact s) (i : ℕ) (line : i < lines) (ms : List (Lis
 
   pub room-sound : Sound s
   room-sound = record { as-many = w .as-many; within = w .within; texts = w .texts; frames = w .frames; entries = w .entries; held = room-held }
-
--- every state that a run leaves is intact
-pub sound-intact : (s : State) → Sound s → Intact s
-sound-intact s w = record {
-  as-many = w .as-many;
-  within = w .within;
-  texts = w .texts;
-  frames = w .frames;
-  journal = w .held .long;
-  lines-used = w .held .lines-used;
-  lines-serials = w .held .lines-serials;
-  serials = w .held .serials;
-  entries = w .entries;
-  whole = w .held .whole;
-}

@@ -21,7 +21,6 @@ use Rattle.journal.specs.declared.Took.the-variants.{Taken, NothingWaiting, Buf
 use Rattle.journal_laws.proofs.Cases.{Gives, Keeps, take-cases}
 use Rattle.room.proofs.Totals.{claims-own-share}
 use Rattle.answers.specs.Paper.{numberOf}
-use Rattle.answers.proofs.Paper.{objection-objects}
 use Rattle.receiving.specs.Steps.{Memory}
 use Rattle.gateway.specs.Events.{takeOf}
 use Rattle.taking.specs.Taking.{tookAnswer}
@@ -29,8 +28,9 @@ use Rattle.looking.specs.declared.Kind.{Kind}
 use Rattle.serial.specs.Serial.{event, taking, annotate, final, Every}
 use Rattle.promises.specs.Machine.{State, GatewayItem, came, step, Sound, May}
 use Rattle.promises.specs.Runs.{RightSizes, fresh, answered, isFault, Overfull, NoSpace, Space}
-use Rattle.promises.specs.Came.{answer, Came, quiet, stored, crowded, against}
-use Rattle.promises.proofs.Came.{undecided-other, comes-to}
+use Rattle.promises.specs.Inner.Came.{answer, Came, quiet, stored, crowded, against}
+use Rattle.promises.proofs.Sound.{sound-intact}
+use Rattle.promises.proofs.Came.{comes-to, undecided-other, objected}
 use Rattle.promises.proofs.Kept.{keeps, fresh-sound}
 
 -- ---- events
@@ -40,28 +40,28 @@ came-faultless : (s : State) (i : ℕ) (k : Kind) → Came s i k → isFault (an
 came-faultless s i k (quiet x) = x .no-fault
 came-faultless s i k (stored t m room x) = ap isFault (x .number)
 came-faultless s i k (crowded t m room x) = ap isFault (x .number)
-came-faultless s i k (against t m x) = objection-objects (answered (answer s i k)) (x .number) .no-fault
+came-faultless s i k (against t m x) = objected t (answered (answer s i k)) (x .number) .no-fault
 
 -- 31 in one case, and 4 in one
 came-crowded : (s : State) (i : ℕ) (k : Kind) → Came s i k → answered (answer s i k) ≡ 31 → NoSpace s i k
 came-crowded s i k (quiet x) e = never-both (eqb (answered (answer s i k)) 31) (eq-eqb (answered (answer s i k)) 31 e) (undecided-other (answer s i k) (x .undecided) .1)
 came-crowded s i k (stored t m room x) e = absurd (omega (arith, x .number, e))
 came-crowded s i k (crowded t m room x) e = record { text = t; complete = x .complete; such = room }
-came-crowded s i k (against t m x) e = never-both (eqb (answered (answer s i k)) 31) (eq-eqb (answered (answer s i k)) 31 e) (objection-objects (answered (answer s i k)) (x .number) .not-31)
+came-crowded s i k (against t m x) e = never-both (eqb (answered (answer s i k)) 31) (eq-eqb (answered (answer s i k)) 31 e) (objected t (answered (answer s i k)) (x .number) .not-31)
 
 came-stored : (s : State) (i : ℕ) (k : Kind) → Came s i k → answered (answer s i k) ≡ 4 → Space s i k
 came-stored s i k (quiet x) e = never-both (eqb (answered (answer s i k)) 4) (eq-eqb (answered (answer s i k)) 4 e) (undecided-other (answer s i k) (x .undecided) .0)
 came-stored s i k (stored t m room x) e = record { text = t; complete = x .complete; such = room }
 came-stored s i k (crowded t m room x) e = absurd (omega (arith, x .number, e))
-came-stored s i k (against t m x) e = never-both (eqb (answered (answer s i k)) 4) (eq-eqb (answered (answer s i k)) 4 e) (objection-objects (answered (answer s i k)) (x .number) .not-4)
+came-stored s i k (against t m x) e = never-both (eqb (answered (answer s i k)) 4) (eq-eqb (answered (answer s i k)) 4 e) (objected t (answered (answer s i k)) (x .number) .not-4)
 
 module _ (s : State) (w : Sound s) (i : ℕ) (k : Kind) (h : i < lines) where
   -- 31 is given only to a message for which there is no room, and 4 only to one for which there is
   pub no-space : answered ((step s (came i k)) .0) ≡ 31 → NoSpace s i k
-  no-space e = came-crowded s i k (comes-to s w i k h) e
+  no-space e = came-crowded s i k (comes-to s (sound-intact s w) i k h) e
 
   pub space : answered ((step s (came i k)) .0) ≡ 4 → Space s i k
-  space e = came-stored s i k (comes-to s w i k h) e
+  space e = came-stored s i k (comes-to s (sound-intact s w) i k h) e
 
   -- there is room for all that fits in what is left of a line's own share
   pub over-share : NoSpace s i k → Overfull s i k
@@ -104,7 +104,7 @@ taking-fault s w i b = by-case (take-cases todaysShares (s .gateway .ledger) i (
 -- ---- runs
 
 faultless : (s : State) (e : GatewayItem) → Sound s → May e → isFault (answered ((step s e) .0)) ≡ false
-faultless s (event i k) w m = came-faultless s i k (comes-to s w i k m)
+faultless s (event i k) w m = came-faultless s i k (comes-to s (sound-intact s w) i k m)
 faultless s (taking i b) w m = taking-fault s w i b
 
 pub stays-sound : (s : State) (es : List GatewayItem) → Sound s → Every May es → Sound (final step s es)

@@ -1,4 +1,4 @@
--- The gateway's states in a run: every item keeps them sound, and is told by its line's parts and the store.
+-- An event of an intact state, and so of every state of a run: it is told by its line's parts and the store.
 -- Assumes nothing.
 use mathlib.Core.Path.{_≡_, sym, ap, _∙_}
 use mathlib.Core.Logic.{_≢_}
@@ -21,13 +21,30 @@ use Rattle.looking.specs.declared.Verdict.{Verdict}
 use Rattle.gateway_laws.proofs.Found.{work-fits}
 use Rattle.gateway_laws.proofs.Others.{texts-other, frames-other}
 use Rattle.gateway_laws.proofs.View.{texts-own, frames-own}
-use Rattle.promises.specs.Machine.{State, onLine, afterEvent, step, Parts, partsOf, storeOf, onEvent, Sound, came}
+use Rattle.promises.specs.Machine.{State, onLine, afterEvent, step, Parts, partsOf, storeOf, Sound, came}
+use Rattle.promises.specs.Inner.ByParts.{onEvent}
+use Rattle.promises.specs.Sending.{Intact}
+
+-- every state that a run leaves is intact
+pub sound-intact : (s : State) → Sound s → Intact s
+sound-intact s w = record {
+  as-many = w .as-many;
+  within = w .within;
+  texts = w .texts;
+  frames = w .frames;
+  journal = w .held .long;
+  lines-used = w .held .lines-used;
+  lines-serials = w .held .lines-serials;
+  serials = w .held .serials;
+  entries = w .entries;
+  whole = w .held .whole;
+}
 
 same-parts : (p q : Parts) → p .line ≡ q .line → p .texts ≡ q .texts → p .frames ≡ q .frames → p ≡ q
 same-parts p q l t f = λ z. record { line = l z; texts = t z; frames = f z }
 
--- an event of a sound state is its work: 40 to 42 do not come
-module _ (s : State) (w : Sound s) (i : ℕ) (k : Kind) (h : i < lines) where
+-- an event of an intact state is its work: 40 to 42 do not come
+module _ (s : State) (w : Intact s) (i : ℕ) (k : Kind) (h : i < lines) where
   abbrev own : Line
   own = lineAt (s .gateway) i
 
@@ -45,7 +62,7 @@ module _ (s : State) (w : Sound s) (i : ℕ) (k : Kind) (h : i < lines) where
   event-is =
       rw (
         lt-ltb i lines h,
-        eq-eqb (length (s .memory .journal)) journalSize (w .held .long),
+        eq-eqb (length (s .memory .journal)) journalSize (w .journal),
         eq-eqb (length (s .memory .unfinished)) unfinishedSize (w .texts),
         eq-eqb (length (s .memory .frames)) framesSize (w .frames),
         w .within i h,

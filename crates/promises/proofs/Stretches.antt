@@ -14,20 +14,21 @@ use Rattle.looking.specs.declared.Kind.{Kind}
 use Rattle.serial.specs.Serial.{taking, annotate, serialize, count, Every, OrderOf, Lined, NothingElse, GoesAlike}
 use Rattle.serial.specs.Kept.{Rearranged}
 use Rattle.serial.proofs.Demand as serial
-use Rattle.promises.specs.Machine.{State, Response, GatewayItem, came, step, decides, Parts, partsOf, storeOf, onEvent, onTaking, Sound, May}
+use Rattle.promises.specs.Machine.{State, Response, GatewayItem, came, step, decides, Parts, partsOf, storeOf, Sound, May}
+use Rattle.promises.specs.Inner.ByParts.{onEvent, onTaking}
 use Rattle.promises.specs.Runs.{RightSizes, fresh}
-use Rattle.promises.specs.Came.{Came, quiet as passing, stored, crowded, against}
-use Rattle.promises.proofs.Sound.{event-answer, event-own, event-others, event-journal}
+use Rattle.promises.specs.Inner.Came.{Came, quiet as passing, stored, crowded, against}
+use Rattle.promises.proofs.Sound.{sound-intact, event-answer, event-own, event-others, event-journal}
 use Rattle.promises.proofs.Came.{comes-to}
 use Rattle.promises.proofs.Kept.{keeps, fresh-sound}
 
 -- an event that does not decide leaves the store, and would go the same at the store of any other state
 pub quiet : (s u : State) (w : Sound s) (i : ℕ) (k : Kind) (h : i < lines) → decides ((onEvent i (partsOf s i) k (storeOf s)) .0) ≡ false
     → onEvent i (partsOf s i) k (storeOf u) ≡ ((onEvent i (partsOf s i) k (storeOf s)) .0, (onEvent i (partsOf s i) k (storeOf s)) .1, storeOf u)
-quiet s u w i k h e = by-case (comes-to s w i k h)
+quiet s u w i k h e = by-case (comes-to s (sound-intact s w) i k h)
   where
     undecided : decides ((step s (came i k)) .0) ≡ false
-    undecided = ap decides (event-answer s w i k h) ∙ e
+    undecided = ap decides (event-answer s (sound-intact s w) i k h) ∙ e
 
     by-case : Came s i k → onEvent i (partsOf s i) k (storeOf u) ≡ ((onEvent i (partsOf s i) k (storeOf s)) .0, (onEvent i (partsOf s i) k (storeOf s)) .1, storeOf u)
     by-case (passing x) = x .anywhere (storeOf u)
@@ -53,10 +54,10 @@ pub lined : Lined partsOf storeOf onEvent onTaking decides lines step Sound May
 lined = record {
   keeps = keeps;
   on-line = λ i k m. m;
-  event-answer = λ s i k w m. event-answer s w i k m;
-  event-own = λ s i k w m. event-own s w i k m;
-  event-others = λ s i k w m l n. event-others s w i k m l n;
-  event-journal = λ s i k w m. event-journal s w i k m;
+  event-answer = λ s i k w m. event-answer s (sound-intact s w) i k m;
+  event-own = λ s i k w m. event-own s (sound-intact s w) i k m;
+  event-others = λ s i k w m l n. event-others s (sound-intact s w) i k m l n;
+  event-journal = λ s i k w m. event-journal s (sound-intact s w) i k m;
   taking-answer = λ s i b w m. taking-answer s i b;
   taking-lines = λ s i b w m l. taking-parts s i b l;
   taking-journal = λ s i b w m. taking-store s i b;

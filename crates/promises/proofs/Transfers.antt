@@ -34,21 +34,23 @@ use Rattle.looking.specs.declared.Kind.{Kind}
 use Rattle.looking.specs.declared.Kind.the-variants.{Byte}
 use Rattle.looking.proofs.Views.{own-parts}
 use Rattle.serial.specs.Serial.{final, Every}
-use Rattle.promises.specs.Machine.{State, Response, response, step, Parts, partsOf, storeOf, onEvent, Sound, May, came}
-use Rattle.promises.specs.Sending.{bytesOn, answersTo, replies, sending, sendingReplies, piecesOfAll, transfer, repliesToAll, transferReplies, newEntries, Messages, sizesOf, HasRoom, Intact, Delivers, Demand2, Usable}
-use Rattle.promises.proofs.Sound.{ready as is-ready, event-answer, event-own, event-others, event-journal}
+use Rattle.promises.specs.Machine.{State, Response, response, step, Parts, partsOf, storeOf, Sound, May, came}
+use Rattle.promises.specs.Inner.ByParts.{onEvent}
+use Rattle.promises.specs.Sending.{bytesOn, answersBy, replies, sending, sendingReplies, piecesOfAll, transfer, repliesToAll, transferReplies, newEntries, Messages, sizesOf, HasRoom, Intact, Delivers, Demand2, Usable}
+use Rattle.promises.proofs.Sound.{sound-intact, ready as is-ready, event-answer, event-own, event-others, event-journal}
 use Rattle.promises.proofs.Kept.{keeps}
 use Rattle.promises.proofs.Runs.{stays-sound}
 use Rattle.promises.proofs.Feeding.{feed, ready}
 use Rattle.promises.proofs.Delivered.{Open, Going}
 use Rattle.promises.proofs.Walk.{numberAfter, Delivered, walk}
-use Rattle.promises.proofs.Rooms.{room-first, room-then, storedAll, stored-append, room-before, room-after, messages-both, held-all, room-held, room-sound}
+use Rattle.promises.proofs.Every.{every-both}
+use Rattle.promises.proofs.Rooms.{room-first, room-then, storedAll, stored-append, room-before, room-after, held-all, room-held, room-sound}
 
 -- ---- bytes on one line
 
 -- they are told by the line's parts and the store, and leave the other lines
 record Fed (s : State) (i : ℕ) (bs : List ℕ) : Type 0 where
-  answers : answersTo s (bytesOn i bs) ≡ feed i (partsOf s i) (storeOf s) bs .0
+  answers : answersBy step s (bytesOn i bs) ≡ feed i (partsOf s i) (storeOf s) bs .0
   own : partsOf (final step s (bytesOn i bs)) i ≡ feed i (partsOf s i) (storeOf s) bs .1
   store : storeOf (final step s (bytesOn i bs)) ≡ feed i (partsOf s i) (storeOf s) bs .2
   others : (l : ℕ) → l ≢ i → partsOf (final step s (bytesOn i bs)) l ≡ partsOf s l
@@ -58,13 +60,14 @@ fed s i [] w h = record { answers = refl; own = refl; store = refl; others = λ 
 fed s i (b ∷ bs) w h =
     let k : Kind = Byte b in
     let r = fed ((step s (came i k)) .1) i bs (keeps s (came i k) w h) h in
-    let parts = event-own s w i k h in
-    let store = event-journal s w i k h in
+    let v = sound-intact s w in
+    let parts = event-own s v i k h in
+    let store = event-journal s v i k h in
     record {
-      answers = ap₂ (λ (t : Response) (ts : List Response). t ∷ ts) (event-answer s w i k h) (r .answers ∙ ap₂ (λ (p : Parts) (j : Store). feed i p j bs .0) parts store);
+      answers = ap₂ (λ (t : Response) (ts : List Response). t ∷ ts) (event-answer s v i k h) (r .answers ∙ ap₂ (λ (p : Parts) (j : Store). feed i p j bs .0) parts store);
       own = r .own ∙ ap₂ (λ (p : Parts) (j : Store). feed i p j bs .1) parts store;
       store = r .store ∙ ap₂ (λ (p : Parts) (j : Store). feed i p j bs .2) parts store;
-      others = λ l n. r .others l n ∙ event-others s w i k h l n;
+      others = λ l n. r .others l n ∙ event-others s v i k h l n;
     }
 
 pub bytes-may : (i : ℕ) → i < lines → (bs : List ℕ) → Every May (bytesOn i bs)
@@ -76,7 +79,7 @@ final-append s i [] cs = refl
 final-append s i (b ∷ bs) cs = final-append ((step s (came i (Byte b))) .1) i bs cs
 
 answers-append : (s : State) (i : ℕ) (bs cs : List ℕ)
-    → answersTo s (bytesOn i (bs ++ cs)) ≡ answersTo s (bytesOn i bs) ++ answersTo (final step s (bytesOn i bs)) (bytesOn i cs)
+    → answersBy step s (bytesOn i (bs ++ cs)) ≡ answersBy step s (bytesOn i bs) ++ answersBy step (final step s (bytesOn i bs)) (bytesOn i cs)
 answers-append s i [] cs = refl
 answers-append s i (b ∷ bs) cs =
     let r = step s (came i (Byte b)) in
@@ -84,7 +87,7 @@ answers-append s i (b ∷ bs) cs =
 
 -- what bytes come to: the answers, the texts stored, and the line's record then
 record Went (s : State) (i : ℕ) (bs : List ℕ) (ts : List Response) (ms : List (List ℕ)) (Line-then : Line → Type 0) : Type 0 where
-  answers : answersTo s (bytesOn i bs) ≡ ts
+  answers : answersBy step s (bytesOn i bs) ≡ ts
   store : storeOf (final step s (bytesOn i bs)) ≡ storedAll i ms (storeOf s)
   others : (l : ℕ) → l ≢ i → partsOf (final step s (bytesOn i bs)) l ≡ partsOf s l
   line : Line-then (lineAt (final step s (bytesOn i bs) .gateway) i)
@@ -162,7 +165,7 @@ module _ (limit : ℕ) (usable : Usable limit) (i : ℕ) (h : i < lines) where
     frames = partsOf s i .frames
 
     parts : Own own texts frames
-    parts = own-parts own i (s .memory .unfinished) (s .memory .frames) (is-ready s w i (Byte enq) h)
+    parts = own-parts own i (s .memory .unfinished) (s .memory .frames) (is-ready s (sound-intact s w) i (Byte enq) h)
 
     going : Going [] m number own texts frames
     going = record {
@@ -281,7 +284,7 @@ module _ (limit : ℕ) (usable : Usable limit) (i : ℕ) (h : i < lines) where
         ∙ room-after i ms ns (storeOf s) (a .lines-used) h room in
         let y = whole-transfer ns (final step s (bytesOn i (transfer limit ms))) (x .sound) (x .line) are′ room-left in
         delivers s (a .entries) (room-held s a i h (ms ++ ns) room) (transfer limit ms ++ transfer limit ns) (transferReplies limit ms ++ transferReplies limit ns) (ms ++ ns) _
-        (went-on s i (transfer limit ms) (transfer limit ns) (transferReplies limit ms) (transferReplies limit ns) ms ns _ _ x y) (messages-both ms ns are are′) room
+        (went-on s i (transfer limit ms) (transfer limit ns) (transferReplies limit ms) (transferReplies limit ns) ms ns _ _ x y) (every-both (λ (t : List ℕ). isMessage t ≡ true) ms ns are are′) room
 
 -- what hosts are promised: frames are cut within the line's own limit
 own-limit : Usable frameLimit

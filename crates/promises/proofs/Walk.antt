@@ -33,8 +33,9 @@ use Rattle.looking.specs.declared.Verdict.{Verdict}
 use Rattle.looking.specs.declared.Verdict.the-variants.{Stores}
 use Rattle.looking.specs.declared.Look.{Look}
 use Rattle.looking.specs.declared.Look.the-variants.{Decides}
-use Rattle.promises.specs.Machine.{Response, response, Parts, left}
-use Rattle.promises.specs.Came.{storedIn}
+use Rattle.promises.specs.Machine.{Response, response, Parts}
+use Rattle.promises.specs.Inner.ByParts.{left}
+use Rattle.promises.specs.Inner.Came.{storedIn}
 use Rattle.promises.specs.Sending.{lastAnswer, replies, Usable}
 use Rattle.promises.proofs.Looked.{look-on, look-last}
 use Rattle.promises.proofs.Feeding.{feed, feed-append, ended, unanswered, inside, ready, own-text, last}

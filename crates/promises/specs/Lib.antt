@@ -1,7 +1,9 @@
 pub mod Machine
 pub mod Runs
-pub mod Came
+pub mod Exactly
 pub mod Queue
+pub mod OnlyMessages
 pub mod Freed
 pub mod Sending
 pub mod Examples
+pub mod Inner

@@ -9,25 +9,18 @@ use lib.ListN.{length}
 use Rattle.memory.specs.Sizes.{lines, unfinishedSize, framesSize}
 use Rattle.header.specs.Entry.{Entry}
 use Rattle.room.specs.Room.{todaysShares}
-use Rattle.journal.specs.Removal.{takeOf as takeEntry}
 use Rattle.journal_laws.specs.Held.{Held}
 use Rattle.journal_laws.specs.Runs.{State as Store}
 use Rattle.line.specs.Line.{withinLimits}
 use Rattle.line.specs.declared.Line.{Line}
 use Rattle.answers.specs.declared.Answer.{Answer}
-use Rattle.looking.specs.Views.{framesOf, textsOf, joinedText}
-use Rattle.receiving.specs.Verdicts.{ownWork}
-use Rattle.looking.specs.Answers.{answerOf}
-use Rattle.receiving.specs.Settled.{lineAfter, ledgerAfter, journalAfter}
+use Rattle.looking.specs.Views.{framesOf, textsOf}
 use Rattle.receiving.specs.Steps.{Memory, memoryOf}
 use Rattle.gateway.specs.Events.{AfterEvent, AfterTake, lineAt, eventOf, takeOf}
-use Rattle.taking.specs.Taking.{tookAnswer}
 use Rattle.looking.specs.declared.Event.{Event}
 use Rattle.gateway.specs.declared.Gateway.{Gateway}
 use Rattle.looking.specs.declared.Kind.{Kind}
-use Rattle.looking.specs.declared.Verdict.{Verdict}
 use Rattle.gateway_laws.specs.Classes.{Class, classOf, quiet, opening, closing, refusing, accepting, storing, against, taking as gives}
-use Rattle.gateway_laws.specs.Own.{ownFrames, ownTexts}
 use Rattle.serial.specs.Serial.{Item, event, taking}
 
 pub record State : Type 0 where
@@ -89,26 +82,6 @@ partsOf s i = record { line = lineAt (s .gateway) i; texts = textsOf i (s .memor
 -- what all lines share: the ledger and the journal
 abbrev pub storeOf : State → Store
 storeOf s = record { ledger = s .gateway .ledger; journal = s .memory .journal }
-
--- an event by its line's parts and the store alone
-abbrev pub left : Verdict → ℕ → Parts → Kind → Store → Response × Parts × Store
-left v i p k j = (
-  response (answerOf v) [],
-  record { line = lineAfter v (p .line); texts = ownTexts v (p .line) (p .texts) (p .frames); frames = ownFrames v k (p .line) (p .frames) },
-  record {
-    ledger = ledgerAfter v (j .ledger) i (λ n. joinedText (p .line) n (p .texts) (p .frames));
-    journal = journalAfter v (j .ledger) i (λ n. joinedText (p .line) n (p .texts) (p .frames)) (j .journal);
-  },
-)
-
-abbrev pub onEvent : ℕ → Parts → Kind → Store → Response × Parts × Store
-onEvent i p k j = left (ownWork todaysShares (p .line) (j .ledger) i k (j .journal) (p .texts) (p .frames)) i p k j
-
--- a taking by the store alone
-abbrev pub onTaking : ℕ → List ℕ → Store → Response × Store
-onTaking i b j =
-    let r = takeEntry (j .ledger) i (j .journal) b in
-    (response (tookAnswer (r .taking .answer)) (r .buffer), record { ledger = r .taking .ledger; journal = r .journal })
 
 -- what holds of every state of a run: eight records within their limits, memory of the right sizes, and a journal that is whole and keeps every share
 pub record Sound (s : State) : Type 0 where

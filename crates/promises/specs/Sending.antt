@@ -41,9 +41,6 @@ Runner = State → GatewayItem → Response × State
 abbrev pub answersBy : Runner → State → List GatewayItem → List Response
 answersBy f s es = map (λ (x : GatewayItem × Response). x .1) (annotate f s es)
 
-abbrev pub answersTo : State → List GatewayItem → List Response
-answersTo s es = answersBy step s es
-
 -- 0 to each byte of a frame but its last; to that 2, and 4 where no frame of the message follows
 abbrev pub lastAnswer : List Piece → Answer
 lastAnswer [] = Stored
@@ -127,5 +124,8 @@ Demand2 f =
 
 -- a taking from line i into the buffer b gives the text m with this serial: both its length and the serial are answered, it stands at the start of the buffer,
 -- and the buffer's rest stays
+abbrev pub GivesBackBy : Runner → State → ℕ → List ℕ → ℕ → List ℕ → Type 0
+GivesBackBy f s i b serial m = (f s (taking i b)) .0 ≡ response (Taken (length m) serial) (splice b 0 m)
+
 abbrev pub GivesBack : State → ℕ → List ℕ → ℕ → List ℕ → Type 0
-GivesBack s i b serial m = (step s (taking i b)) .0 ≡ response (Taken (length m) serial) (splice b 0 m)
+GivesBack s i b serial m = GivesBackBy step s i b serial m

@@ -169,13 +169,17 @@ fn fields(d: Delimiters, kind: u8, rec: &[u8]) {
 // The named fields of a result record.
 fn result(d: Delimiters, rec: &[u8]) {
     io::write_all(1, b"    ");
-    part(component::result_field(d, rec, ResultField::Test));
-    part(component::result_field(d, rec, ResultField::Value));
-    part(component::result_field(d, rec, ResultField::Units));
-    part(component::result_field(d, rec, ResultField::Flag));
-    part(component::result_field(d, rec, ResultField::Status));
-    part(component::result_field(d, rec, ResultField::Completion));
+    named(d, rec, ResultField::Test);
+    named(d, rec, ResultField::Value);
+    named(d, rec, ResultField::Units);
+    named(d, rec, ResultField::Flag);
+    named(d, rec, ResultField::Status);
+    named(d, rec, ResultField::Completion);
     end_of_line();
+}
+
+fn named(d: Delimiters, rec: &[u8], field: ResultField) {
+    part(component::result_field(d, rec, field));
 }
 
 fn part(bytes: &[u8]) {

@@ -5,65 +5,45 @@ use lib.Seq.{length-take-le}
 use borrow.Author.Needs.{needs}
 use Rattle.record_vectors.proofs.case.Statement.{statement}
 use Rattle.record_vectors.proofs.case.Tie as tie
-use Rattle.record_vectors.proofs.case.Reads as reads
-use Rattle.record_vectors.proofs.case.Lts as lts
-use Rattle.component.proofs.field_of.Reads as field-of-reads
-use Rattle.io.proofs.write_all.Reads as write-all-reads
-use Rattle.record_vectors.proofs.decode.from_hex.Reads as from-hex-reads
-use Rattle.record_vectors.proofs.listing.show.Reads as show-reads
-use Rattle.record_vectors.proofs.spaces.Reads as spaces-reads
 
--- src/main.rt:29:9
 spaces-requires : tie.Need-spaces-requires
 spaces-requires c κs = search needs
 
--- src/main.rt:30:9
 field-of-requires : tie.Need-field-of-requires
 field-of-requires c κs = search needs
 
--- src/main.rt:31:9
 field-of-requires-2 : tie.Need-field-of-requires-2
 field-of-requires-2 c κs = search needs
 
--- src/main.rt:32:9
 field-of-requires-3 : tie.Need-field-of-requires-3
 field-of-requires-3 c κs = search needs
 
--- src/main.rt:33:5
 write-all-requires : tie.Need-write-all-requires
 write-all-requires c κs = search needs
 
--- src/main.rt:35:9
 returns : tie.Need-returns
 returns c = search needs
 
--- src/main.rt:38:35
 slice-aggregate-from-hex : tie.Need-slice-aggregate-from-hex
 slice-aggregate-from-hex c = search needs
 
--- src/main.rt:38:9
 from-hex-requires : tie.Need-from-hex-requires
 from-hex-requires c κs = search needs
 
--- src/main.rt:39:19
 shared-slice-read-show : tie.Need-shared-slice-read-show
 shared-slice-read-show c = search needs
 
--- src/main.rt:39:28
 array-share-prefix-text : tie.Need-array-share-prefix-text
 array-share-prefix-text c = search needs
 
--- src/main.rt:39:28
 slice-aggregate-show : tie.Need-slice-aggregate-show
 slice-aggregate-show c =
     let f = c .before .before .before in
     sym (length-take-le (f .from-hex .result) (f .from-hex .last .1 .0) (f .from-hex .ensures))
 
--- src/main.rt:39:5
 show-requires : tie.Need-show-requires
 show-requires c κs = search needs
 
--- src/main.rt:28:1
 returns-2 : tie.Need-returns-2
 returns-2 c = search needs
 

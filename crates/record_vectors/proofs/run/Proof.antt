@@ -7,10 +7,6 @@ use lib.ListN.{length}
 use Rattle.records.proofs.Scans.{tailAt, cut-length, tail-within}
 use Rattle.record_vectors.proofs.run.Statement.{statement}
 use Rattle.record_vectors.proofs.run.Tie as tie
-use Rattle.record_vectors.proofs.run.Reads as reads
-use Rattle.record_vectors.proofs.run.Lts as lts
-use Rattle.records.proofs.index_of.Reads as index-of-reads
-use Rattle.record_vectors.proofs.case.Reads as case-reads
 
 abbrev Inv-loop : tie.InvT-loop
 Inv-loop input at₀ at = at ≤ length input + 1
@@ -18,51 +14,39 @@ Inv-loop input at₀ at = at ≤ length input + 1
 abbrev μ-loop : tie.MeasureT-loop
 μ-loop input at₀ at = length input + 1 - at
 
--- src/main.rt:19:5
 loop-holds : tie.Need-loop-holds Inv-loop μ-loop
 loop-holds c = omega arith
 
--- src/main.rt:20:20
 sub-rest : tie.Need-sub-rest Inv-loop μ-loop
 sub-rest c = search needs
 
--- src/main.rt:20:20
 part-rest-start : tie.Need-part-rest-start Inv-loop μ-loop
 part-rest-start c = search needs
 
--- src/main.rt:20:20
 part-rest-end : tie.Need-part-rest-end Inv-loop μ-loop
 part-rest-end c = search needs
 
--- src/main.rt:21:13
 index-of-requires : tie.Need-index-of-requires Inv-loop μ-loop
 index-of-requires c κs = search needs
 
--- src/main.rt:22:14
 slice-aggregate-case : tie.Need-slice-aggregate-case Inv-loop μ-loop
 slice-aggregate-case c = let l = c .before .before .before .before in cut-length 0x0a (tailAt (l .before .before .args .input .now) (l .loop .at)) _ (c .before .index-of .ensures)
 
--- src/main.rt:22:9
 case-requires : tie.Need-case-requires Inv-loop μ-loop
 case-requires c κs = search needs
 
--- src/main.rt:23:20
 add-at : tie.Need-add-at Inv-loop μ-loop
 add-at c = let f = c .before .before in let l = f .before .before .before in omega (arith, tail-within 0x0a (l .before .before .args .input .now) (l .loop .at) (f .index-of .result) (omega arith) (f .index-of .ensures), l .before .before .good)
 
--- src/main.rt:23:14
 add-at-2 : tie.Need-add-at-2 Inv-loop μ-loop
 add-at-2 c = let f = c .before .before in let l = f .before .before .before in omega (arith, tail-within 0x0a (l .before .before .args .input .now) (l .loop .at) (f .index-of .result) (omega arith) (f .index-of .ensures), l .before .before .good)
 
--- src/main.rt:19:5
 loop-less : tie.Need-loop-less Inv-loop μ-loop
 loop-less c = omega arith
 
--- src/main.rt:19:5
 loop-again : tie.Need-loop-again Inv-loop μ-loop
 loop-again c = let f = c .before .before in let l = f .before .before .before in omega (arith, tail-within 0x0a (l .before .before .args .input .now) (l .loop .at) (f .index-of .result) (omega arith) (f .index-of .ensures))
 
--- src/main.rt:17:1
 returns : tie.Need-returns Inv-loop μ-loop
 returns c = search needs
 

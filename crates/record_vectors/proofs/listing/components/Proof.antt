@@ -9,12 +9,6 @@ use Rattle.memory.specs.Tests.{isOneOf}
 use Rattle.component.specs.Component.{stopsOf}
 use Rattle.record_vectors.proofs.listing.components.Statement.{statement}
 use Rattle.record_vectors.proofs.listing.components.Tie as tie
-use Rattle.record_vectors.proofs.listing.components.Reads as reads
-use Rattle.record_vectors.proofs.listing.components.Lts as lts
-use Rattle.component.proofs.component_end.Reads as component-end-reads
-use Rattle.kinds.proofs.Delimiters.standard.Reads as standard-reads
-use Rattle.record_vectors.proofs.listing.end_of_line.Reads as end-of-line-reads
-use Rattle.record_vectors.proofs.listing.number.Reads as number-reads
 
 abbrev Inv-loop : tie.InvT-loop
 Inv-loop text d at₀ at = at ≤ length text + 1
@@ -30,39 +24,30 @@ within c =
     let d = l .before .standard .result in
     omega (arith, find-le (isOneOf (stopsOf d)) (drop (l .loop .at) s), length-drop (l .loop .at) s, c .before .component-end .ensures)
 
--- src/listing.rt:228:9
 standard-requires : tie.Need-standard-requires Inv-loop μ-loop
 standard-requires c κs = search needs
 
--- src/listing.rt:230:5
 loop-holds : tie.Need-loop-holds Inv-loop μ-loop
 loop-holds c = omega arith
 
--- src/listing.rt:231:13
 component-end-requires : tie.Need-component-end-requires Inv-loop μ-loop
 component-end-requires c κs = search needs
 
--- src/listing.rt:232:9
 number-requires : tie.Need-number-requires Inv-loop μ-loop
 number-requires c κs = search needs
 
--- src/listing.rt:233:14
 add-at : tie.Need-add-at Inv-loop μ-loop
 add-at c = omega (arith, within c)
 
--- src/listing.rt:230:5
 loop-less : tie.Need-loop-less Inv-loop μ-loop
 loop-less c = omega (arith, within c, c .before .component-end .ensures)
 
--- src/listing.rt:230:5
 loop-again : tie.Need-loop-again Inv-loop μ-loop
 loop-again c = omega (arith, within c)
 
--- src/listing.rt:235:5
 end-of-line-requires : tie.Need-end-of-line-requires Inv-loop μ-loop
 end-of-line-requires c κs = search needs
 
--- src/listing.rt:227:1
 returns : tie.Need-returns Inv-loop μ-loop
 returns c = search needs
 

@@ -12,11 +12,6 @@ use Rattle.records.proofs.Front.{count-front}
 use Rattle.owner.proofs.RowSteps.{one-more}
 use Rattle.record_vectors.proofs.listing.list.Statement.{statement}
 use Rattle.record_vectors.proofs.listing.list.Tie as tie
-use Rattle.record_vectors.proofs.listing.list.Reads as reads
-use Rattle.record_vectors.proofs.listing.list.Lts as lts
-use Rattle.records.proofs.index_of.Reads as index-of-reads
-use Rattle.record_vectors.proofs.listing.fields.Reads as fields-reads
-use Rattle.record_vectors.proofs.listing.row.Reads as row-reads
 
 abbrev Inv-loop : tie.InvT-loop
 Inv-loop d text types offsets lengths owners at₀ i₀ at i = (at ≤ length text + 1) × (i + length (records (drop at text)) ≡ length (records text))
@@ -35,94 +30,72 @@ within c =
     let l = c .before .before .before in
     tail-within cr (l .before .before .args .text .now) (l .loop .at) (c .index-of .result) (omega arith) (c .index-of .ensures)
 
--- src/listing.rt:116:5
 loop-holds : tie.Need-loop-holds Inv-loop μ-loop
 loop-holds c = (omega arith, omega arith)
 
--- src/listing.rt:117:20
 sub-tail : tie.Need-sub-tail Inv-loop μ-loop
 sub-tail c = search needs
 
--- src/listing.rt:117:20
 part-tail-start : tie.Need-part-tail-start Inv-loop μ-loop
 part-tail-start c = search needs
 
--- src/listing.rt:117:20
 part-tail-end : tie.Need-part-tail-end Inv-loop μ-loop
 part-tail-end c = search needs
 
--- src/listing.rt:118:13
 index-of-requires : tie.Need-index-of-requires Inv-loop μ-loop
 index-of-requires c κs = search needs
 
--- src/listing.rt:119:16
 element-copy-out-row : tie.Need-element-copy-out-row Inv-loop μ-loop
 element-copy-out-row c = omega (arith, room c, c .before .before .before .before .before .pre)
 
--- src/listing.rt:119:26
 mul-row : tie.Need-mul-row Inv-loop μ-loop
 mul-row c = omega (arith, room (c .before), c .before .before .before .before .before .before .pre)
 
--- src/listing.rt:119:26
 element-copy-out-row-2 : tie.Need-element-copy-out-row-2 Inv-loop μ-loop
 element-copy-out-row-2 c = omega (arith, room (c .before), c .before .before .before .before .before .before .pre)
 
--- src/listing.rt:119:38
 mul-row-2 : tie.Need-mul-row-2 Inv-loop μ-loop
 mul-row-2 c = omega (arith, room (c .before .before), c .before .before .before .before .before .before .before .pre)
 
--- src/listing.rt:119:38
 element-copy-out-row-3 : tie.Need-element-copy-out-row-3 Inv-loop μ-loop
 element-copy-out-row-3 c = omega (arith, room (c .before .before), c .before .before .before .before .before .before .before .pre)
 
--- src/listing.rt:119:50
 mul-row-3 : tie.Need-mul-row-3 Inv-loop μ-loop
 mul-row-3 c = omega (arith, room (c .before .before .before), c .before .before .before .before .before .before .before .before .pre)
 
--- src/listing.rt:119:50
 element-copy-out-row-4 : tie.Need-element-copy-out-row-4 Inv-loop μ-loop
 element-copy-out-row-4 c = omega (arith, room (c .before .before .before), c .before .before .before .before .before .before .before .before .pre)
 
--- src/listing.rt:119:9
 row-requires : tie.Need-row-requires Inv-loop μ-loop
 row-requires c κs = omega (arith, room (c .before .before .before .before), c .before .before .before .before .before .before .before .before .before .pre)
 
--- src/listing.rt:120:19
 element-copy-out-fields : tie.Need-element-copy-out-fields Inv-loop μ-loop
 element-copy-out-fields c = omega (arith, room (c .before .before .before .before .before), c .before .before .before .before .before .before .before .before .before .before .pre)
 
--- src/listing.rt:120:29
 slice-aggregate-fields : tie.Need-slice-aggregate-fields Inv-loop μ-loop
 slice-aggregate-fields c = let f = c .before .before .before .before .before .before .before in let l = f .before .before .before in cut-length cr (tailAt (l .before .before .args .text .now) (l .loop .at)) _ (f .index-of .ensures)
 
--- src/listing.rt:120:9
 fields-requires : tie.Need-fields-requires Inv-loop μ-loop
 fields-requires c κs = search needs
 
--- src/listing.rt:121:20
 add-at : tie.Need-add-at Inv-loop μ-loop
 add-at c = let f = c .before .before .before .before .before .before .before .before in omega (arith, within f, f .before .before .before .before .before .good)
 
--- src/listing.rt:121:14
 add-at-2 : tie.Need-add-at-2 Inv-loop μ-loop
 add-at-2 c = let f = c .before .before .before .before .before .before .before .before in omega (arith, within f, f .before .before .before .before .before .good)
 
--- src/listing.rt:122:9
 add-i : tie.Need-add-i Inv-loop μ-loop
 add-i c = let f = c .before .before .before .before .before .before .before .before in omega (arith, room f, f .before .before .before .before .before .pre)
 
--- src/listing.rt:116:5
 loop-less : tie.Need-loop-less Inv-loop μ-loop
 loop-less c = let f = c .before .before .before .before .before .before .before .before in omega (arith, within f)
 
--- src/listing.rt:116:5
 loop-again : tie.Need-loop-again Inv-loop μ-loop
 loop-again c = let f = c .before .before .before .before .before .before .before .before in let l = f .before .before .before in (
   omega (arith, within f),
   count-front (l .before .before .args .text .now) (l .loop .at) (f .index-of .result) (l .loop .i) _ (omega arith) (f .index-of .ensures) (l .loop .inv .1),
 )
 
--- src/listing.rt:104:1
 returns : tie.Need-returns Inv-loop μ-loop
 returns c = search needs
 

@@ -5,69 +5,49 @@ use Rattle.owner.proofs.Answers.{read-fits}
 use borrow.Author.Needs.{needs}
 use Rattle.record_vectors.proofs.listing.rows.Statement.{statement}
 use Rattle.record_vectors.proofs.listing.rows.Tie as tie
-use Rattle.record_vectors.proofs.listing.rows.Reads as reads
-use Rattle.record_vectors.proofs.listing.rows.Lts as lts
-use Rattle.owner.proofs.read.Reads as read-reads
-use Rattle.record_vectors.proofs.listing.line_end.Reads as line-end-reads
-use Rattle.record_vectors.proofs.listing.list.Reads as list-reads
 
--- src/listing.rt:98:34
 slice-aggregate-read : tie.Need-slice-aggregate-read
 slice-aggregate-read c = search needs
 
--- src/listing.rt:98:46
 slice-aggregate-read-2 : tie.Need-slice-aggregate-read-2
 slice-aggregate-read-2 c = search needs
 
--- src/listing.rt:98:60
 slice-aggregate-read-3 : tie.Need-slice-aggregate-read-3
 slice-aggregate-read-3 c = search needs
 
--- src/listing.rt:98:74
 slice-aggregate-read-4 : tie.Need-slice-aggregate-read-4
 slice-aggregate-read-4 c = search needs
 
--- src/listing.rt:98:9
 read-requires : tie.Need-read-requires
 read-requires c κs = search needs
 
--- src/listing.rt:100:23
 enum-known-r : tie.Need-enum-known-r
 enum-known-r c = search needs
 
--- src/listing.rt:101:13
 line-end-requires : tie.Need-line-end-requires
 line-end-requires c κs = search needs
 
--- src/listing.rt:102:13
 list-requires : tie.Need-list-requires
 list-requires c κs = let r = c .before .before .before .before .before .before in let a = r .before .before .before .before .before .before in let t = a .before .before .before .before .before .before .args in let (p, q, s, u) = read-fits (t .d) (t .text .now) _ _ _ _ _ (sym (a .read .ensures .answer) ∙ r .r .given .1) in p
 
--- src/listing.rt:104:31
 enum-told : tie.Need-enum-told
 enum-told c = search needs
 
--- src/listing.rt:104:31
 line-end-requires-2 : tie.Need-line-end-requires-2
 line-end-requires-2 c κs = search needs
 
--- src/listing.rt:105:27
 enum-told-2 : tie.Need-enum-told-2
 enum-told-2 c = search needs
 
--- src/listing.rt:105:27
 line-end-requires-3 : tie.Need-line-end-requires-3
 line-end-requires-3 c κs = search needs
 
--- src/listing.rt:93:1
 returns : tie.Need-returns
 returns c = search needs
 
--- src/listing.rt:93:1
 returns-2 : tie.Need-returns-2
 returns-2 c = search needs
 
--- src/listing.rt:93:1
 returns-3 : tie.Need-returns-3
 returns-3 c = search needs
 

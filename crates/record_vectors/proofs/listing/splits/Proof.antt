@@ -8,8 +8,6 @@ use lib.ListN.{length}
 use lib.Seq.{length-take-le}
 use Rattle.record_vectors.proofs.listing.splits.Statement.{statement}
 use Rattle.record_vectors.proofs.listing.splits.Tie as tie
-use Rattle.record_vectors.proofs.listing.splits.Reads as reads
-use Rattle.record_vectors.proofs.listing.splits.Lts as lts
 
 abbrev Inv-loop : tie.InvT-loop
 Inv-loop text n₀ k₀ n k = (n ≤ k) × (k ≤ length text)
@@ -17,55 +15,42 @@ Inv-loop text n₀ k₀ n k = (n ≤ k) × (k ≤ length text)
 abbrev μ-loop : tie.MeasureT-loop
 μ-loop text n₀ k₀ n k = length text - k
 
--- src/listing.rt:82:5
 loop-holds : tie.Need-loop-holds Inv-loop μ-loop
 loop-holds c = (omega arith, omega arith)
 
--- src/listing.rt:83:47
 slice-aggregate-ends-with-l : tie.Need-slice-aggregate-ends-with-l Inv-loop μ-loop
 slice-aggregate-ends-with-l c = let l = c .before .before in sym (length-take-le (l .loop .k) (l .before .before .args .text .now) (omega arith))
 
--- src/listing.rt:83:59
 sub-ends-with-l : tie.Need-sub-ends-with-l Inv-loop μ-loop
 sub-ends-with-l c = search needs
 
--- src/listing.rt:83:59
 part-ends-with-l-start : tie.Need-part-ends-with-l-start Inv-loop μ-loop
 part-ends-with-l-start c = search needs
 
--- src/listing.rt:83:59
 part-ends-with-l-end : tie.Need-part-ends-with-l-end Inv-loop μ-loop
 part-ends-with-l-end c = search needs
 
--- src/listing.rt:83:13
 ends-with-l-requires : tie.Need-ends-with-l-requires Inv-loop μ-loop
 ends-with-l-requires c κs = search needs
 
--- src/listing.rt:84:9
 add-k : tie.Need-add-k Inv-loop μ-loop
 add-k c = search needs
 
--- src/listing.rt:86:13
 add-n : tie.Need-add-n Inv-loop μ-loop
 add-n c = search needs
 
--- src/listing.rt:82:5
 loop-less : tie.Need-loop-less Inv-loop μ-loop
 loop-less c = search needs
 
--- src/listing.rt:82:5
 loop-again : tie.Need-loop-again Inv-loop μ-loop
 loop-again c = (omega arith, omega arith)
 
--- src/listing.rt:82:5
 loop-less-2 : tie.Need-loop-less-2 Inv-loop μ-loop
 loop-less-2 c = search needs
 
--- src/listing.rt:82:5
 loop-again-2 : tie.Need-loop-again-2 Inv-loop μ-loop
 loop-again-2 c = (omega arith, omega arith)
 
--- src/listing.rt:79:1
 returns : tie.Need-returns Inv-loop μ-loop
 returns c = search needs
 

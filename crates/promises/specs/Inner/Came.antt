@@ -9,9 +9,11 @@ use lib.ListN.{length}
 use Rattle.faults.specs.Faults.{isMessage}
 use Rattle.journal.specs.Storage.{grown, appended}
 use Rattle.journal_laws.specs.Runs.{State as Store}
-use Rattle.answers.specs.Paper.{isObjection}
+use Rattle.answers.specs.Paper.{numberOf}
+use Rattle.receiving.specs.Verdicts.{objectionTo}
 use Rattle.looking.specs.declared.Kind.{Kind}
-use Rattle.promises.specs.Machine.{State, Response, step, decides, partsOf, storeOf, onEvent, came}
+use Rattle.promises.specs.Machine.{State, Response, step, decides, partsOf, storeOf, came}
+use Rattle.promises.specs.Inner.ByParts.{onEvent}
 use Rattle.promises.specs.Runs.{answered, isFault, offered, hasSpace}
 
 -- a text stored on line i, behind what the journal holds
@@ -45,4 +47,4 @@ module _ (s : State) (i : ℕ) (k : Kind) where
     quiet : Passes → Came
     stored : (t : List ℕ) → isMessage t ≡ true → hasSpace s i (length t) ≡ true → Settles t (λ n. n ≡ 4) (storedIn i t (storeOf s)) → Came
     crowded : (t : List ℕ) → isMessage t ≡ true → hasSpace s i (length t) ≡ false → Settles t (λ n. n ≡ 31) (storeOf s) → Came
-    against : (t : List ℕ) → isMessage t ≡ false → Settles t (λ n. isObjection n ≡ true) (storeOf s) → Came
+    against : (t : List ℕ) → isMessage t ≡ false → Settles t (λ n. n ≡ numberOf (objectionTo t)) (storeOf s) → Came

@@ -1,0 +1,36 @@
+-- An event by its line's parts and the store alone, and a taking by the store alone: what the proof of stretches asks of a machine with lines.
+-- Assumes nothing.
+use Prim.Native.Nat.{ℕ}
+use mathlib.Core.List.{List, []}
+use Rattle.room.specs.Room.{todaysShares}
+use Rattle.journal.specs.Removal.{takeOf as takeEntry}
+use Rattle.journal_laws.specs.Runs.{State as Store}
+use Rattle.looking.specs.Views.{joinedText}
+use Rattle.receiving.specs.Verdicts.{ownWork}
+use Rattle.looking.specs.Answers.{answerOf}
+use Rattle.receiving.specs.Settled.{lineAfter, ledgerAfter, journalAfter}
+use Rattle.taking.specs.Taking.{tookAnswer}
+use Rattle.looking.specs.declared.Kind.{Kind}
+use Rattle.looking.specs.declared.Verdict.{Verdict}
+use Rattle.gateway_laws.specs.Own.{ownFrames, ownTexts}
+use Rattle.promises.specs.Machine.{Response, response, Parts}
+
+-- an event by its line's parts and the store alone
+abbrev pub left : Verdict → ℕ → Parts → Kind → Store → Response × Parts × Store
+left v i p k j = (
+  response (answerOf v) [],
+  record { line = lineAfter v (p .line); texts = ownTexts v (p .line) (p .texts) (p .frames); frames = ownFrames v k (p .line) (p .frames) },
+  record {
+    ledger = ledgerAfter v (j .ledger) i (λ n. joinedText (p .line) n (p .texts) (p .frames));
+    journal = journalAfter v (j .ledger) i (λ n. joinedText (p .line) n (p .texts) (p .frames)) (j .journal);
+  },
+)
+
+abbrev pub onEvent : ℕ → Parts → Kind → Store → Response × Parts × Store
+onEvent i p k j = left (ownWork todaysShares (p .line) (j .ledger) i k (j .journal) (p .texts) (p .frames)) i p k j
+
+-- a taking by the store alone
+abbrev pub onTaking : ℕ → List ℕ → Store → Response × Store
+onTaking i b j =
+    let r = takeEntry (j .ledger) i (j .journal) b in
+    (response (tookAnswer (r .taking .answer)) (r .buffer), record { ledger = r .taking .ledger; journal = r .journal })
