@@ -1,12 +1,15 @@
 -- All that is claimed is kept: each field by the theorem behind it.
 -- Assumes nothing.
 use Rattle.ngachodui_laws.specs.Demands.{Demands}
-use Rattle.ngachodui_laws.proofs.HostRuns.{end-in-order, host-never-faulty, host-always-sound}
+use Rattle.ngachodui_laws.proofs.HostRuns.{host-never-faulty}
+use Rattle.ngachodui_laws.proofs.Sound.{always-sound}
 use Rattle.ngachodui_laws.proofs.Outcomes.{one-outcome, the-outcome, fresh-outcome, refused-leaves, buffer-left, ignored-is-left, others-kept}
+use Rattle.ngachodui_laws.proofs.Deciding.{decided-exactly}
 use Rattle.ngachodui_laws.proofs.Sending.{sent, given-back}
 use Rattle.ngachodui_laws.proofs.Stretches.{stretches, stretches-met, stretches-all}
 use Rattle.ngachodui_laws.proofs.Rooms.{share-kept, no-space, space, freed-own, freed-others, alone-refused, alone-stored, acknowledged-stored, only-4-stores}
-use Rattle.ngachodui_laws.proofs.Queue.{nothing-lost}
+use Rattle.ngachodui_laws.proofs.Queue.{nothing-lost, only-messages}
+use Rattle.ngachodui_laws.proofs.Texts.{cut-whole, read-never-refused}
 
 pub kept : Demands
 kept = record {
@@ -14,11 +17,13 @@ kept = record {
   the-outcome = the-outcome;
   fresh-outcome = fresh-outcome;
   never-faulty = host-never-faulty;
-  always-sound = λ r. (end-in-order r, host-always-sound r);
+  always-sound = always-sound;
   refusal-leaves = refused-leaves;
   buffer-left = buffer-left;
   ignored-leaves = ignored-is-left;
   others-kept = others-kept;
+  decided-exactly = decided-exactly;
+  cut-whole = cut-whole;
   sent = sent;
   given-back = given-back;
   stretches = stretches;
@@ -34,4 +39,6 @@ kept = record {
   acknowledged-stored = acknowledged-stored;
   only-4-stores = only-4-stores;
   nothing-lost = nothing-lost;
+  only-messages = only-messages;
+  read-never-refused = read-never-refused;
 }

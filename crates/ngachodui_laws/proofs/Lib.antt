@@ -4,10 +4,13 @@ pub mod PutBack
 pub mod Hosts
 pub mod Refusals
 pub mod HostRuns
+pub mod Sound
 pub mod Determined
 pub mod Outcomes
+pub mod Deciding
 pub mod Stretches
 pub mod Queue
 pub mod Sending
+pub mod Texts
 pub mod Rooms
 pub mod Demands

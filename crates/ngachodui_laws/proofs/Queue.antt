@@ -1,8 +1,9 @@
 -- What goes in and comes out on a line, as a host sees it, is what does in the gateway: nothing is lost, and nothing comes twice.
 -- Assumes nothing.
-use mathlib.Core.Path.{_≡_, refl, sym, ap, ap₂, _∙_}
+use mathlib.Core.Path.{_≡_, refl, sym, ap, ap₂, subst, _∙_}
 use mathlib.Core.Bool.{Bool, true, false, cond, not, _&&_}
 use mathlib.Core.List.{List, [], _∷_, _++_, map}
+use mathlib.Core.Option.{some}
 use Prim.Native.Nat.{ℕ}
 use lib.Dec.{eqb}
 use lib.ListN.{getD, take}
@@ -11,16 +12,19 @@ use Rattle.room.specs.Room.{todaysShares}
 use Rattle.answers.specs.Paper.{numberOf, valuesOf}
 use Rattle.answers.specs.declared.Answer.{Answer}
 use Rattle.answers.proofs.Paper.{every-answer}
+use Rattle.faults.specs.Faults.{isMessage}
+use Rattle.journal.specs.Chain.{chain}
 use Rattle.journal_laws.specs.Held.{Held}
 use Rattle.journal_laws.specs.Runs.{Numbered, numbered, waiting}
-use Rattle.serial.specs.Serial.{event, taking, annotate}
+use Rattle.serial.specs.Serial.{event, taking, annotate, Every}
 use Rattle.promises.specs.Machine.{State, Response, GatewayItem, came, step}
 use Rattle.promises.specs.Runs.{fresh}
 use Rattle.promises.specs.Queue.{completed, gaveBy, gave}
 use Rattle.promises.specs.Queue as there
 use Rattle.promises.proofs.Queue as gateway
+use Rattle.promises.proofs.OnlyMessages as messages
 use Rattle.ngachodui_laws.specs.HostRuns.{HostState, gatewayState, InOrder, freshHost, HostResponse, hostStep, after, Run, historyOf}
-use Rattle.ngachodui_laws.specs.Queue.{given, allTaken, storedBy, allStored, NothingLost}
+use Rattle.ngachodui_laws.specs.Queue.{given, allTaken, storedBy, allStored, NothingLost, OnlyMessages}
 use Rattle.ngachodui_laws.specs.Inner.Hosting.{inNumbersOf, seenOf}
 use Rattle.ngachodui_laws.proofs.HostRuns.{one-call, runs-alike, fresh-in-order, fresh-is, history-is, at-end}
 
@@ -80,4 +84,14 @@ module _ (r : Run) where
         queue = λ l h.
             ap (numbered 0) (stored-from-fresh l) ∙ lost .queue l h
             ∙ ap (λ (x : List Numbered). x ++ waiting l (lost .entries)) (sym (taken-from-fresh l));
+      }
+
+  pub only-messages : OnlyMessages r
+  only-messages =
+      let all = messages.only-messages (r .memory) (r .sizes) (r .calls) (r .may) in
+      record {
+        entries = all .entries;
+        whole = at-end r (λ x. chain (x .gateway .ledger) (x .memory .journal) ≡ some (all .entries)) (all .whole);
+        waits = all .waiting;
+        taken = λ l h. subst (Every (λ (n : Numbered). isMessage (n .text) ≡ true)) (sym (taken-from-fresh l)) (all .taken l h);
       }

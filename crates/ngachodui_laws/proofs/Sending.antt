@@ -16,7 +16,7 @@ use Rattle.journal_laws.specs.Held.{Held}
 use Rattle.journal_laws.specs.Runs.{waiting}
 use Rattle.answers.specs.Paper.{ack, replyOf}
 use Rattle.answers.specs.declared.Answer.the-variants.{Nothing}
-use Rattle.line.specs.Line.{freshLine, withinLimits}
+use Rattle.line.specs.Line.{freshLine}
 use Rattle.gateway.specs.Events.{lineAt}
 use Rattle.looking.specs.declared.Kind.the-variants.{Byte}
 use Rattle.serial.specs.Serial.{taking, annotate, final, Every}
@@ -28,31 +28,18 @@ use Rattle.promises.proofs.Transfers as transfers
 use Rattle.promises.proofs.InTurn as turns
 use Rattle.layout.specs.Layout.{serialAt}
 use Rattle.numbers.specs.Plain.{numberAt}
-use Rattle.numbers.proofs.Numbers.{line-within, serial-at}
+use Rattle.numbers.proofs.Numbers.{serial-at}
 use Rattle.ngachodui_laws.specs.HostRuns.{HostState, gatewayState, InOrder, HostResponse, hostStep, after}
 use Rattle.ngachodui_laws.specs.Outcomes.{LineKept}
-use Rattle.ngachodui_laws.specs.Queue.{allTaken, Holds}
-use Rattle.ngachodui_laws.specs.Sending.{Intact, CanSend, sentTo, says, gives, toFrames, Delivered, GivesBack}
+use Rattle.ngachodui_laws.specs.Sound.{Holds}
+use Rattle.ngachodui_laws.specs.Queue.{allTaken}
+use Rattle.ngachodui_laws.specs.Sending.{CanSend, sentTo, says, gives, toFrames, Delivered, GivesBack}
 use Rattle.ngachodui_laws.specs.Inner.Hosting.{inNumbersOf, seenOf}
-use Rattle.ngachodui_laws.proofs.PutBack.{lines-length, line-at, used-long, serials-long}
+use Rattle.ngachodui_laws.proofs.PutBack.{line-at}
 use Rattle.ngachodui_laws.proofs.HostRuns.{one-call, runs-alike, ends-alike, stays-in-order}
+use Rattle.ngachodui_laws.proofs.Sound.{intact}
 use Rattle.ngachodui_laws.proofs.Outcomes.{others-kept}
 use Rattle.ngachodui_laws.proofs.Queue.{taken-alike}
-
--- an intact host stands for an intact gateway, with the same entries
-abbrev intact : (s : HostState) → Intact s → there.Intact (gatewayState s)
-intact s w = record {
-  as-many = lines-length (s .numbers) 0 lines;
-  within = λ i h. ap withinLimits (line-at (s .numbers) i h) ∙ line-within (s .numbers) i (w .in-order .within i h);
-  texts = w .sizes .texts;
-  frames = w .sizes .frames;
-  journal = w .sizes .journal;
-  lines-used = used-long (s .numbers) (s .counts);
-  lines-serials = serials-long (s .numbers) (s .counts);
-  serials = λ i h. rw (serial-at (s .numbers) (s .counts) i h) (w .serials i h);
-  entries = w .entries;
-  whole = w .whole;
-}
 
 -- the responses of a history as a host sees them
 seen-responses : (ys : List (GatewayItem × Response))

@@ -8,8 +8,10 @@ use mathlib.Core.Path.{_≡_}
 use mathlib.Core.Logic.{_≢_}
 use mathlib.Core.Bool.{Bool, true, false}
 use mathlib.Core.List.{List}
+use mathlib.Core.Option.{some}
 use lib.ListN.{length}
 use Rattle.memory.specs.Sizes.{lines}
+use Rattle.faults.specs.Faults.{isMessage}
 use Rattle.header.specs.Header.{entrySize}
 use Rattle.room.specs.Room.{share}
 use Rattle.journal_laws.specs.Runs.{waiting}
@@ -18,17 +20,21 @@ use Rattle.looking.specs.declared.Kind.{Kind}
 use Rattle.receiving.specs.Steps.{Memory}
 use Rattle.serial.specs.Serial.{taking, annotate, final, serialize, count, Every, OrderOf, GoesAlike}
 use Rattle.serial.specs.Kept.{Rearranged}
-use Rattle.promises.specs.Machine.{GatewayItem, came, Sound, May}
-use Rattle.promises.specs.Runs.{isFault, Completes, Overfull, NoSpace, Space, Larger, usedBy, usedWith, mostAlone}
+use Rattle.promises.specs.Machine.{GatewayItem, came, May}
+use Rattle.promises.specs.Runs.{isFault, offered, Completes, Overfull, NoSpace, Space, Larger, usedBy, usedWith, mostAlone}
 use Rattle.layout.specs.Layout.{Fresh, serialAt}
 use Rattle.numbers.specs.Plain.{lineOf, numberAt}
 use Rattle.ngachodui_laws.specs.Hosting.{isRefusal}
-use Rattle.ngachodui_laws.specs.HostRuns.{HostState, gatewayState, InOrder, freshHost, HostResponse, hostStep, numberTo, replyTo, after, decides, Run, historyOf, endOf}
+use Rattle.ngachodui_laws.specs.HostRuns.{HostState, gatewayState, freshHost, HostResponse, hostStep, numberTo, replyTo, after, decides, Run, historyOf, endOf}
+use Rattle.ngachodui_laws.specs.Sound.{Intact, Sound}
 use Rattle.ngachodui_laws.specs.Outcomes.{Allows, ignores, lineIn, LineKept, StoreKept}
-use Rattle.ngachodui_laws.specs.Queue.{allTaken, NothingLost}
+use Rattle.ngachodui_laws.specs.Deciding.{DecidedExactly}
+use Rattle.ngachodui_laws.specs.Queue.{allTaken, NothingLost, OnlyMessages}
 use Rattle.ngachodui_laws.specs.Sending.{CanSend, sentTo, Delivered, GivesBack}
+use Rattle.ngachodui_laws.specs.Texts.{Cut, Readable}
 use Rattle.ngachodui_laws.specs.Freed.{takenThen, Frees, Alone}
 
+-- each field is one promise; its type says what it assumes
 pub record Demands : Type 0 where
   -- ---- 1. Every call has one outcome
 
@@ -40,8 +46,8 @@ pub record Demands : Type 0 where
   pub fresh-outcome : (m : Memory) (ns us : List ℕ) → Fresh ns us → _≡_ {A = HostState} (record { numbers = ns; counts = us; memory = m }) (freshHost m)
   -- No call of a run finds memory of another size, a record beyond its limits or a broken journal: 41, 42 and 43 do not come.
   pub never-faulty : (r : Run) → Every (λ x. isFault (x .1 .answered .number) ≡ false) (historyOf r)
-  -- After every run the numbers are in order, and the gateway that they stand for is sound: its journal is whole and keeps each line's share.
-  pub always-sound : (r : Run) → InOrder (endOf r) × Sound (gatewayState (endOf r))
+  -- After every run what the host keeps is sound: numbers in order, memory of the right sizes, and a whole journal that keeps each line's share.
+  pub always-sound : (r : Run) → Sound (endOf r)
   -- A call that is refused (20, 40 to 47) changes no number and no byte, from any state at all; a refused taking leaves its buffer too.
   pub refusal-leaves : (s : HostState) (e : GatewayItem) → isRefusal (numberTo s e) ≡ true → after s e ≡ s
   pub buffer-left : (s : HostState) (i : ℕ) (b : List ℕ) → isRefusal (numberTo s (taking i b)) ≡ true → (hostStep s (taking i b)) .0 .buffer ≡ b
@@ -49,8 +55,13 @@ pub record Demands : Type 0 where
   pub ignored-leaves : (s : HostState) (i : ℕ) (k : Kind) → ignores (lineOf (s .numbers) i .state) k ≡ true → after s (came i k) ≡ s
   -- A call on one line leaves every other line its numbers, its used count and its parts of the memory, from any state at all.
   pub others-kept : (s : HostState) (e : GatewayItem) (l : ℕ) → l < lines → l ≢ lineIn e → LineKept l s (after s e)
+  -- An event that completes a text is answered 4 exactly if the text is a message and there is room for it, 31 exactly if it is one and there is none, and 30 exactly
+  -- if it is none: after every run, and wherever numbers, memory and journal are intact.
+  pub decided-exactly : (s : HostState) → Intact s → (i : ℕ) → i < lines → (k : Kind) (text : List ℕ) → offered (gatewayState s) i k ≡ some text → DecidedExactly s i k text
   -- ---- 2. What we cut and send is stored, and given back
 
+  -- A message that is handed over to be cut, with memory for its frames, is cut into `cutOf`, and nothing else is written.
+  pub cut-whole : (m : List ℕ) → isMessage m ≡ true → Cut m
   -- Send ENQ and then a message's frames, as we cut them, to a line that is fresh and has the room. The answers are 1; 0 within a frame; 2 at the end of each frame
   -- but the last; 4 at the end of that. The journal then holds one entry more, behind the others: the message, byte for byte, under the line's next serial.
   pub sent : (s : HostState) (i : ℕ) (m : List ℕ) (c : CanSend s i m) → Delivered s i m (c .intact .entries)
@@ -100,3 +111,7 @@ pub record Demands : Type 0 where
   -- Nothing is lost and nothing comes twice: the texts answered 4 on a line, numbered from 0, are those that its takings gave, in order and byte for byte, and then
   -- those that wait.
   pub nothing-lost : (r : Run) → NothingLost r
+  -- Only messages are kept and given: each text that waits after a run is one, and each that was taken.
+  pub only-messages : (r : Run) → OnlyMessages r
+  -- So what was taken can be read: 46 does not come.
+  pub read-never-refused : (r : Run) (l : ℕ) → l < lines → Every (λ n. Readable (n .text)) (allTaken l (historyOf r))

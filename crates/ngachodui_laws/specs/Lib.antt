@@ -1,8 +1,11 @@
 pub mod Hosting
 pub mod HostRuns
+pub mod Sound
 pub mod Outcomes
+pub mod Deciding
 pub mod Queue
 pub mod Sending
+pub mod Texts
 pub mod Freed
 pub mod Demands
 pub mod Inner

@@ -1,21 +1,23 @@
--- What goes in and comes out on one line in a run of calls, as a host sees it: nothing is lost, and nothing comes twice.
+-- What goes in and comes out on one line in a run of calls, as a host sees it: nothing is lost, nothing comes twice, and only messages come.
 -- Assumes nothing.
 use Prim.Native.Nat.{ℕ, _<_}
 use mathlib.Core.Path.{_≡_}
-use mathlib.Core.Bool.{cond, _&&_}
+use mathlib.Core.Bool.{true, cond, _&&_}
 use mathlib.Core.List.{List, [], _∷_, _++_}
+use mathlib.Core.Option.{some}
 use lib.Dec.{eqb}
 use lib.ListN.{take}
 use Rattle.memory.specs.Sizes.{lines}
+use Rattle.faults.specs.Faults.{isMessage}
 use Rattle.header.specs.Entry.{Entry}
-use Rattle.room.specs.Room.{todaysShares}
-use Rattle.journal_laws.specs.Held.{Held}
+use Rattle.journal.specs.Chain.{chain}
 use Rattle.journal_laws.specs.Runs.{Numbered, numbered, waiting}
-use Rattle.numbers.specs.Plain.{ledgerOf}
-use Rattle.serial.specs.Serial.{event, taking}
+use Rattle.serial.specs.Serial.{event, taking, Every}
 use Rattle.promises.specs.Machine.{GatewayItem, came}
 use Rattle.promises.specs.Queue.{completed}
+use Rattle.numbers.specs.Plain.{ledgerOf}
 use Rattle.ngachodui_laws.specs.HostRuns.{HostState, gatewayState, freshHost, HostResponse, numberTo, after, Run, historyOf, endOf}
+use Rattle.ngachodui_laws.specs.Sound.{Holds}
 
 -- the text that a taking gave: with 8, so many bytes at the buffer's start, under the serial that was answered
 abbrev pub given : HostResponse → List Numbered
@@ -40,12 +42,15 @@ abbrev pub allStored : ℕ → HostState → List GatewayItem → List (List ℕ
 allStored l s [] = []
 allStored l s (e ∷ es) = storedBy l s e ++ allStored l (after s e) es
 
--- the journal is whole, keeps every share and holds these entries
-abbrev pub Holds : HostState → List Entry → Type 0
-Holds s es = Held todaysShares (ledgerOf (s .numbers) (s .counts)) (s .memory .journal) es
-
 -- on each line, what was stored, with serials from 0, is what was taken, in order and byte for byte, and then what waits in the journal
 pub record NothingLost (r : Run) : Type 0 where
   pub entries : List Entry
   pub holds : Holds (endOf r) entries
   pub queue : (l : ℕ) → l < lines → numbered 0 (allStored l (freshHost (r .memory)) (r .calls)) ≡ allTaken l (historyOf r) ++ waiting l entries
+
+-- every text that waits is a message, and every text that was taken is one
+pub record OnlyMessages (r : Run) : Type 0 where
+  pub entries : List Entry
+  pub whole : chain (ledgerOf (endOf r .numbers) (endOf r .counts)) (endOf r .memory .journal) ≡ some entries
+  pub waits : Every (λ (e : Entry). isMessage (e .text) ≡ true) entries
+  pub taken : (l : ℕ) → l < lines → Every (λ (n : Numbered). isMessage (n .text) ≡ true) (allTaken l (historyOf r))

@@ -5,35 +5,24 @@ use mathlib.Core.Path.{_≡_}
 use mathlib.Core.Logic.{_≢_}
 use mathlib.Core.Bool.{true}
 use mathlib.Core.List.{List, [], _∷_, _++_, map}
-use mathlib.Core.Option.{some}
 use lib.ListN.{length, replicate}
 use Rattle.memory.specs.Sizes.{lines, frameLimit}
 use Rattle.memory.specs.Parts.{splice}
 use Rattle.frame.specs.Shape.{leastCollected}
 use Rattle.faults.specs.Faults.{isMessage}
 use Rattle.cutting.specs.Pieces.{Piece, piecesOf}
-use Rattle.header.specs.Header.{serialCount}
 use Rattle.header.specs.Entry.{Entry}
-use Rattle.journal.specs.Chain.{chain}
 use Rattle.answers.specs.Paper.{ack}
 use Rattle.line.specs.Line.{freshLine}
 use Rattle.serial.specs.Serial.{taking, annotate, final}
 use Rattle.promises.specs.Machine.{GatewayItem}
-use Rattle.promises.specs.Runs.{RightSizes, hasSpace}
+use Rattle.promises.specs.Runs.{hasSpace}
 use Rattle.promises.specs.Sending.{bytesOn, sending}
 use Rattle.layout.specs.Layout.{serialAt}
-use Rattle.numbers.specs.Plain.{numberAt, lineOf, ledgerOf}
-use Rattle.ngachodui_laws.specs.HostRuns.{HostState, gatewayState, InOrder, HostResponse, hostStep}
+use Rattle.numbers.specs.Plain.{numberAt, lineOf}
+use Rattle.ngachodui_laws.specs.HostRuns.{HostState, gatewayState, HostResponse, hostStep}
 use Rattle.ngachodui_laws.specs.Outcomes.{LineKept}
-use Rattle.ngachodui_laws.specs.Queue.{Holds}
-
--- numbers in order, memory of the right sizes, serials of 16 bits, and a whole journal that holds these entries
-pub record Intact (s : HostState) : Type 0 where
-  pub in-order : InOrder s
-  pub sizes : RightSizes (s .memory)
-  pub serials : (i : ℕ) → i < lines → numberAt (s .numbers) i serialAt < serialCount
-  pub entries : List Entry
-  pub whole : chain (ledgerOf (s .numbers) (s .counts)) (s .memory .journal) ≡ some entries
+use Rattle.ngachodui_laws.specs.Sound.{Intact, Holds}
 
 -- line i is fresh, m is a message, and there is room for it, its header counted; the other lines may be at anything
 pub record CanSend (s : HostState) (i : ℕ) (m : List ℕ) : Type 0 where

@@ -1,0 +1,51 @@
+-- A message that a host hands over is cut whole, and what it has taken can be read.
+-- Assumes nothing.
+use mathlib.Core.Path.{_≡_, refl, sym, ap, _∙_, subst}
+use mathlib.Core.Logic.{_≢_}
+use mathlib.Core.Bool.{true}
+use mathlib.Core.List.{List}
+use Prim.Native.Nat.{ℕ, _<_}
+use native.Mathlib.Omega.{arith}
+use borrow.Author.Tests.{le-leb}
+use lib.ListN.{length}
+use Rattle.memory.specs.Sizes.{lines, frameLimit}
+use Rattle.kinds.specs.Delimiters.{standard}
+use Rattle.faults.specs.Faults.{isMessage}
+use Rattle.cutting.specs.Frames.{cutOf, isCuttable, cutAnswer, cutIn}
+use Rattle.owner.specs.Reading.{readingOf}
+use Rattle.owner.specs.declared.Reading.{Reading}
+use Rattle.owner.specs.declared.Reading.the-variants.{Read, Malformed, NotFitting}
+use Rattle.journal_laws.specs.Runs.{Numbered}
+use Rattle.serial.specs.Serial.{Every}
+use Rattle.promises.specs.Runs.{fresh}
+use Rattle.promises.specs.Queue as queue
+use Rattle.promises.specs.OnlyMessages as there
+use Rattle.promises.proofs.OnlyMessages as messages
+use Rattle.promises.proofs.Every.{every-so}
+use Rattle.texts.specs.Texts.{madeByCutting, madeByReading}
+use Rattle.texts.specs.declared.Made.{Made}
+use Rattle.ngachodui_laws.specs.HostRuns.{Run, historyOf}
+use Rattle.ngachodui_laws.specs.Queue.{allTaken}
+use Rattle.ngachodui_laws.specs.Texts.{Cut, Readable}
+use Rattle.ngachodui_laws.proofs.Queue.{taken-from-fresh}
+
+pub cut-whole : (m : List ℕ) → isMessage m ≡ true → Cut m
+unfolding cutAnswer cutIn isCuttable madeByCutting
+cut-whole m message out out′ r c room =
+    let fits = le-leb (length (cutOf frameLimit m)) (length out) room in
+    record { answer = c .result ∙ rw (message, fits); frames = c .after ∙ rw (message, fits) }
+
+-- of what reading comes to, only one is answered 46
+not-46 : (x : Reading) → x ≢ Malformed → madeByReading x .number ≢ 46
+unfolding madeByReading
+not-46 (Read n) h e = absurd (omega arith)
+not-46 Malformed h e = h refl
+not-46 NotFitting h e = absurd (omega arith)
+
+readable : (text : List ℕ) → there.Readable text → Readable text
+readable text h ts os ls ws ts′ os′ ls′ ws′ r c e =
+    not-46 (readingOf standard text (length ts) (length os) (length ls) (length ws)) (h .never-46 (length ts) (length os) (length ls) (length ws)) (ap (λ (x : Made). x .number) (sym (c .result)) ∙ e)
+
+pub read-never-refused : (r : Run) (l : ℕ) → l < lines → Every (λ n. Readable (n .text)) (allTaken l (historyOf r))
+read-never-refused r l h = subst (Every (λ (n : Numbered). Readable (n .text))) (sym (taken-from-fresh r l))
+    (every-so (λ (n : Numbered). there.Readable (n .text)) (λ (n : Numbered). Readable (n .text)) (λ n. readable (n .text)) (queue.allTaken l (fresh (r .memory)) (r .calls)) (messages.read-never-refused (r .memory) (r .sizes) (r .calls) (r .may) l h))

@@ -1,0 +1,19 @@
+-- What an event that completes a text is answered, exactly: each of the three answers comes in its own case and in no other.
+-- Assumes nothing.
+use Prim.Native.Nat.{ℕ}
+use mathlib.Core.Path.{_≡_}
+use mathlib.Core.Bool.{true, false}
+use mathlib.Core.List.{List}
+use lib.ListN.{length}
+use Rattle.faults.specs.Faults.{isMessage}
+use Rattle.looking.specs.declared.Kind.{Kind}
+use Rattle.promises.specs.Machine.{came}
+use Rattle.promises.specs.Runs.{hasSpace}
+use Rattle.promises.specs.Exactly.{Exactly}
+use Rattle.ngachodui_laws.specs.HostRuns.{HostState, gatewayState, numberTo}
+
+-- 4: a message with room for it; 31: a message without; 30: no message
+pub record DecidedExactly (s : HostState) (i : ℕ) (k : Kind) (text : List ℕ) : Type 0 where
+  pub stored : Exactly (numberTo s (came i k) ≡ 4) ((isMessage text ≡ true) × (hasSpace (gatewayState s) i (length text) ≡ true))
+  pub crowded : Exactly (numberTo s (came i k) ≡ 31) ((isMessage text ≡ true) × (hasSpace (gatewayState s) i (length text) ≡ false))
+  pub against : Exactly (numberTo s (came i k) ≡ 30) (isMessage text ≡ false)
