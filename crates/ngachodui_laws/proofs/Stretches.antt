@@ -1,13 +1,11 @@
 -- Demand 3, of a host's runs: a host is a machine with lines too, and keeps nothing but what its lines and its journal have.
 -- Assumes nothing.
 use mathlib.Core.Path.{_≡_, refl, sym, ap, subst, _∙_}
-use mathlib.Core.Bool.{Bool, true, false, cond, not, _||_}
-use mathlib.Core.List.{List}
+use mathlib.Core.Bool.{Bool, true, false, cond, not}
+use mathlib.Core.List.{List, []}
 use Prim.Native.Nat.{ℕ}
-use lib.Dec.{eqb}
 use Rattle.memory.specs.Sizes.{lines}
 use Rattle.memory.proofs.Tests.{clash}
-use Rattle.answers.specs.Paper.{numberOf}
 use Rattle.answers.specs.declared.Answer.{Answer}
 use Rattle.answers.proofs.Paper.{every-answer}
 use Rattle.gateway_laws.specs.Classes.{classOf}
@@ -16,7 +14,7 @@ use Rattle.looking.specs.declared.Kind.{Kind}
 use Rattle.serial.specs.Serial.{event, taking, serialize, count, OrderOf, Lined, NothingElse, GoesAlike}
 use Rattle.serial.specs.Kept.{Rearranged}
 use Rattle.serial.proofs.Demand as serial
-use Rattle.promises.specs.Machine.{State, Response, GatewayItem, isDecision, decides as decidesThere, Parts, partsOf, storeOf, Sound, May}
+use Rattle.promises.specs.Machine.{State, Response, response, GatewayItem, isDecision, decides as decidesThere, Parts, partsOf, storeOf, Sound, May}
 use Rattle.promises.specs.Inner.ByParts.{onEvent, onTaking}
 use Rattle.promises.proofs.Stretches.{lined, nothing-else}
 use Rattle.promises.proofs.Kept.{fresh-sound}
@@ -32,13 +30,13 @@ both-or-none true false h = clash cc
 both-or-none false true h = clash cc
 both-or-none false false h = refl
 
-abbrev isDeciding : ℕ → Bool
-isDeciding n = eqb n 4 || (eqb n 30 || eqb n 31)
+abbrev isDeciding : Answer → Bool
+isDeciding a = decides (inNumbersOf (response a []))
 
 decides-alike : (r : Response) → decides (inNumbersOf r) ≡ decidesThere r
 decides-alike r =
-    let test : Answer → Bool = λ a. cond (isDeciding (numberOf a)) (isDecision (classOf a)) (not (isDecision (classOf a))) in
-    both-or-none (isDeciding (numberOf (r .answer))) (isDecision (classOf (r .answer))) (every-answer test (λ vs. refl) (r .answer))
+    let test : Answer → Bool = λ a. cond (isDeciding a) (isDecision (classOf a)) (not (isDecision (classOf a))) in
+    both-or-none (isDeciding (r .answer)) (isDecision (classOf (r .answer))) (every-answer test (λ vs. refl) (r .answer))
 
 -- what a line has to itself, and what all lines share, is that of the gateway; responses are as the host sees them
 abbrev partsIn : HostState → ℕ → Parts

@@ -40,36 +40,48 @@ pub record Demands : Type 0 where
 
   -- Whatever numbers and memory a host hands over, the contract of a call allows one answer, and one value of every number and byte after it.
   pub one-outcome : (s : HostState) (e : GatewayItem) (r q : HostResponse) (t u : HostState) → Allows s e r t → Allows s e q u → (r ≡ q) × (t ≡ u)
+  --
   -- That outcome is `hostStep`, so whatever is said of `hostStep` here is said of the calls.
   pub the-outcome : (s : HostState) (e : GatewayItem) → Allows s e ((hostStep s e) .0) ((hostStep s e) .1)
+  --
   -- What makes a gateway fresh leaves the numbers of `freshHost`, and no others.
   pub fresh-outcome : (m : Memory) (ns us : List ℕ) → Fresh ns us → _≡_ {A = HostState} (record { numbers = ns; counts = us; memory = m }) (freshHost m)
+  --
   -- No call of a run finds memory of another size, a record beyond its limits or a broken journal: 41, 42 and 43 do not come.
   pub never-faulty : (r : Run) → Every (λ x. isFault (x .1 .answered .number) ≡ false) (historyOf r)
+  --
   -- After every run what the host keeps is sound: numbers in order, memory of the right sizes, and a whole journal that keeps each line's share.
   pub always-sound : (r : Run) → Sound (endOf r)
+  --
   -- A call that is refused (20, 40 to 47) changes no number and no byte, from any state at all; a refused taking leaves its buffer too.
   pub refusal-leaves : (s : HostState) (e : GatewayItem) → isRefusal (numberTo s e) ≡ true → after s e ≡ s
   pub buffer-left : (s : HostState) (i : ℕ) (b : List ℕ) → isRefusal (numberTo s (taking i b)) ≡ true → (hostStep s (taking i b)) .0 .buffer ≡ b
+  --
   -- Nor does an event that its line ignores.
   pub ignored-leaves : (s : HostState) (i : ℕ) (k : Kind) → ignores (lineOf (s .numbers) i .state) k ≡ true → after s (came i k) ≡ s
+  --
   -- A call on one line leaves every other line its numbers, its used count and its parts of the memory, from any state at all.
   pub others-kept : (s : HostState) (e : GatewayItem) (l : ℕ) → l < lines → l ≢ lineIn e → LineKept l s (after s e)
+  --
   -- An event that completes a text is answered 4 exactly if the text is a message and there is room for it, 31 exactly if it is one and there is none, and 30 exactly
   -- if it is none: after every run, and wherever numbers, memory and journal are intact.
   pub decided-exactly : (s : HostState) → Intact s → (i : ℕ) → i < lines → (k : Kind) (text : List ℕ) → offered (gatewayState s) i k ≡ some text → DecidedExactly s i k text
+  --
   -- ---- 2. What we cut and send is stored, and given back
 
   -- A message that is handed over to be cut, with memory for its frames, is cut into `cutOf`, and nothing else is written.
   pub cut-whole : (m : List ℕ) → isMessage m ≡ true → Cut m
+  --
   -- Send ENQ and then a message's frames, as we cut them, to a line that is fresh and has the room. The answers are 1; 0 within a frame; 2 at the end of each frame
   -- but the last; 4 at the end of that. The journal then holds one entry more, behind the others: the message, byte for byte, under the line's next serial.
   pub sent : (s : HostState) (i : ℕ) (m : List ℕ) (c : CanSend s i m) → Delivered s i m (c .intact .entries)
+  --
   -- Once as many texts are taken from the line as waited there before, whatever else has come meanwhile on any line, the next taking into a buffer that is long
   -- enough gives the message: its length and serial in the answer, its bytes at the buffer's start.
   pub given-back : (s : HostState) (i : ℕ) (m : List ℕ) (c : CanSend s i m) (es : List GatewayItem) → Every May es
       → length (allTaken i (annotate hostStep (sentTo s i m) es)) ≡ length (waiting i (c .intact .entries)) → (b : List ℕ) → length m ≤ length b
       → GivesBack (final hostStep (sentTo s i m) es) i b (numberAt (s .numbers) i serialAt) m
+  --
   -- ---- 3. How the lines' calls are mixed makes no difference
 
   -- Tell a run again message by message: each line's events in their order and, up to each one that decides a message (4, 30, 31), in one piece; the pieces by
@@ -77,41 +89,53 @@ pub record Demands : Type 0 where
   -- taking the same buffer, and the host ends with the same numbers and bytes.
   pub stretches : (r : Run) (order : List ℕ) → OrderOf lines order → (zs : List (GatewayItem × HostResponse)) → Rearranged decides lines order (historyOf r) zs
       → GoesAlike hostStep (freshHost (r .memory)) (r .calls) zs
+  --
   -- There is such a telling, and `serialize` computes it.
   pub stretches-met : (r : Run) (order : List ℕ) → OrderOf lines order → Rearranged decides lines order (historyOf r) (serialize decides order (historyOf r))
+  --
   -- Every call with its answer stands in it as often as in the run.
   pub stretches-all : (r : Run) (order : List ℕ) → OrderOf lines order → (zs : List (GatewayItem × HostResponse)) → Rearranged decides lines order (historyOf r) zs
       → (p : GatewayItem × HostResponse → Bool) → count p zs ≡ count p (historyOf r)
+  --
   -- ---- Room
 
   -- A line's own share is its own: 31 is answered only to a message that, its header counted, exceeds what is left of its line's share.
   pub share-kept : (r : Run) (i : ℕ) → i < lines → (k : Kind) → numberTo (endOf r) (came i k) ≡ 31 → Overfull (gatewayState (endOf r)) i k
+  --
   -- 31 is answered only where the lines' claims, with the message, exceed the journal, and 4 only where they do not.
   pub no-space : (r : Run) (i : ℕ) → i < lines → (k : Kind) → numberTo (endOf r) (came i k) ≡ 31 → NoSpace (gatewayState (endOf r)) i k
   pub space : (r : Run) (i : ℕ) → i < lines → (k : Kind) → numberTo (endOf r) (came i k) ≡ 4 → Space (gatewayState (endOf r)) i k
+  --
   -- Freed room serves again: after a taking of n bytes, and whatever calls store nothing, 31 is answered on that line only to a message that takes more room.
   pub freed-own : (r : Run) (l : ℕ) → l < lines → (b : List ℕ) (n : ℕ) (fs : List GatewayItem) → Every May fs → Frees (endOf r) l b n fs → (k : Kind)
       → numberTo (takenThen (endOf r) l b fs) (came l k) ≡ 31 → Larger (gatewayState (takenThen (endOf r) l b fs)) l k n
+  --
   -- And on any other line, where what was taken lay beyond its own line's share.
   pub freed-others : (r : Run) (l : ℕ) → l < lines → (b : List ℕ) (n : ℕ) (fs : List GatewayItem) → Every May fs → Frees (endOf r) l b n fs
       → share + entrySize n ≤ usedBy (gatewayState (endOf r)) l → (i : ℕ) → i < lines → (k : Kind)
       → numberTo (takenThen (endOf r) l b fs) (came i k) ≡ 31 → Larger (gatewayState (takenThen (endOf r) l b fs)) i k n
+  --
   -- One line alone, where no other has stored: 31 only for a message with which the line would use more than 18,432 bytes, and 4 only for one with which it does not.
   pub alone-refused : (r : Run) (i : ℕ) → i < lines → Alone r i → (k : Kind) → numberTo (endOf r) (came i k) ≡ 31
       → Completes (gatewayState (endOf r)) i k (λ n. mostAlone < usedWith (gatewayState (endOf r)) i n)
   pub alone-stored : (r : Run) (i : ℕ) → i < lines → Alone r i → (k : Kind) → numberTo (endOf r) (came i k) ≡ 4
       → Completes (gatewayState (endOf r)) i k (λ n. usedWith (gatewayState (endOf r)) i n ≤ mostAlone)
+  --
   -- ---- What is acknowledged is stored, and nothing is lost
 
   -- An event that completes a text and gets ACK is answered 4: its text is stored.
   pub acknowledged-stored : (r : Run) (i : ℕ) → i < lines → (k : Kind) → Completes (gatewayState (endOf r)) i k (λ n. Unit {0}) → replyTo (endOf r) (came i k) ≡ ack
       → numberTo (endOf r) (came i k) ≡ 4
+  --
   -- An event with any other answer, a repeat (3) too, leaves counts, serials and journal as they were.
   pub only-4-stores : (r : Run) (i : ℕ) → i < lines → (k : Kind) → numberTo (endOf r) (came i k) ≢ 4 → StoreKept (endOf r) (after (endOf r) (came i k))
+  --
   -- Nothing is lost and nothing comes twice: the texts answered 4 on a line, numbered from 0, are those that its takings gave, in order and byte for byte, and then
   -- those that wait.
   pub nothing-lost : (r : Run) → NothingLost r
+  --
   -- Only messages are kept and given: each text that waits after a run is one, and each that was taken.
   pub only-messages : (r : Run) → OnlyMessages r
+  --
   -- So what was taken can be read: 46 does not come.
   pub read-never-refused : (r : Run) (l : ℕ) → l < lines → Every (λ n. Readable (n .text)) (allTaken l (historyOf r))
