@@ -84,9 +84,9 @@ pub record Demands : Type 0 where
   --
   -- ---- 3. How the lines' calls are mixed makes no difference
 
-  -- Tell a run again message by message: each line's events in their order and, up to each one that decides a message (4, 30, 31), in one piece; the pieces by
-  -- their last events, the takings among these where they were; what is unfinished at the end, in any order of the lines. Every call then gets the same answer, a
-  -- taking the same buffer, and the host ends with the same numbers and bytes.
+  -- A stretch is a line's events from behind one decided message (4, 30, 31) through the next. Tell a run again stretch by stretch, none divided, in the order in
+  -- which the messages were decided, the takings among these where they were, and the lines' rests last, in any order of the lines. Every call then gets the same
+  -- answer, a taking the same buffer, and the host ends with the same numbers and bytes.
   pub stretches : (r : Run) (order : List ℕ) → OrderOf lines order → (zs : List (GatewayItem × HostResponse)) → Rearranged decides lines order (historyOf r) zs
       → GoesAlike hostStep (freshHost (r .memory)) (r .calls) zs
   --
