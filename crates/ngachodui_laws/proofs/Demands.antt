@@ -6,6 +6,7 @@ use Rattle.ngachodui_laws.proofs.Sound.{always-sound}
 use Rattle.ngachodui_laws.proofs.Outcomes.{one-outcome, the-outcome, fresh-outcome, refused-leaves, buffer-left, ignored-is-left, others-kept}
 use Rattle.ngachodui_laws.proofs.Deciding.{decided-exactly}
 use Rattle.ngachodui_laws.proofs.Sending.{sent, given-back}
+use Rattle.ngachodui_laws.proofs.FromFresh.{can-send}
 use Rattle.ngachodui_laws.proofs.Stretches.{stretches, stretches-met, stretches-all}
 use Rattle.ngachodui_laws.proofs.Rooms.{share-kept, no-space, space, freed-own, freed-others, alone-refused, alone-stored, acknowledged-stored, only-4-stores}
 use Rattle.ngachodui_laws.proofs.Queue.{nothing-lost, only-messages}
@@ -26,6 +27,7 @@ kept = record {
   cut-whole = cut-whole;
   sent = sent;
   given-back = given-back;
+  can-send = can-send;
   stretches = stretches;
   stretches-met = stretches-met;
   stretches-all = stretches-all;

@@ -11,6 +11,7 @@ pub mod Deciding
 pub mod Stretches
 pub mod Queue
 pub mod Sending
+pub mod FromFresh
 pub mod Texts
 pub mod Rooms
 pub mod Demands

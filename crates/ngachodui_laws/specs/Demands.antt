@@ -21,7 +21,7 @@ use Rattle.receiving.specs.Steps.{Memory}
 use Rattle.serial.specs.Serial.{taking, annotate, final, serialize, count, Every, OrderOf, GoesAlike}
 use Rattle.serial.specs.Kept.{Rearranged}
 use Rattle.promises.specs.Machine.{GatewayItem, came, May}
-use Rattle.promises.specs.Runs.{isFault, offered, Completes, Overfull, NoSpace, Space, Larger, usedBy, usedWith, mostAlone}
+use Rattle.promises.specs.Runs.{RightSizes, isFault, offered, Completes, Overfull, NoSpace, Space, Larger, usedBy, usedWith, mostAlone}
 use Rattle.layout.specs.Layout.{Fresh, serialAt}
 use Rattle.numbers.specs.Plain.{lineOf, numberAt}
 use Rattle.ngachodui_laws.specs.Hosting.{isRefusal}
@@ -81,6 +81,9 @@ pub record Demands : Type 0 where
   pub given-back : (s : HostState) (i : ℕ) (m : List ℕ) (c : CanSend s i m) (es : List GatewayItem) → Every May es
       → length (allTaken i (annotate hostStep (sentTo s i m) es)) ≡ length (waiting i (c .intact .entries)) → (b : List ℕ) → length m ≤ length b
       → GivesBack (final hostStep (sentTo s i m) es) i b (numberAt (s .numbers) i serialAt) m
+  --
+  -- On a fresh start every line can be sent every message.
+  pub can-send : (m : Memory) → RightSizes m → (i : ℕ) → i < lines → (t : List ℕ) → isMessage t ≡ true → CanSend (freshHost m) i t
   --
   -- ---- 3. How the lines' calls are mixed makes no difference
 
