@@ -44,8 +44,11 @@ not-46 NotFitting h e = absurd (omega arith)
 
 readable : (text : List ℕ) → there.Readable text → Readable text
 readable text h ts os ls ws ts′ os′ ls′ ws′ r c e =
-    not-46 (readingOf standard text (length ts) (length os) (length ls) (length ws)) (h .never-46 (length ts) (length os) (length ls) (length ws)) (ap (λ (x : Made). x .number) (sym (c .result)) ∙ e)
+    let reading = readingOf standard text (length ts) (length os) (length ls) (length ws) in
+    not-46 reading (h .never-46 (length ts) (length os) (length ls) (length ws)) (ap (λ (x : Made). x .number) (sym (c .result)) ∙ e)
 
 pub read-never-refused : (r : Run) (l : ℕ) → l < lines → Every (λ n. Readable (n .text)) (allTaken l (historyOf r))
-read-never-refused r l h = subst (Every (λ (n : Numbered). Readable (n .text))) (sym (taken-from-fresh r l))
-    (every-so (λ (n : Numbered). there.Readable (n .text)) (λ (n : Numbered). Readable (n .text)) (λ n. readable (n .text)) (queue.allTaken l (fresh (r .memory)) (r .calls)) (messages.read-never-refused (r .memory) (r .sizes) (r .calls) (r .may) l h))
+read-never-refused r l h =
+    let taken = queue.allTaken l (fresh (r .memory)) (r .calls) in
+    let there = messages.read-never-refused (r .memory) (r .sizes) (r .calls) (r .may) l h in
+    subst (Every (λ (n : Numbered). Readable (n .text))) (sym (taken-from-fresh r l)) (every-so _ (λ (n : Numbered). Readable (n .text)) (λ n. readable (n .text)) taken there)
