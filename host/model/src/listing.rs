@@ -5,6 +5,9 @@ use crate::lines::Kind;
 use crate::model::Model;
 use crate::{FRAMES, JOURNAL, UNFINISHED};
 
+/// A longer input line is not an event (house); only zeros in front of a number could fill one.
+pub const LINE_LIMIT: usize = 4_096;
+
 /// What one input line asks for.
 #[derive(Clone, Copy, PartialEq, Eq, Debug)]
 pub enum Call {
@@ -78,6 +81,9 @@ fn input_lines(input: &[u8]) -> Vec<&[u8]> {
 /// 4,000", with one space between the parts and nothing else. A line digit 8 or 9 is an event, for
 /// the gateway to refuse; leading zeros and small hex digits are no fault.
 pub fn parse(text: &[u8]) -> Option<Call> {
+    if text.len() > LINE_LIMIT {
+        return None;
+    }
     let parts: Vec<&[u8]> = text.split(|&byte| byte == b' ').collect();
     if parts.len() != 3 || parts[0].len() != 1 || !parts[0][0].is_ascii_digit() {
         return None;
@@ -244,5 +250,15 @@ mod tests {
             assert_eq!(parse(text.as_bytes()), None, "{:?}", text);
         }
         assert_eq!(parse(b"0 B \xFF\xFF"), None);
+    }
+
+    #[test]
+    fn a_line_over_the_limit_is_not_an_event() {
+        let line = |length: usize| format!("7 S {:0>1$}", 30, length - "7 S ".len());
+        let kind = Kind::Seconds(30);
+        let call = Call::Event { line: 7, kind };
+        assert_eq!(line(LINE_LIMIT).len(), LINE_LIMIT);
+        assert_eq!(parse(line(LINE_LIMIT).as_bytes()), Some(call));
+        assert_eq!(parse(line(LINE_LIMIT + 1).as_bytes()), None);
     }
 }
