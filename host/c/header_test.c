@@ -146,6 +146,30 @@ static void test_cut_and_sent(void)
     }
 }
 
+/* A gateway saved when a message was stored, and loaded: the last frame again is a repeat, 30 seconds end the
+ * transfer, and the message waits. */
+static void test_saved(void)
+{
+    static ngachodui_gateway saved;
+    check_number(sizeof gateway, 66900, "the size of a gateway");
+    start();
+    check_number(byte_on(6, 0x05).number, NGACHODUI_OPENED, "ENQ on line 6");
+    check_number(send(6, BYTES("\x02" "1H|\\^&\r" "L|1|N\r" "\x03" "B5\r\n"), "a frame").number, NGACHODUI_STORED, "the message to save");
+    saved = gateway;
+    check_number(byte_on(6, 0x04).number, NGACHODUI_ENDED, "EOT on line 6");
+    check_number(take_from(6, sizeof buffer).number, NGACHODUI_TAKEN, "a taking that is not saved");
+
+    gateway = saved;
+    check_number(send(6, BYTES("\x02" "1H|\\^&\r" "L|1|N\r" "\x03" "B5\r\n"), "a frame").number, NGACHODUI_REPEATED, "its last frame again");
+    check_number(seconds_on(6, 30).number, NGACHODUI_TIMED_OUT, "30 seconds after loading");
+    check_number(seconds_on(5, 30).number, NGACHODUI_NOTHING, "30 seconds on a neutral line");
+    check_number(counts->in_use, 16, "bytes in use after loading");
+    ngachodui_answered a = take_from(6, sizeof buffer);
+    check_number(a.number, NGACHODUI_TAKEN, "the message saved");
+    check_number(a.serial, 0, "its serial again");
+    check(memcmp(buffer, MESSAGE) == 0, "its text again");
+}
+
 static void test_seconds(void)
 {
     start();
@@ -289,6 +313,7 @@ int main(void)
 {
     test_dialogue();
     test_cut_and_sent();
+    test_saved();
     test_seconds();
     test_sizes();
     test_refusals();
