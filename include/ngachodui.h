@@ -6,13 +6,11 @@
  * journal until the host takes them.
  *
  * The library keeps nothing between calls, allocates nothing, and calls nothing but memcpy, memmove
- * and memset. All that a gateway is lies in memory of the host's: a ngachodui_gateway, which is
- * three memories of fixed sizes and a state. A host calls ngachodui_start on it once, then
- * ngachodui_on_byte, ngachodui_on_seconds and ngachodui_on_take. These lend state and memories to the
- * library's own functions, which a host may call itself if it keeps them in other places. Only the
- * library changes them.
- *
- * One call at a time for one gateway: a lock around every call, or one thread for all lines.
+ * and memset; a call needs at most NGACHODUI_STACK_LIMIT bytes of stack. All that a gateway is lies in
+ * memory of the host's: a ngachodui_gateway, which is three memories of fixed sizes and a state. A host
+ * calls ngachodui_start on it once, then ngachodui_on_byte, ngachodui_on_seconds and ngachodui_on_take.
+ * These lend state and memories to the library's own functions, which a host may call itself if it
+ * keeps them in other places. Only the library changes them.
  *
  * What the host owes at every call, since C cannot say it:
  *   - each pointer is valid for the length beside it, or for the array in its type, and aligned for
@@ -23,6 +21,22 @@
  * Nothing else is asked: whatever the numbers and the bytes are, each call returns and does what is
  * said here, and a wrong line, size, state or text is answered by its number. That is proved, for
  * all bytes and all calls; `docs/CONTRACTS.md` says what each function promises.
+ *
+ * What a host with eight ports decides for itself:
+ *   - Calls: one at a time for one gateway. All lines lie in one state, so eight threads need one lock
+ *     around every call; one thread that waits for all ports needs none. No call waits for anything.
+ *   - Time: the lines have no clock. The host tells each line the whole seconds since it last did, from
+ *     a clock that nobody sets (CLOCK_MONOTONIC), and keeps the fraction for the next time. One timer
+ *     of a second serves all eight. Of a byte and a timer that fall together either may come first.
+ *   - Replies: 06 lets the analyzer forget what it has sent. So first what the call has left is saved,
+ *     and then 06 is sent. After 4 the gateway's copy of the message is the only one.
+ *   - Takings: 8 takes the message out of the journal, and then the buffer's copy is the only one. It
+ *     goes where it is to stay before the gateway is saved without it. A host that fails in between
+ *     gets the message once more, and knows it by its line and serial.
+ *   - Saving: NGACHODUI_VERSION, and behind it the whole ngachodui_gateway; all of it or nothing, as by
+ *     writing a new file, flushing and renaming it. What has another number in front is not loaded. A
+ *     host that does not save before every reply tells each line, once it has loaded, that 30 seconds
+ *     have passed: no transfer then goes on with bytes missing, and the messages that wait stay.
  *
  * Link with libngachodui.a, which is for x86-64 Linux. An object that was compiled for another layout
  * of state and memories does not link with it: see NGACHODUI_VERSION. */
@@ -69,17 +83,18 @@ enum {
     NGACHODUI_FRAMES_SIZE = NGACHODUI_LINES * NGACHODUI_FRAME_PART,       /* each line's frame so far */
 
     /* Bytes of the journal that each line is sure of, 4 counted for each message besides its text. */
-    NGACHODUI_SHARE = 2048
+    NGACHODUI_SHARE = 2048,
+
+    /* Bytes of stack that no call exceeds, what memcpy, memmove and memset need not counted. */
+    NGACHODUI_STACK_LIMIT = 6144
 };
 
 /* ---- Answers ---- */
 
-/* The answers, by their numbers in document 01. With 1 to 4 the byte to send back is ACK (06), with
- * 20 to 31 it is NAK (15), and with the others there is none. */
+/* What an event or a taking is answered, by the numbers of document 01. With 1 to 4 the byte to send
+ * back is ACK (06), with 20 to 31 it is NAK (15), and with the others there is none. */
 enum ngachodui_number {
     NGACHODUI_NOTHING = 0,          /* the byte was ignored or collected, or the seconds were counted */
-    NGACHODUI_DONE = 0,             /* of the text functions: the output is written */
-
     NGACHODUI_OPENED = 1,           /* ENQ: a transfer is open */
     NGACHODUI_ACCEPTED = 2,         /* a frame accepted; its message goes on */
     NGACHODUI_REPEATED = 3,         /* the last accepted frame once more, by its number; not kept again */
@@ -108,14 +123,19 @@ enum ngachodui_number {
     NGACHODUI_BEYOND_LIMITS = 42,   /* the line's record holds what no record can */
     NGACHODUI_BROKEN = 43,          /* the journal's bytes and counts do not agree */
     NGACHODUI_NOTHING_WAITING = 44, /* the line has no message to take */
-    NGACHODUI_BUFFER_SHORT = 45,    /* the buffer is shorter than the message */
+    NGACHODUI_BUFFER_SHORT = 45     /* the buffer is shorter than the message */
+};
+
+/* What a text function answers, by the numbers of the same table. */
+enum ngachodui_outcome {
+    NGACHODUI_DONE = 0,             /* the output is written */
     NGACHODUI_MALFORMED = 46,       /* the text to cut or read is no message, or has a wrong escape */
     NGACHODUI_NOT_FITTING = 47      /* the output is longer than its memory */
 };
 
 /* The answer to an event or a taking. */
 typedef struct ngachodui_answered {
-    uint8_t number;    /* enum ngachodui_number, 0 to 45 */
+    uint8_t number;    /* enum ngachodui_number */
     uint8_t reply;     /* the byte to send to the analyzer: 0x06, 0x15, or 0 for none */
     uint16_t serial;   /* with answer 8 the message's serial, else 0 */
     uint16_t place;    /* 0 in this version */
@@ -125,7 +145,7 @@ typedef struct ngachodui_answered {
 
 /* The answer of a text function. */
 typedef struct ngachodui_made {
-    uint8_t number;    /* NGACHODUI_DONE, NGACHODUI_MALFORMED or NGACHODUI_NOT_FITTING */
+    uint8_t number;    /* enum ngachodui_outcome */
     uint8_t spare;     /* 0 in this version */
     uint16_t place;    /* 0 in this version */
     uint32_t value;    /* 0 in this version */
@@ -216,8 +236,7 @@ void ngachodui_fresh(ngachodui_numbers *numbers, ngachodui_counts *counts);
 /* A byte has come in on a line.
  *
  * Answers 0 to 6, 20 to 31, and 40, 41, 42, 43, tested in this order: 40, 41, 42, then the byte's
- * work. `reply` goes back to the analyzer. After 4 the message is the library's alone: keep state and
- * memories.
+ * work. `reply` goes back to the analyzer, once what the call has left is saved.
  *
  * Changes, by the answer:
  *   0        at most this line's record, and its frame's next byte

@@ -1,8 +1,10 @@
 /* Calls every function of include/ngachodui.h once or more and compares what it answers and leaves with
  * document 01's rules. It says what differs, and fails if anything does. Right calls go through the functions
- * over a whole gateway, calls with a wrong size through the library's own. */
+ * over a whole gateway, calls with a wrong size through the library's own. It is C and C++. */
+#define _XOPEN_SOURCE 600 /* makecontext */
 #include <stdio.h>
 #include <string.h>
+#include <ucontext.h>
 
 #include "ngachodui.h"
 
@@ -55,13 +57,9 @@ static void start(void)
 /* Sends bytes; all but the last must be answered 0. */
 static ngachodui_answered send(uint8_t line, const uint8_t *bytes, size_t length, const char *what)
 {
-    ngachodui_answered a = {0};
-    for (size_t i = 0; i < length; i++) {
-        a = byte_on(line, bytes[i]);
-        if (i + 1 < length)
-            check_number(a.number, NGACHODUI_NOTHING, what);
-    }
-    return a;
+    for (size_t i = 0; i + 1 < length; i++)
+        check_number(byte_on(line, bytes[i]).number, NGACHODUI_NOTHING, what);
+    return byte_on(line, bytes[length - 1]);
 }
 
 #define BYTES(s) (const uint8_t *)(s), sizeof(s) - 1
@@ -146,6 +144,30 @@ static void test_cut_and_sent(void)
         check_number(a.serial, serial, "its serial");
         check_number((unsigned)a.length, 12, "its length");
     }
+}
+
+/* A gateway saved when a message was stored, and loaded: the last frame again is a repeat, 30 seconds end the
+ * transfer, and the message waits. */
+static void test_saved(void)
+{
+    static ngachodui_gateway saved;
+    check_number(sizeof gateway, 66900, "the size of a gateway");
+    start();
+    check_number(byte_on(6, 0x05).number, NGACHODUI_OPENED, "ENQ on line 6");
+    check_number(send(6, BYTES("\x02" "1H|\\^&\r" "L|1|N\r" "\x03" "B5\r\n"), "a frame").number, NGACHODUI_STORED, "the message to save");
+    saved = gateway;
+    check_number(byte_on(6, 0x04).number, NGACHODUI_ENDED, "EOT on line 6");
+    check_number(take_from(6, sizeof buffer).number, NGACHODUI_TAKEN, "a taking that is not saved");
+
+    gateway = saved;
+    check_number(send(6, BYTES("\x02" "1H|\\^&\r" "L|1|N\r" "\x03" "B5\r\n"), "a frame").number, NGACHODUI_REPEATED, "its last frame again");
+    check_number(seconds_on(6, 30).number, NGACHODUI_TIMED_OUT, "30 seconds after loading");
+    check_number(seconds_on(5, 30).number, NGACHODUI_NOTHING, "30 seconds on a neutral line");
+    check_number(counts->in_use, 16, "bytes in use after loading");
+    ngachodui_answered a = take_from(6, sizeof buffer);
+    check_number(a.number, NGACHODUI_TAKEN, "the message saved");
+    check_number(a.serial, 0, "its serial again");
+    check(memcmp(buffer, MESSAGE) == 0, "its text again");
 }
 
 static void test_seconds(void)
@@ -242,7 +264,8 @@ static void test_texts(void)
     uint16_t offsets[7], lengths[7], owners[7];
     memset(owners, 0xaa, sizeof owners);
     for (int memory = 0; memory < 4; memory++) {
-        const size_t slots[4] = { memory == 0 ? 5 : 7, memory == 1 ? 5 : 7, memory == 2 ? 5 : 7, memory == 3 ? 5 : 7 };
+        size_t slots[4] = {7, 7, 7, 7};
+        slots[memory] = 5;
         m = ngachodui_read(results, sizeof results - 1, types, slots[0], offsets, slots[1], lengths, slots[2], owners, slots[3]);
         check_number(m.number, NGACHODUI_NOT_FITTING, "5 slots for 6");
     }
@@ -257,14 +280,45 @@ static void test_texts(void)
     check_number(owners[6], 0xaaaa, "the rest of the owners");
 }
 
+static void work(void)
+{
+    test_dialogue();
+    test_cut_and_sent();
+    test_texts();
+}
+
+/* The work once more, on a stack of its own that is filled with a pattern before: what is changed of it was needed.
+ * All was called before, so that the loader has nothing to do on this stack. */
+static void test_stack(void)
+{
+    static const uint8_t pattern = 0xa5;
+    static uint8_t stack[16 * NGACHODUI_STACK_LIMIT];
+    static ucontext_t here, there;
+    memset(stack, pattern, sizeof stack);
+    check(getcontext(&there) == 0, "a context");
+    there.uc_stack.ss_sp = stack;
+    there.uc_stack.ss_size = sizeof stack;
+    there.uc_link = &here;
+    makecontext(&there, work, 0);
+    check(swapcontext(&here, &there) == 0, "a stack of its own");
+    size_t free_bytes = 0;
+    while (free_bytes < sizeof stack && stack[free_bytes] == pattern)
+        free_bytes++;
+    const size_t needed = sizeof stack - free_bytes;
+    check(needed > 0 && needed <= NGACHODUI_STACK_LIMIT, "the bytes of stack");
+    printf("%zu bytes of stack, the test's own counted\n", needed);
+}
+
 int main(void)
 {
     test_dialogue();
     test_cut_and_sent();
+    test_saved();
     test_seconds();
     test_sizes();
     test_refusals();
     test_texts();
+    test_stack();
     printf("%u checks, %u wrong\n", checks, wrong);
     return wrong != 0;
 }

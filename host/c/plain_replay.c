@@ -13,7 +13,8 @@
 
 enum {
     BUFFER = 65536,
-    LOOKAHEAD = 16,    /* more than the line `0 T 4000` with its newline */
+    LINE_LIMIT = 4096, /* a longer line is not an event (house): only zeros in front could fill one */
+    LOOKAHEAD = LINE_LIMIT + 1, /* such a line with its newline */
     ROW_ROOM = 64,     /* more than any row of the listing */
     DIGITS = 24,       /* more than a 64-bit number has */
     TAKING_LIMIT = 4000,
@@ -81,20 +82,15 @@ static unsigned hex_value(uint8_t digit)
     return NO_HEX;
 }
 
-/* A decimal number of at most `limit`, then a newline. The zeros in front may fill many buffers. */
-static bool read_number(struct input *in, unsigned limit, unsigned *value)
+/* A decimal number of at most `limit` that starts at `digits`, then the newline of a line that is not too long. */
+static bool read_number(struct input *in, const uint8_t *digits, unsigned limit, unsigned *value)
 {
-    bool zeros = false;
-    while (*in->at == '0') {
-        zeros = true;
-        in->at++;
-        look_ahead(in);
-    }
-    const uint8_t *at = in->at;
+    const uint8_t *line_end = in->at + LINE_LIMIT;
+    const uint8_t *at = digits;
     unsigned n = 0;
-    while (*at >= '0' && *at <= '9' && n <= limit)
+    while (at < line_end && *at >= '0' && *at <= '9' && n <= limit)
         n = n * 10 + (*at++ - '0');
-    if (*at != '\n' || n > limit || (at == in->at && !zeros))
+    if (*at != '\n' || n > limit || at == digits)
         return false;
     in->at = at + 1;
     *value = n;
@@ -118,8 +114,7 @@ static bool read_event(struct input *in, struct event *event)
         return high != NO_HEX && low != NO_HEX && at[6] == '\n';
     }
     if ((event->kind == 'S' || event->kind == 'T') && at[3] == ' ') {
-        in->at = at + 4;
-        return read_number(in, event->kind == 'S' ? 255 : TAKING_LIMIT, &event->value);
+        return read_number(in, at + 4, event->kind == 'S' ? 255 : TAKING_LIMIT, &event->value);
     }
     return false;
 }

@@ -11,6 +11,8 @@
 #include <stdio.h>
 #include <stdlib.h>
 
+enum { LINE_LIMIT = 4096 }; /* a longer line of a trace is not an event (house) */
+
 /* The buffer is for what is taken. */
 static ngachodui_gateway gateway;
 static uint8_t buffer[NGACHODUI_TEXT_LIMIT];
@@ -58,7 +60,7 @@ static bool read_decimal(const char *text, size_t n, unsigned limit, unsigned *v
 /* A line of a trace, its newline taken off: `0 B 05`, `0 S 30` or `0 T 4000`. */
 static bool read_event(const char *text, size_t n, struct event *event)
 {
-    if (n < 4 || text[0] < '0' || text[0] > '9' || text[1] != ' ' || text[3] != ' ')
+    if (n < 4 || n > LINE_LIMIT || text[0] < '0' || text[0] > '9' || text[1] != ' ' || text[3] != ' ')
         return false;
     event->line = (uint8_t)(text[0] - '0');
     event->kind = text[2];

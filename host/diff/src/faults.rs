@@ -73,7 +73,9 @@ impl Fault {
         match (self, answer.number) {
             (Fault::RepeatToldAsAccepted, 3) => answer.number = 2,
             (Fault::NoRoomAcknowledged, 31) => answer.reply = 0x06,
-            (Fault::SerialNotAdvanced, 4) => book.numbers[at + SERIAL] = before.numbers[at + SERIAL],
+            (Fault::SerialNotAdvanced, 4) => {
+                book.numbers[at + SERIAL] = before.numbers[at + SERIAL]
+            }
             (Fault::NumberAdvancedOnNak, 23) => {
                 book.numbers[at + NEXT] = (book.numbers[at + NEXT] + 1) % 8
             }

@@ -2,11 +2,12 @@
 //!
 //!     diff 10000000 SEED     so many events: bytes, seconds and takings
 //!     diff 5s SEED           so many seconds
-//!     diff --faults SEED     sees that faults put into the library's side are found
+//!     diff --faults SEED     sees that faults put into what the library did are found
 //!
 //! After each operation everything is compared: the answer, its reply byte, the eight records, the
 //! ledger, and every byte of every memory, those that are not lent and a fence around each included.
-//! The same seed gives the same operations. Status 1: a difference, told on standard output.
+//! The same seed gives the same operations. Status 1: a difference, or an answer or an outcome that never
+//! came up, told on standard output. For what has not come up a run goes on, at most ten times as long.
 
 #[path = "../../rust/src/boundary.rs"]
 mod boundary;
@@ -42,6 +43,9 @@ const TEXTS: u64 = 1_000;
 /// How often an event comes on a record that the model cannot hold.
 const ODD_RECORD_ONCE_IN: usize = 1_000;
 
+/// How many times as long as it was asked to a run goes on for what has not come up.
+const PATIENCE: u32 = 10;
+
 /// How many of the operations before a difference are told.
 const TOLD: usize = 12;
 
@@ -66,14 +70,18 @@ const MIXES: [Mix; 14] = [
 #[derive(Clone, Copy)]
 enum Limit {
     Events(u64),
-    Time(Instant),
+    Time { start: Instant, length: Duration },
 }
 
 impl Limit {
     fn is_reached(self, counts: &Counts) -> bool {
+        self.is_passed(counts, PATIENCE) || self.is_passed(counts, 1) && counts.missing().is_empty()
+    }
+
+    fn is_passed(self, counts: &Counts, times: u32) -> bool {
         match self {
-            Limit::Events(events) => counts.events >= events,
-            Limit::Time(end) => Instant::now() >= end,
+            Limit::Events(events) => counts.events >= u64::from(times) * events,
+            Limit::Time { start, length } => start.elapsed() >= times * length,
         }
     }
 }
@@ -281,7 +289,10 @@ fn main() {
     assert_eq!(boundary::sizes(), boundary::own_sizes());
     let start = Instant::now();
     let limit = match what.strip_suffix('s') {
-        Some(seconds) => Limit::Time(start + Duration::from_secs(number(seconds))),
+        Some(seconds) => Limit::Time {
+            start,
+            length: Duration::from_secs(number(seconds)),
+        },
         None => Limit::Events(number(what)),
     };
     let mut counts = Counts::default();
@@ -293,9 +304,9 @@ fn main() {
         exit(1);
     }
     let missing = counts.missing();
-    if missing.is_empty() {
-        println!("no difference; every answer came up");
-    } else {
-        println!("no difference; did not come up: {}", missing.join(", "));
+    if !missing.is_empty() {
+        println!("NEVER CAME UP with seed {}: {}", seed, missing.join(", "));
+        exit(1);
     }
+    println!("no difference; every answer came up");
 }

@@ -4,8 +4,8 @@
 
 use crate::texts::{ACK, NAK};
 
-/// What an event or a taking gives. Length and serial speak only for answer 8 ("entry taken,
-/// with text length and serial") and are 0 with every other number.
+/// What an event or a taking gives. Length and serial are those of the entry taken with answer 8,
+/// and 0 with every other number.
 #[derive(Clone, Copy, PartialEq, Eq, Debug)]
 pub struct Answer {
     pub number: u8,

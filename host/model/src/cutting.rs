@@ -4,32 +4,32 @@ use crate::frames::{after, write};
 use crate::records::read;
 use crate::texts::{ETB, ETX};
 
-/// "Pieces are 240 bytes".
+/// The text of one frame: a longer record goes on in the next.
 pub const PIECE: usize = 240;
 
 /// The frames of a message written to the start of `out`, and how many bytes they are; 46 where
 /// the text is no message, then 47 where they do not fit. A refusal changes nothing.
 pub fn cut(text: &[u8], out: &mut [u8]) -> Result<usize, u8> {
-    // "The text must be a message of at most 4,000 bytes (else 46)."
+    // What can be cut: messages, and nothing else.
     let records = read(text)?;
     let mut bytes = Vec::new();
-    // "Frame numbers start at 1."
+    // Numbers: the first frame of a transfer has 1.
     let mut number = 1;
-    // "Each record starts a new frame."
+    // Pieces: no frame holds bytes of two records.
     for record in records {
-        // "A record of 240 bytes with its CR is one frame": the CR is counted.
+        // A piece counts the CR that ends its record.
         let with_cr = &text[record.offset..record.offset + record.length + 1];
         let mut rest = with_cr;
         while !rest.is_empty() {
             let (piece, behind) = rest.split_at(rest.len().min(PIECE));
-            // "all but a record's last end with ETB, the last with ETX".
+            // Ends: ETX only where the record ends too.
             let end = if behind.is_empty() { ETX } else { ETB };
             bytes.extend_from_slice(&write(number, piece, end));
             number = after(number);
             rest = behind;
         }
     }
-    // "a shorter buffer gives 47, a longer one keeps its rest".
+    // The output: 47 if it is too short; bytes behind the frames stay.
     if bytes.len() > out.len() {
         return Err(47);
     }
@@ -68,7 +68,7 @@ mod tests {
             text.resize(with_cr - 1, b'x');
             text.extend_from_slice(b"\rL|1\r");
             let mut out = vec![0; 600];
-            // "Output length is text plus 7 for each frame".
+            // The length: a frame adds 7 bytes to its text.
             let length = text.len() + 7 * frames;
             assert_eq!(cut(&text, &mut out), Ok(length), "{}", with_cr);
             let first_end = out[2 + with_cr.min(240)];

@@ -1,6 +1,6 @@
 //! Field text with its delimiters escaped, and back: document 01, "Records".
 
-/// "Escapes: &F& is |, &S& is ^, &R& is \, &E& is &."
+/// The escapes: what each of the four delimiters is written as.
 const ESCAPES: [(u8, &[u8; 3]); 4] = [
     (b'|', b"&F&"),
     (b'^', b"&S&"),
@@ -29,7 +29,7 @@ pub fn unescape(component: &[u8], out: &mut [u8]) -> Result<usize, u8> {
     while place < component.len() {
         match component[place] {
             b'&' => {
-                // "Another escape, a lone &": the three bytes here must be one of the four.
+                // An & must begin one of the four escapes.
                 let escape = component.get(place..place + 3);
                 let known = ESCAPES
                     .iter()
@@ -40,7 +40,7 @@ pub fn unescape(component: &[u8], out: &mut [u8]) -> Result<usize, u8> {
                 }
                 place += 3;
             }
-            // "or a bare | \ ^ is refused with 46".
+            // A delimiter cannot stand inside a component.
             b'|' | b'\\' | b'^' => return Err(46),
             byte => {
                 bytes.push(byte);
@@ -51,7 +51,7 @@ pub fn unescape(component: &[u8], out: &mut [u8]) -> Result<usize, u8> {
     fill(&bytes, out)
 }
 
-/// 47: "output does not fit"; a longer buffer keeps its rest.
+/// 47 where the buffer is too short; a longer one keeps its rest.
 fn fill(bytes: &[u8], out: &mut [u8]) -> Result<usize, u8> {
     if bytes.len() > out.len() {
         return Err(47);

@@ -86,7 +86,7 @@ fn answers_0_to_8() {
     assert_eq!(world.send(2, &write(1, H, ETX)), 2);
     assert_eq!(world.send(2, &write(1, b"anything", ETB)), 3);
     assert_eq!(world.send(2, &write(2, L, ETX)), 4);
-    // The L frame resent: "Storing again" is one of the errors seen.
+    // The L frame resent: gateways have been seen to store it again.
     assert_eq!(world.send(2, &write(2, L, ETX)), 3);
     assert_eq!(world.model.ledger.in_use, 16);
     assert_eq!(world.send(2, &[EOT]), 5);
@@ -112,9 +112,9 @@ fn answers_20_to_27() {
     assert_eq!(world.send(2, &write(1, &[0x00], ETX)), 24);
     assert_eq!(world.send(2, &write(8, b"", ETX)), 25);
     assert_eq!(world.send(2, &write(2, b"", ETX)), 27);
-    // "Before the first accepted frame there is no repeat, so number 0 gives 27."
+    // The repeat: a line that has accepted nothing knows none, not even number 0.
     assert_eq!(world.send(2, &write(0, b"", ETX)), 27);
-    // "Advancing the number on a NAK" is one of the errors seen.
+    // The number: gateways have been seen to move it on with a NAK.
     assert_eq!(world.model.lines[2].next, 1);
     assert_eq!(world.send(2, &write(1, L, ETX)), 30);
     assert_eq!(world.send(2, &write(1, L, ETX)), 26);
@@ -222,7 +222,7 @@ fn answer_31_and_the_guaranteed_share() {
     }
     assert_eq!(world.model.ledger.in_use, JOURNAL);
     assert!(!world.is_broken());
-    // "freed room serves again".
+    // Room that a taking frees serves again.
     assert_eq!(world.take(5, 4_000).number, 8);
     assert_eq!(store(&mut world, 3, 4_000), 4);
     assert_eq!(world.model.ledger.in_use, JOURNAL);
@@ -236,7 +236,7 @@ fn no_room_is_final_for_the_transfer() {
     }
     assert_eq!(world.send(5, &[ENQ]), 1);
     assert_eq!(send_text(&mut world, 5, &message_of(4_000))[16], 31);
-    // "Trying for room again on each resend" is one of the errors seen.
+    // Room: gateways have been seen to ask for it again when the frame is resent.
     assert_eq!(world.take(5, 4_000).number, 8);
     assert_eq!(world.send(5, &write(1, MESSAGE, ETX)), 26);
     assert_eq!(world.model.lines[5].last, Some(0));
@@ -395,7 +395,7 @@ fn records_that_no_run_reaches_follow_the_words() {
 
 #[test]
 fn a_cut_message_is_stored_by_a_fresh_line() {
-    // "Demand 2 reads: ENQ, then these bytes, with no seconds events between."
+    // Our own frames come through: sent after ENQ, while no time passes.
     let mut random = Random::new(21);
     for round in 0..400 {
         let line = (round % 8) as u8;

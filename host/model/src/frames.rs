@@ -12,8 +12,8 @@ pub struct Frame<'a> {
     pub is_etx: bool,
 }
 
-/// "The check is the sum, modulo 256, of all bytes from the number digit to ETB or ETX, both
-/// counted, as two digits 0-9, A-F." `counted` is just those bytes.
+/// The check: the low byte of the sum of `counted`, in two hex digits with capitals. Counted are
+/// the number digit, the text, and the ETB or ETX behind it.
 pub fn check(counted: &[u8]) -> [u8; 2] {
     let mut sum: u32 = 0;
     for &byte in counted {
@@ -31,33 +31,33 @@ fn digit(value: u32) -> u8 {
 /// apart; or the first of 21 to 25 that applies.
 pub fn take_apart(bytes: &[u8]) -> Result<Frame<'_>, u8> {
     let count = bytes.len();
-    // 21: "246th byte is not LF".
+    // 21: as long as a frame can be, and not ended.
     if count == 246 && bytes[245] != LF {
         return Err(21);
     }
-    // 22: "fewer than 6 collected": number, ETB or ETX, two digits, CR, LF with no text are 6.
+    // 22, too short: number, ETB or ETX, two digits, CR, LF with no text are 6.
     if count < 6 {
         return Err(22);
     }
-    // 22: "or no CR before LF".
+    // 22, the line end: CR stands before LF.
     if bytes[count - 2] != CR {
         return Err(22);
     }
-    // 22: "or no ETB/ETX fifth from the end".
+    // 22, the text's end: two digits, CR and LF stand behind it.
     let end = bytes[count - 5];
     if end != ETB && end != ETX {
         return Err(22);
     }
-    // 23: "check digits wrong".
+    // 23: the digits say another sum.
     if bytes[count - 4..count - 2] != check(&bytes[..count - 4]) {
         return Err(23);
     }
-    // 24: "a text byte not allowed".
+    // 24: the text's bytes.
     let text = &bytes[1..count - 5];
     if !text.iter().all(|&byte| is_allowed(byte)) {
         return Err(24);
     }
-    // 25: "number not 0 to 7".
+    // 25: the number digit.
     if !(b'0'..=b'7').contains(&bytes[0]) {
         return Err(25);
     }
@@ -68,8 +68,8 @@ pub fn take_apart(bytes: &[u8]) -> Result<Frame<'_>, u8> {
     })
 }
 
-/// "STX, number digit, 0 to 240 text bytes, ETB (17) or ETX (03), two check digits, CR (0D), LF."
-/// Longer texts are written just as well: the traffic needs over-long frames too.
+/// A frame, byte for byte, with its STX in front and its check behind the end byte. Texts over 240
+/// bytes are written just as well: the traffic needs over-long frames too.
 pub fn write(number: u8, text: &[u8], end: u8) -> Vec<u8> {
     let mut frame = vec![STX, b'0' + number];
     frame.extend_from_slice(text);
@@ -80,7 +80,7 @@ pub fn write(number: u8, text: &[u8], end: u8) -> Vec<u8> {
     frame
 }
 
-/// "Numbers run 1, 2, .. 7, 0, 1."
+/// Numbers: 0 comes after 7.
 pub fn after(number: u8) -> u8 {
     (number + 1) % 8
 }
@@ -106,7 +106,7 @@ mod tests {
                 assert_eq!(frame.is_etx, is_etx);
             }
         }
-        // "At most 247 bytes."
+        // The longest frame.
         assert_eq!(write(1, &[b'a'; 240], ETB).len(), 247);
     }
 

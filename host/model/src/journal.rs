@@ -8,19 +8,19 @@ use crate::{JOURNAL, LINES};
 pub struct Ledger {
     /// How many bytes from the journal's start are in use.
     pub in_use: usize,
-    /// "A line's used count is the sum of its waiting entries, headers counted."
+    /// How many of these each line's entries have, with their headers.
     pub used: [usize; LINES],
     /// The serial each line's next entry gets.
     pub serials: [u16; LINES],
 }
 
-/// "4 header bytes, then the text".
+/// Bytes of an entry in front of its text.
 pub const HEADER: usize = 4;
 
-/// "lengths 1 to 4,000".
+/// The longest text of an entry.
 pub const TEXT_LIMIT: usize = 4_000;
 
-/// "Each share is 2,048."
+/// What every line is sure of.
 pub const SHARE: usize = 2_048;
 
 /// One entry of the journal, as its header tells.
@@ -39,8 +39,8 @@ impl Entry {
     }
 }
 
-/// "Header, most significant bit first: line 3 bits, spare 1 bit (zero), text length 12 bits,
-/// serial 16 bits."
+/// The header: 3 bits for the line, a bit that is 0, 12 for the length, 16 for the serial, the
+/// highest bit of each in front.
 pub fn header(line: usize, length: usize, serial: u16) -> [u8; HEADER] {
     let [high, low] = serial.to_be_bytes();
     [
@@ -57,7 +57,7 @@ fn entry_at(journal: &[u8], in_use: usize, start: usize) -> Option<Entry> {
         return None;
     }
     let header = &journal[start..start + HEADER];
-    // "entries with spare bit 0".
+    // A right entry: the spare bit.
     if header[0] & 0x10 != 0 {
         return None;
     }
@@ -67,18 +67,18 @@ fn entry_at(journal: &[u8], in_use: usize, start: usize) -> Option<Entry> {
         length: usize::from(header[0] & 0x0F) << 8 | usize::from(header[1]),
         serial: u16::from_be_bytes([header[2], header[3]]),
     };
-    // "and lengths 1 to 4,000".
+    // A right entry: the length.
     if entry.length == 0 || entry.length > TEXT_LIMIT {
         return None;
     }
-    // "a whole chain": the last entry ends where the bytes in use end.
+    // A whole chain: the last entry ends where the bytes in use end.
     if entry.end() > in_use {
         return None;
     }
     Some(entry)
 }
 
-/// The larger of used and share, summed over all lines, "is at most 32,768".
+/// Room: each line counts with its share, or with what it uses where that is more.
 pub fn fits(used: &[usize; LINES]) -> bool {
     let mut sum: u128 = 0;
     for &count in used {
@@ -87,13 +87,13 @@ pub fn fits(used: &[usize; LINES]) -> bool {
     sum <= JOURNAL as u128
 }
 
-/// "wraps from 65,535 to 0".
+/// Serials: 16 bits, round and round.
 pub fn serial_after(serial: u16) -> u16 {
     serial.wrapping_add(1)
 }
 
 impl Ledger {
-    /// "journal empty, serials 0".
+    /// Nothing stored, and nothing ever numbered.
     pub fn fresh() -> Ledger {
         Ledger {
             in_use: 0,
@@ -102,8 +102,8 @@ impl Ledger {
         }
     }
 
-    /// The entries in the bytes in use, or none where these "exceed the journal, or aren't a whole
-    /// chain of entries". `journal` is of the right size: 41 comes first.
+    /// The entries in the bytes in use, or none where these are more than the journal has, or not
+    /// right entries up to their end. `journal` is of the right size: 41 comes first.
     pub fn chain(&self, journal: &[u8]) -> Option<Vec<Entry>> {
         if self.in_use > JOURNAL {
             return None;
@@ -118,7 +118,7 @@ impl Ledger {
         Some(entries)
     }
 
-    /// Answer 43: no whole chain, or not one "whose sums are the lines' used counts".
+    /// Answer 43: no whole chain, or one that comes to other used counts.
     pub fn is_broken(&self, journal: &[u8]) -> bool {
         let entries = match self.chain(journal) {
             None => return true,
@@ -131,15 +131,15 @@ impl Ledger {
         sums != self.used
     }
 
-    /// "A new entry is stored exactly if, after it, the sum over all lines of the larger of used
-    /// and share is at most 32,768." The chain is whole: 43 comes first.
+    /// Room for an entry: it is asked of the used counts as they would be with it. The chain is whole:
+    /// 43 comes first.
     pub fn has_room(&self, line: usize, length: usize) -> bool {
         let mut used = self.used;
         used[line] += HEADER + length;
         fits(&used)
     }
 
-    /// "Entries stand in the order of storing". The chain is whole and there is room.
+    /// Storing: behind all entries that wait. The chain is whole and there is room.
     pub fn store(&mut self, journal: &mut [u8], line: usize, text: &[u8]) {
         let start = self.in_use;
         let serial = self.serials[line];
@@ -156,14 +156,14 @@ impl Ledger {
         self.serials[line] = serial_after(serial);
     }
 
-    /// "the line's oldest entry". The chain is whole: 43 comes first.
+    /// The entry that a taking gives: the line's first. The chain is whole: 43 comes first.
     pub fn oldest(&self, journal: &[u8], line: usize) -> Option<Entry> {
         let entries = self.chain(journal)?;
         entries.into_iter().find(|entry| entry.line == line)
     }
 
-    /// "later entries close up"; "Bytes not named here keep their value, also those past the
-    /// journal's end in use": behind the new end stands what stood there before.
+    /// What a taking leaves: the entries behind it move up over it, and behind the new end stands what
+    /// stood there before.
     pub fn remove(&mut self, journal: &mut [u8], entry: Entry) {
         journal.copy_within(entry.end()..self.in_use, entry.start);
         self.in_use -= HEADER + entry.length;

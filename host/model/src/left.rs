@@ -1,6 +1,6 @@
-//! "What is left": from an answer's number alone, the paragraph of document 01 says all that has
-//! changed. Here it is followed sentence by sentence, and compared with the model byte for byte
-//! under traffic of all mixes.
+//! What is left after each answer: by its number alone, document 01 says all that has changed. Here
+//! that is written once more, by the answers and not by the events, and compared with the model byte
+//! for byte under traffic of all mixes.
 
 use crate::answers::Answer;
 use crate::lines::{Kind, Line, State};
@@ -10,14 +10,14 @@ use crate::world::{Op, World, BLANK};
 /// The world after an event that was given this answer.
 fn after_event(before: &World, line: u8, kind: Kind, number: u8) -> World {
     let mut world = before.clone();
-    // "40 to 47, 20 and ignored events change nothing at all."
+    // Refusals of the call, and a second ENQ: nothing.
     if number == 20 || number >= 40 {
         return world;
     }
     let n = usize::from(line);
     let record = &mut world.model.lines[n];
     let old = *record;
-    // "1, 5, 6 and 7 change only the line's state".
+    // A transfer opened or over: the record, and no memory.
     if matches!(number, 1 | 5 | 6 | 7) {
         *record = Line::fresh();
         if number == 1 {
@@ -27,7 +27,7 @@ fn after_event(before: &World, line: u8, kind: Kind, number: u8) -> World {
     }
     let byte = match kind {
         Kind::Seconds(seconds) => {
-            // "seconds to the second count"; a neutral line has ignored them.
+            // Seconds: counted, but not on a neutral line.
             assert_eq!(number, 0);
             if old.state != State::Neutral {
                 record.seconds += usize::from(seconds);
@@ -39,7 +39,7 @@ fn after_event(before: &World, line: u8, kind: Kind, number: u8) -> World {
     match old.state {
         State::Neutral => return world,
         State::Waiting => {
-            // "STX only moves the line inside."
+            // A byte between frames: STX moves the line inside, others do nothing.
             if byte == 0x02 {
                 record.state = State::Inside;
             }
@@ -47,36 +47,36 @@ fn after_event(before: &World, line: u8, kind: Kind, number: u8) -> World {
         }
         State::Inside => {}
     }
-    // "A collected byte is added to the frame bytes"; "A judged frame .. adds its last byte".
+    // A byte inside a frame: it stands behind the others, the last one too.
     let part = &mut world.frames[246 * n..246 * (n + 1)];
     part[old.collected] = byte;
     if number == 0 {
         record.collected += 1;
         return world;
     }
-    // "sets the collected and second counts to 0, and the line waits".
+    // A frame judged: the line waits for the next one.
     record.collected = 0;
     record.seconds = 0;
     record.state = State::Waiting;
     if !matches!(number, 2 | 4 | 30 | 31) {
         return world;
     }
-    // "2, 4, 30 and 31 also write the text behind the joined text": of the collected bytes the
-    // first is the number, and the last five close the frame.
+    // Its text, where the frame was in turn: of the collected bytes the first is the number, and the
+    // last five close the frame.
     let text = &part[1..old.collected - 4];
     let joined = old.joined + text.len();
     let start = 4_000 * n;
     world.unfinished[start + old.joined..start + joined].copy_from_slice(text);
-    // "the joined count grows by it after 2 and is 0 after the others".
+    // A message that goes on keeps its text; one that is decided has none.
     record.joined = if number == 2 { joined } else { 0 };
-    // "2 and 4 advance the number; 30 and 31 make the line refuse."
+    // The number moves on with ACK; with NAK the line refuses what follows.
     if number == 2 || number == 4 {
         record.last = Some(part[0] - b'0');
         record.next = (old.next + 1) % 8;
     } else {
         record.refusing = true;
     }
-    // "Only 4 and 8 change the journal."
+    // The journal: one entry more.
     if number == 4 {
         let ledger = &mut world.model.ledger;
         let mut entry = vec![
@@ -119,7 +119,7 @@ fn after_taking(before: &World, line: u8, buffer: usize, answer: Answer) -> Worl
     assert_eq!(answer.length, length);
     let end = start + 4 + length;
     world.buffer[..length].copy_from_slice(&before.journal[start + 4..end]);
-    // "later entries close up".
+    // The journal: what stood behind the entry moves up over it.
     for place in end..before.model.ledger.in_use {
         world.journal[place - 4 - length] = before.journal[place];
     }
@@ -129,7 +129,7 @@ fn after_taking(before: &World, line: u8, buffer: usize, answer: Answer) -> Worl
 }
 
 #[test]
-fn each_answer_leaves_what_the_document_says() {
+fn each_answer_leaves_what_the_rules_say() {
     let mut world = World::fresh(0x2D);
     let mut traffic = Traffic::new(11);
     let mut seen = [0; 256];

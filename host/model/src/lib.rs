@@ -2,8 +2,8 @@
 //! shares, cutting, escaping and the replay listing.
 //!
 //! It is written from the document alone and for reading beside it: answers are the document's
-//! numbers, each rule carries the few words it comes from in quotes, and where the words leave
-//! a choice the comment says which reading was taken. It uses nothing but the standard library.
+//! numbers, a comment names the subject of each rule where it is applied, and where the rules leave
+//! a choice it says which reading was taken. It uses nothing but the standard library.
 //!
 //! The caller owns the memories and lends them to each call, as the document has it; `Model`
 //! holds only the eight records and the ledger, all of it open, so that a test can also set
@@ -31,10 +31,10 @@ pub use listing::listing;
 pub use model::Model;
 pub use records::{component_end, field, is_message, read, read_into, Record};
 
-/// "Eight serial lines, numbered 0 to 7."
+/// The lines, 0 to 7.
 pub const LINES: usize = 8;
 
-/// "Memory: journal 32,768 bytes, unfinished text 8 parts of 4,000, frames 8 parts of 246."
+/// The memories, in bytes: one journal, and a part of its own for each line in the other two.
 pub const JOURNAL: usize = 32_768;
 pub const UNFINISHED_PART: usize = 4_000;
 pub const UNFINISHED: usize = LINES * UNFINISHED_PART;

@@ -2,7 +2,7 @@
 
 use crate::texts::{ENQ, EOT, LF, STX};
 
-/// "A line is neutral, waiting, or inside a frame."
+/// Where a line is: without a transfer, in one between frames, or in a frame.
 #[derive(Clone, Copy, PartialEq, Eq, Debug)]
 pub enum State {
     Neutral,
@@ -10,7 +10,7 @@ pub enum State {
     Inside,
 }
 
-/// "An event belongs to one line and is either a byte or a number of seconds passed (0 to 255)."
+/// What can happen on a line.
 #[derive(Clone, Copy, PartialEq, Eq, Debug)]
 pub enum Kind {
     Byte(u8),
@@ -35,7 +35,7 @@ pub struct Line {
     pub refusing: bool,
 }
 
-/// "Record limits: collected up to 245, joined up to 4,000, seconds up to 29, numbers up to 7."
+/// The limits of a record; each value itself is within.
 pub const COLLECTED_LIMIT: usize = 245;
 pub const JOINED_LIMIT: usize = 4_000;
 pub const SECONDS_LIMIT: usize = 29;
@@ -53,7 +53,7 @@ pub enum Step {
 }
 
 impl Line {
-    /// "its three counts 0, next number 1, no last number, no refusing".
+    /// What the start and the end of a transfer leave of a record, besides its state.
     fn cleared(state: State) -> Line {
         Line {
             state,
@@ -66,7 +66,7 @@ impl Line {
         }
     }
 
-    /// "Fresh means: all lines neutral with counts 0". The rest is as after answer 5.
+    /// A line of a fresh gateway: as after answer 5.
     pub fn fresh() -> Line {
         Line::cleared(State::Neutral)
     }
@@ -86,7 +86,7 @@ impl Line {
             (State::Neutral, Kind::Byte(byte)) => self.byte_while_neutral(byte),
             (State::Waiting, Kind::Byte(byte)) => self.byte_while_waiting(byte),
             (State::Inside, Kind::Byte(byte)) => self.byte_inside(byte),
-            // "A seconds event adds to it in waiting or inside", so not here.
+            // Seconds are counted while a transfer is open, so not here.
             (State::Neutral, Kind::Seconds(_)) => Step::Done(0),
             (_, Kind::Seconds(seconds)) => self.pass(seconds),
         }
@@ -94,47 +94,47 @@ impl Line {
 
     fn byte_while_neutral(&mut self, byte: u8) -> Step {
         if byte == ENQ {
-            // "ENQ (05) opens the transfer"; "change only the line's state".
+            // Neutral, ENQ: a transfer opens; memory stays as it is.
             *self = Line::cleared(State::Waiting);
             return Step::Done(1);
         }
-        // "Anything else is ignored."
+        // Neutral, any other byte.
         Step::Done(0)
     }
 
     fn byte_while_waiting(&mut self, byte: u8) -> Step {
         match byte {
             STX => {
-                // "STX only moves the line inside": the collected count stays what it is.
+                // Waiting, STX: a frame begins; the collected count stays what it is.
                 self.state = State::Inside;
                 Step::Done(0)
             }
             EOT => {
-                // "EOT with no / with some unfinished text".
+                // Waiting, EOT: the answer tells whether text is dropped.
                 let answer = if self.joined == 0 { 5 } else { 6 };
                 *self = Line::cleared(State::Neutral);
                 Step::Done(answer)
             }
-            // "ENQ is answered NAK (house)."
+            // Waiting, ENQ: refused (house).
             ENQ => Step::Done(20),
-            // "Other bytes are ignored."
+            // Waiting, any other byte.
             _ => Step::Done(0),
         }
     }
 
     fn byte_inside(&mut self, byte: u8) -> Step {
-        // "judged at the first LF (0A), or at the 246th collected byte".
+        // Inside, the end of a frame: LF, or as many bytes as one can have.
         if byte == LF || self.collected + 1 == 246 {
             return Step::Judge;
         }
-        // "every byte is collected".
+        // Inside, any other byte, STX and EOT too.
         Step::Collect
     }
 
     fn pass(&mut self, seconds: u8) -> Step {
         let total = self.seconds + usize::from(seconds);
         if total >= 30 {
-            // "At 30 or more the line turns neutral and unfinished text is dropped."
+            // The time-out: the transfer ends, as with EOT.
             *self = Line::cleared(State::Neutral);
             return Step::Done(7);
         }

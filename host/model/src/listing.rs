@@ -5,6 +5,9 @@ use crate::lines::Kind;
 use crate::model::Model;
 use crate::{FRAMES, JOURNAL, UNFINISHED};
 
+/// A longer input line is not an event (house); only zeros in front of a number could fill one.
+pub const LINE_LIMIT: usize = 4_096;
+
 /// What one input line asks for.
 #[derive(Clone, Copy, PartialEq, Eq, Debug)]
 pub enum Call {
@@ -27,7 +30,7 @@ pub fn listing(input: &[u8]) -> String {
         let call = match parse(text) {
             Some(call) => call,
             None => {
-                // "A bad line n ends the run with `line n: not an event`."
+                // A line that is no event: the run ends, without a count.
                 output.push_str(&format!("line {}: not an event\n", events + 1));
                 return output;
             }
@@ -54,7 +57,7 @@ pub fn listing(input: &[u8]) -> String {
     output
 }
 
-/// "For answer 8 the last column is the text length"; else the reply byte, or `--` for none.
+/// The last column: the length of a message taken, else the reply byte, or `--` for none.
 fn last_column(answer: Answer) -> String {
     if answer.number == 8 {
         return answer.length.to_string();
@@ -74,10 +77,13 @@ fn input_lines(input: &[u8]) -> Vec<&[u8]> {
     lines
 }
 
-/// "line digit, then `B` and two hex digits, `S` and 0 to 255, or `T` and a buffer length 0 to
-/// 4,000", with one space between the parts and nothing else. A line digit 8 or 9 is an event, for
-/// the gateway to refuse; leading zeros and small hex digits are no fault.
+/// An input line: a digit for the line, a letter and its operand (two hex digits, seconds, or the
+/// length of a buffer), with one space between the parts and nothing else. A line digit 8 or 9 is an
+/// event, for the gateway to refuse; leading zeros and small hex digits are no fault.
 pub fn parse(text: &[u8]) -> Option<Call> {
+    if text.len() > LINE_LIMIT {
+        return None;
+    }
     let parts: Vec<&[u8]> = text.split(|&byte| byte == b' ').collect();
     if parts.len() != 3 || parts[0].len() != 1 || !parts[0][0].is_ascii_digit() {
         return None;
@@ -133,7 +139,7 @@ mod tests {
     use super::*;
 
     #[test]
-    fn the_documents_own_listing() {
+    fn the_listing_of_the_rules() {
         assert_eq!(
             listing(b"0 B 05\n0 B 04\n0 T 4000\n"),
             "event line answer reply\n1 0 1 06\n2 0 5 --\n3 0 44 --\n3 events\n"
@@ -244,5 +250,15 @@ mod tests {
             assert_eq!(parse(text.as_bytes()), None, "{:?}", text);
         }
         assert_eq!(parse(b"0 B \xFF\xFF"), None);
+    }
+
+    #[test]
+    fn a_line_over_the_limit_is_not_an_event() {
+        let line = |length: usize| format!("7 S {:0>1$}", 30, length - "7 S ".len());
+        let kind = Kind::Seconds(30);
+        let call = Call::Event { line: 7, kind };
+        assert_eq!(line(LINE_LIMIT).len(), LINE_LIMIT);
+        assert_eq!(parse(line(LINE_LIMIT).as_bytes()), Some(call));
+        assert_eq!(parse(line(LINE_LIMIT + 1).as_bytes()), None);
     }
 }

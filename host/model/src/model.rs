@@ -17,7 +17,7 @@ pub struct Model {
 }
 
 impl Model {
-    /// "all lines neutral with counts 0, journal empty, serials 0".
+    /// A gateway that nothing has happened to.
     pub fn fresh() -> Model {
         Model {
             lines: [Line::fresh(); LINES],
@@ -34,7 +34,7 @@ impl Model {
         unfinished: &mut [u8],
         frames: &mut [u8],
     ) -> Answer {
-        // "An event tests 40, 41, 42, then its work".
+        // The order of an event's tests: line, memories, record.
         let line = usize::from(line);
         if line >= LINES {
             return Answer::plain(40);
@@ -42,13 +42,13 @@ impl Model {
         if journal.len() != JOURNAL || unfinished.len() != UNFINISHED || frames.len() != FRAMES {
             return Answer::plain(41);
         }
-        // "the line's record": no other line's.
+        // No other line's record is looked at.
         if !self.lines[line].is_within_limits() {
             return Answer::plain(42);
         }
         let number = match (self.lines[line].step(kind), kind) {
             (Step::Done(number), _) => number,
-            // "A collected byte is added to the frame bytes".
+            // What is left, a byte inside a frame: it stands behind the others.
             (Step::Collect, Kind::Byte(byte)) => {
                 frames[line * FRAME_PART + self.lines[line].collected] = byte;
                 self.lines[line].collected += 1;
@@ -77,19 +77,18 @@ impl Model {
         let mut bytes = part[..record.collected].to_vec();
         bytes.push(byte);
 
-        // "A frame is judged in the order 21 to 27 .. then 28 to 31; the first that applies".
+        // The order of judging: by the bytes alone, then by what the line has had.
         let frame = take_apart(&bytes);
         let number = match &frame {
             Err(number) => *number,
             Ok(frame) => self.weigh(line, frame, &area[..record.joined], journal),
         };
 
-        // "40 to 47 .. change nothing at all": the line stays inside, one byte short.
+        // What is left after 43: all as it was, the line inside, one byte short.
         if number == 43 {
             return 43;
         }
-        // "A judged frame (2 to 4, 21 to 31) adds its last byte, sets the collected and second
-        // counts to 0, and the line waits."
+        // What is left after any other: the frame's last byte, and a line that waits for the next one.
         part[record.collected] = byte;
         let left = &mut self.lines[line];
         left.collected = 0;
@@ -100,19 +99,20 @@ impl Model {
             Ok(frame) if matches!(number, 2 | 4 | 30 | 31) => frame,
             _ => return number,
         };
-        // "2, 4, 30 and 31 also write the text behind the joined text; the joined count grows by
-        // it after 2 and is 0 after the others."
+        // What is left of the text: it is written even where the message is refused, and counted only
+        // where the message goes on.
         let joined = record.joined + frame.text.len();
         area[record.joined..joined].copy_from_slice(frame.text);
         left.joined = if number == 2 { joined } else { 0 };
-        // "2 and 4 advance the number; 30 and 31 make the line refuse."
+        // What is left of the number: only an acknowledged frame moves it on; a refused message stops
+        // the transfer.
         if number == 2 || number == 4 {
             left.last = Some(frame.number);
             left.next = after(left.next);
         } else {
             left.refusing = true;
         }
-        // "Only 4 and 8 change the journal."
+        // What is left in the journal: a message that is acknowledged.
         if number == 4 {
             self.ledger.store(journal, line, &area[..joined]);
         }
@@ -122,54 +122,53 @@ impl Model {
     /// The answer of a frame that passed 21 to 25, with `before` as the line's joined text.
     fn weigh(&self, line: usize, frame: &Frame, before: &[u8], journal: &[u8]) -> u8 {
         let record = &self.lines[line];
-        // 26: "message already decided against".
+        // 26: a message of this transfer was refused.
         if record.refusing {
             return 26;
         }
-        // "with 3 between 26 and 27"; "A repeat is known by its number alone."
+        // 3, the repeat: it is known by its number, whatever its text.
         if record.last == Some(frame.number) {
             return 3;
         }
-        // 27: "number neither last nor next".
+        // 27: out of turn.
         if frame.number != record.next {
             return 27;
         }
-        // 28: "joined text over 4,000".
+        // 28: more text than a message can have.
         if before.len() + frame.text.len() > JOINED_LIMIT {
             return 28;
         }
-        // "An ETB frame never ends a message."
+        // The end of a message: it is never at ETB.
         if !frame.is_etx {
             return 2;
         }
         let joined = [before, frame.text].concat();
-        // 29: "ETX, and joined text empty or without CR at its end".
+        // 29: at ETX a record must end.
         if joined.last() != Some(&CR) {
             return 29;
         }
-        // "the last record is looked at: if its first byte is L, the message is decided now".
+        // The end of a message: by the first byte of its last record.
         if last_record_begins_with(&joined) != Some(b'L') {
             return 2;
         }
-        // 30: "decided: not a message".
+        // 30: decided by the text alone, before the journal is looked at.
         if !is_message(&joined) {
             return 30;
         }
-        // "Answer 43 is given by events that reach room (after 30)".
+        // 43: only a message that asks for room finds out.
         if self.ledger.is_broken(journal) {
             return 43;
         }
-        // 31: "decided: no room".
+        // 31: decided by the shares.
         if !self.ledger.has_room(line, joined.len()) {
             return 31;
         }
         4
     }
 
-    /// "A taking names a line and lends a buffer of any length". Of the memories only the journal
-    /// is lent to it.
+    /// A taking, with any buffer. Of the memories only the journal is lent to it.
     pub fn take(&mut self, line: u8, journal: &mut [u8], buffer: &mut [u8]) -> Answer {
-        // "a taking 40, 41, 43, 44, 45".
+        // The order of a taking's tests: line, journal's size, chain, entry, buffer.
         let line = usize::from(line);
         if line >= LINES {
             return Answer::plain(40);
@@ -180,16 +179,14 @@ impl Model {
         if self.ledger.is_broken(journal) {
             return Answer::plain(43);
         }
-        // 44: "nothing waiting".
         let entry = match self.ledger.oldest(journal, line) {
             None => return Answer::plain(44),
             Some(entry) => entry,
         };
-        // 45: "buffer too short".
         if buffer.len() < entry.length {
             return Answer::plain(45);
         }
-        // "the text of the line's oldest entry is copied to its start, the rest stays".
+        // What is left in the buffer: the text, and behind it what stood there.
         let text = &journal[entry.end() - entry.length..entry.end()];
         buffer[..entry.length].copy_from_slice(text);
         self.ledger.remove(journal, entry);

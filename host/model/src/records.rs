@@ -9,20 +9,20 @@ pub struct Record {
     pub kind: u8,
     /// Where it starts in the text.
     pub offset: usize,
-    /// "length without CR".
+    /// Its bytes, the CR not counted.
     pub length: usize,
-    /// "owner (its number from 1, or 0)".
+    /// The record it belongs to, by number from 1; 0 for none.
     pub owner: usize,
 }
 
-/// "A message is 1 to 4,000 allowed text bytes".
+/// The longest message.
 pub const MESSAGE_LIMIT: usize = 4_000;
 
-/// "the first begins with H, then the four delimiters in the order | \ ^ &".
+/// How a message begins: the letter of its header, and the delimiters that it names.
 pub const HEAD: &[u8] = b"H|\\^&";
 
-/// "Types and what may follow, C and M passed over". C and M themselves "may follow any record
-/// but L", whatever C or M stands between.
+/// What may follow: `before` is the last record that is neither C nor M, so that any number of these
+/// may stand between; they themselves are refused behind L alone.
 fn may_follow(before: u8, kind: u8) -> bool {
     let followers: &[u8] = match before {
         b'H' => b"POQLCM",
@@ -30,7 +30,7 @@ fn may_follow(before: u8, kind: u8) -> bool {
         b'O' => b"ORPQLCM",
         b'R' => b"ROPQLCM",
         b'Q' => b"QPLCM",
-        _ => b"", // "L: nothing."
+        _ => b"", // behind L nothing
     };
     followers.contains(&kind)
 }
@@ -53,28 +53,28 @@ struct Counts {
 impl Counts {
     /// The number the next record of this type must have.
     fn advance(&mut self, kind: u8) -> u32 {
-        // "C and M count apart and restart at each other record."
+        // C and M: each from 1 behind every record of another type.
         if !is_remark(kind) {
             self.c = 0;
             self.m = 0;
         }
         let count = match kind {
             b'P' => {
-                // "O restarts at each P".
+                // O: from 1 behind every P.
                 self.o = 0;
                 &mut self.p
             }
             b'O' => {
-                // "R at each O".
+                // R: from 1 behind every O.
                 self.r = 0;
                 &mut self.o
             }
-            // "P and Q each count through the message."
+            // Q, as P: on and on.
             b'Q' => &mut self.q,
             b'R' => &mut self.r,
             b'C' => &mut self.c,
             b'M' => &mut self.m,
-            // "L has 1."
+            // L: there is one.
             _ => return 1,
         };
         *count += 1;
@@ -95,15 +95,15 @@ impl Owners {
     /// The owner of record `number`, which is of this type.
     fn advance(&mut self, kind: u8, number: usize) -> usize {
         let owner = match kind {
-            // "P and Q belong to H", and H is the first record.
+            // P and Q: H, the first record.
             b'P' | b'Q' => 1,
-            // "O to the last P (to H where none came)".
+            // O: the P before it, or H.
             b'O' => self.p.max(1),
-            // "R to the last O".
+            // R: the O before it; there is one.
             b'R' => self.o,
-            // "C and M to the last other record".
+            // C and M: what they remark on.
             b'C' | b'M' => self.other,
-            // "H and L have no owner."
+            // H and L: none.
             _ => 0,
         };
         if kind == b'P' {
@@ -119,22 +119,22 @@ impl Owners {
     }
 }
 
-/// "Reading a message gives each record's type, offset, length without CR and owner"; a text
-/// that is no message gives 46.
+/// The records of a message, in order; a text that is no message gives 46.
 pub fn read(text: &[u8]) -> Result<Vec<Record>, u8> {
-    // "A message is 1 to 4,000 allowed text bytes".
+    // A message: its length.
     if text.is_empty() || text.len() > MESSAGE_LIMIT {
         return Err(46);
     }
+    // A message: its bytes.
     if !text.iter().all(|&byte| is_allowed(byte)) {
         return Err(46);
     }
-    // "made of records, each ended by CR".
+    // A message: CR ends each record, so the last byte is one.
     let end = text.len() - 1;
     if text[end] != CR {
         return Err(46);
     }
-    // "the first begins with H, then the four delimiters": nothing is said of what follows them.
+    // A message: its header. Nothing is said of what follows the delimiters there.
     if !text.starts_with(HEAD) {
         return Err(46);
     }
@@ -162,7 +162,7 @@ pub fn read(text: &[u8]) -> Result<Vec<Record>, u8> {
         }
         offset += record.len() + 1;
     }
-    // "The last record is L".
+    // A message: its end.
     if found[found.len() - 1].kind != b'L' {
         return Err(46);
     }
@@ -171,19 +171,19 @@ pub fn read(text: &[u8]) -> Result<Vec<Record>, u8> {
 
 /// The type of a record behind the first, if all is right with it.
 fn following(record: &[u8], before: u8, counts: &mut Counts) -> Result<u8, u8> {
-    // "Field 1 is exactly the type letter."
+    // A record: its type, one letter and nothing more.
     let letter = field(record, 1);
     if letter.len() != 1 || !may_follow(before, letter[0]) {
         return Err(46);
     }
-    // "Field 2 of every record but H is a sequence number".
+    // A record: its number, the one that is due.
     if sequence(field(record, 2)) != Some(counts.advance(letter[0])) {
         return Err(46);
     }
     Ok(letter[0])
 }
 
-/// "decimal, 1 to 999999, no leading zero".
+/// A sequence number: one to six digits, the first of them not 0.
 fn sequence(digits: &[u8]) -> Option<u32> {
     if digits.is_empty() || digits.len() > 6 || digits[0] == b'0' {
         return None;
@@ -221,7 +221,7 @@ pub fn last_record_begins_with(text: &[u8]) -> Option<u8> {
     last.first().copied()
 }
 
-/// "Fields are split by |"; field 1 is the first, and "an absent field reads as empty".
+/// A field, from 1; what a record does not have is empty.
 pub fn field(record: &[u8], number: usize) -> &[u8] {
     if number == 0 {
         return b"";
@@ -230,7 +230,7 @@ pub fn field(record: &[u8], number: usize) -> &[u8] {
     fields.nth(number - 1).unwrap_or(b"")
 }
 
-/// "In R, fields 3, 4, 5, 7, 9, 13 are test, value, units, flag, status, completion time".
+/// The fields of a result that have a name here.
 #[derive(Clone, Copy, PartialEq, Eq, Debug)]
 pub struct ResultFields<'a> {
     pub test: &'a [u8],
@@ -253,8 +253,8 @@ pub fn result_fields(record: &[u8]) -> ResultFields<'_> {
     }
 }
 
-/// "The scan for the end of a component stops from inside at the first delimiter of any kind:
-/// | \ ^ or CR; & goes on." With none, the end is the text's; a start past it is left there.
+/// The end of a component: the next delimiter or CR, but not &, which is part of an escape. With
+/// none, the end is the text's; a start past it is left there.
 pub fn component_end(text: &[u8], start: usize) -> usize {
     let mut place = start;
     while place < text.len() {
@@ -334,7 +334,7 @@ mod tests {
     }
 
     #[test]
-    fn sequence_numbers_count_where_the_document_says() {
+    fn sequence_numbers_count_where_the_rules_say() {
         let right = [
             "H|\\^&/O|1/O|2/P|1/O|1/R|1/R|2/O|2/R|1/P|2/O|1/L|1/",
             "H|\\^&/C|1/M|1/C|2/M|2/P|1/C|1/M|1/L|1/",
@@ -374,7 +374,7 @@ mod tests {
     }
 
     #[test]
-    fn owners_as_the_document_has_them() {
+    fn owners_as_the_rules_have_them() {
         assert_eq!(owners("H|\\^&/L|1/"), [0, 0]);
         assert_eq!(
             owners("H|\\^&/C|1/O|1/R|1/C|1/M|1/O|2/P|1/M|1/O|1/R|1/R|2/C|1/P|2/Q|1/C|1/L|1/"),

@@ -10,7 +10,7 @@ pub const CR: u8 = 0x0D;
 pub const NAK: u8 = 0x15;
 pub const ETB: u8 = 0x17;
 
-/// "Allowed text bytes (E1394): 07, 09, 0B, 0C, 0D, 20 to 7E, 80 to FE".
+/// The bytes that E1394 lets a text hold: five control bytes, and all from 20 on but 7F and FF.
 pub fn is_allowed(byte: u8) -> bool {
     matches!(byte, 0x07 | 0x09 | 0x0B | 0x0C | 0x0D | 0x20..=0x7E | 0x80..=0xFE)
 }
@@ -20,8 +20,7 @@ mod tests {
     use super::*;
 
     #[test]
-    fn as_many_as_the_document_counts() {
-        // "227 of the 256"
+    fn as_many_as_the_rules_count() {
         assert_eq!((0..=255).filter(|&byte| is_allowed(byte)).count(), 227);
     }
 

@@ -46,7 +46,7 @@ pub enum Op {
     },
 
     /// All records and the ledger as in a fresh gateway, all memories lent whole. The memories
-    /// keep their contents ("with any contents").
+    /// keep their contents: a fresh gateway may find any.
     Fresh,
 
     State {

@@ -8,6 +8,9 @@
 use ngachodui::{Answer, Gateway, TEXT_LIMIT};
 use std::io::{stdin, stdout, BufRead, BufWriter, Result, Write};
 
+/// A longer line of a trace is not an event (house).
+const LINE_LIMIT: usize = 4_096;
+
 enum Event {
     Byte(u8),
     Seconds(u8),
@@ -16,6 +19,9 @@ enum Event {
 
 /// A line of a trace: `0 B 05`, `0 S 30` or `0 T 4000`, with nothing before, between or behind.
 fn event(text: &[u8]) -> Option<(u8, Event)> {
+    if text.len() > LINE_LIMIT {
+        return None;
+    }
     let parts: Vec<&[u8]> = text.split(|&byte| byte == b' ').collect();
     let (line, kind, value) = match parts[..] {
         [&[line @ b'0'..=b'9'], kind, value] => (line - b'0', kind, value),

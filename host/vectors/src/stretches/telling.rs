@@ -53,8 +53,8 @@ impl Telling {
 }
 
 /// The rule, as `serialize` of the crate `serial` defines it: each line's events are cut behind each one
-/// that decides a message. These stretches, whole, in the order of their last events, takings in between
-/// as they stood; and the lines' rests, lines 0 to 7.
+/// that decides a message. First come the pieces that end so, one after the other as their last events
+/// came, with each taking in its place; then what is left of lines 0 to 7.
 fn stretches(trace: &[Item], outcomes: &[Outcome]) -> (Vec<Vec<usize>>, Vec<Vec<usize>>) {
     let mut whole = Vec::new();
     let mut pending = vec![Vec::new(); LINES];
