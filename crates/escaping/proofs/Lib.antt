@@ -1,4 +1,4 @@
 pub mod Escapes
-pub mod Turns
+pub mod Unescapes
 pub mod RoundTrips
 pub mod OneOutcome
