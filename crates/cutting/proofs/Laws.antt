@@ -94,7 +94,7 @@ bytes-chunks size some end (suc most) (b ∷ bs) h =
     ∙ take-append-drop size (b ∷ bs)
 
 -- a record with its CR is the first of what begins with it
-with-cr-first : (r t : List ℕ) → all isNotCr r ≡ true → recordsWithCr (r ++ cr ∷ t) ≡ (r ++ cr ∷ []) ∷ recordsWithCr t
+pub with-cr-first : (r t : List ℕ) → all isNotCr r ≡ true → recordsWithCr (r ++ cr ∷ t) ≡ (r ++ cr ∷ []) ∷ recordsWithCr t
 with-cr-first [] t h = refl
 with-cr-first (b ∷ r) t h =
     let other : is cr b ≡ false = not-true (is cr b) (and-left (isNotCr b) (all isNotCr r) h) in
