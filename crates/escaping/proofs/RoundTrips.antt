@@ -45,12 +45,12 @@ escaped-plain d (x ∷ t) = there d x (escaped d t) ∙ ap (front (some x)) (esc
 -- what `different` tells of each pair
 six : (a b c e f g : Bool) → a && b && c && e && f && g ≡ true → (a ≡ true) × (b ≡ true) × (c ≡ true) × (e ≡ true) × (f ≡ true) × (g ≡ true)
 six true true true true true true h = (refl, refl, refl, refl, refl, refl)
-six true true true true true false h = let z : _≡_ {A = ℕ} 0 1 = cc in absurd (omega arith)
-six true true true true false g h = let z : _≡_ {A = ℕ} 0 1 = cc in absurd (omega arith)
-six true true true false f g h = let z : _≡_ {A = ℕ} 0 1 = cc in absurd (omega arith)
-six true true false e f g h = let z : _≡_ {A = ℕ} 0 1 = cc in absurd (omega arith)
-six true false c e f g h = let z : _≡_ {A = ℕ} 0 1 = cc in absurd (omega arith)
-six false b c e f g h = let z : _≡_ {A = ℕ} 0 1 = cc in absurd (omega arith)
+six true true true true true false h = clash (cc)
+six true true true true false g h = clash (cc)
+six true true true false f g h = clash (cc)
+six true true false e f g h = clash (cc)
+six true false c e f g h = clash (cc)
+six false b c e f g h = clash (cc)
 
 -- the letter of each delimiter
 module _ (d : Delimiters) (good : different d ≡ true) where
