@@ -1,87 +1,50 @@
 -- What cutting leaves of a text: its bytes, in pieces that fit a frame, each record ended by the only ETX among its pieces.
 -- Assumes nothing.
 use mathlib.Core.Path.{_≡_, refl, sym, ap, _∙_}
-use mathlib.Core.Bool.{Bool, true, false, cond, _&&_}
-use mathlib.Core.List.{List, [], _∷_, _++_}
-use Prim.Native.Nat.{ℕ, suc, _+_, _-_, _*_, _≤_, _<_}
+use mathlib.Core.Bool.{true, false}
+use mathlib.Core.List.{List, [], _∷_, _++_, append-nil, append-assoc}
+use Prim.Native.Nat.{ℕ, zero, suc, _+_, _-_, _*_, _≤_, _<_}
 use native.Mathlib.Omega.{arith}
-use borrow.Author.Tests.{le-leb, leb-true, leb-false, not-true}
+use borrow.Author.Tests.{le-leb, not-true}
 use lib.Dec.{leb}
-use lib.ListN.{length, replicate}
+use lib.ListN.{length, getD, take, drop, replicate, length-append, length-drop, take-append-drop}
+use lib.Seq.{getD-append-seam, length-take-le}
 use Rattle.memory.specs.Sizes.{frameLimit}
 use Rattle.memory.specs.Tests.{is, between, all}
-use Rattle.memory.proofs.Tests.{and-left, and-right, and-both}
+use Rattle.memory.proofs.Tests.{clash, and-left, and-right, and-both}
 use Rattle.characters.specs.Control.{cr}
 use Rattle.frame.specs.Shape.{aroundText}
 use Rattle.frame.specs.declared.End.{End}
 use Rattle.frame.specs.declared.End.the-variants.{Etb, Etx}
-use Rattle.records.specs.Records.{isNotCr}
-use Rattle.cutting.specs.Pieces.{Piece, piece, onto, pieceSize, piecesFrom, piecesOf, bytesOf, every, isSized, isEtb, goesOn}
+use Rattle.records.specs.Records.{onto, isNotCr}
+use Rattle.cutting.specs.Pieces.{Piece, piece, pieceSize, recordsWithCr, chunksWithin, chunks, ended, endAfter, cutRecord, cutAll, piecesOf}
+use Rattle.cutting.specs.Inner.Wholes.{bytesOf, every, isSized, isEtb, goesOn}
 use Rattle.cutting.specs.Frames.{firstNumber, cutOf}
+use Rattle.cutting.proofs.Steps.{chunks-first, by-pieces}
 use Rattle.cutting.proofs.Written.{frames-long}
 
-bytes-onto : (b : ℕ) (ps : List Piece) → bytesOf (onto b ps) ≡ b ∷ bytesOf ps
-bytes-onto b [] = refl
-bytes-onto b (p ∷ ps) = refl
+module _ (limit : ℕ) (text : List ℕ) (h : aroundText < limit) where
+  -- the pieces' bytes, joined, are the text
+  pub pieces-bytes : bytesOf (piecesOf limit text) ≡ text
+  unfolding piecesOf
+  pieces-bytes =
+      by-pieces (pieceSize limit) (omega arith) (λ (t : List ℕ) (ps : List Piece). bytesOf ps ≡ t) refl
+      (λ t n least short within ps e. ap (λ (l : List ℕ). take n t ++ l) e ∙ take-append-drop n t) text
 
-bytes-from : (size : ℕ) (text : List ℕ) (room : ℕ) → bytesOf (piecesFrom size room text) ≡ text
-bytes-from size [] room = refl
-bytes-from size (b ∷ bs) room = by-tests (is cr b) (leb room 1) (bytes-from size bs size) (bytes-from size bs (room - 1))
-  where
-    by-tests : (x y : Bool) → bytesOf (piecesFrom size size bs) ≡ bs → bytesOf (piecesFrom size (room - 1) bs) ≡ bs
-        → bytesOf (cond x (piece Etx (b ∷ []) ∷ piecesFrom size size bs) (cond y (piece Etb (b ∷ []) ∷ piecesFrom size size bs) (onto b (piecesFrom size (room - 1) bs)))) ≡ b ∷ bs
-    by-tests true y e f = ap (λ (l : List ℕ). b ∷ l) e
-    by-tests false true e f = ap (λ (l : List ℕ). b ∷ l) e
-    by-tests false false e f = bytes-onto b (piecesFrom size (room - 1) bs) ∙ ap (λ (l : List ℕ). b ∷ l) f
+  -- the output is as long as the text and 7 for each frame
+  pub cut-long : length (cutOf limit text) ≡ length text + aroundText * length (piecesOf limit text)
+  unfolding cutOf
+  cut-long = frames-long firstNumber (piecesOf limit text) ∙ ap (λ (l : List ℕ). length l + aroundText * length (piecesOf limit text)) pieces-bytes
 
--- the pieces' bytes, joined, are the text
-pub pieces-bytes : (limit : ℕ) (text : List ℕ) → bytesOf (piecesOf limit text) ≡ text
-unfolding piecesOf
-pieces-bytes limit text = bytes-from (pieceSize limit) text (pieceSize limit)
-
--- the output is as long as the text and 7 for each frame
-pub cut-long : (limit : ℕ) (text : List ℕ) → length (cutOf limit text) ≡ length text + aroundText * length (piecesOf limit text)
-unfolding cutOf
-cut-long limit text = frames-long firstNumber (piecesOf limit text) ∙ ap (λ (l : List ℕ). length l + aroundText * length (piecesOf limit text)) (pieces-bytes limit text)
-
--- the first piece has at most `room` bytes, the others `size`
-abbrev sized : ℕ → ℕ → List Piece → Bool
-sized size room [] = true
-sized size room (p ∷ ps) = isSized room p && every (isSized size) ps
-
-sized-every : (size : ℕ) (ps : List Piece) → sized size size ps ≡ every (isSized size) ps
-sized-every size [] = refl
-sized-every size (p ∷ ps) = refl
-
-sized-one : (room : ℕ) (b : ℕ) → 1 ≤ room → between 1 room (length (b ∷ [])) ≡ true
-sized-one room b h = le-leb 1 room h
-
-sized-onto : (size room : ℕ) (b : ℕ) (ps : List Piece) → 1 < room → sized size (room - 1) ps ≡ true → sized size room (onto b ps) ≡ true
-sized-onto size room b [] h e = and-both (between 1 room 1) true (sized-one room b (omega arith)) refl
-sized-onto size room b (p ∷ ps) h e =
-    let n = length (p .bytes) in
-    let first : between 1 (room - 1) n ≡ true = and-left (isSized (room - 1) p) (every (isSized size) ps) e in
-    let most : n ≤ room - 1 = leb-true n (room - 1) (and-right (leb 1 n) (leb n (room - 1)) first) in
-    and-both (between 1 room (suc n)) (every (isSized size) ps)
-    (and-both (leb 1 (suc n)) (leb (suc n) room) (le-leb 1 (suc n) (omega arith)) (le-leb (suc n) room (omega arith)))
-    (and-right (isSized (room - 1) p) (every (isSized size) ps) e)
-
-sized-from : (size : ℕ) → 1 ≤ size → (text : List ℕ) (room : ℕ) → 1 ≤ room → sized size room (piecesFrom size room text) ≡ true
-sized-from size s [] room h = refl
-sized-from size s (b ∷ bs) room h = by-tests (is cr b) (leb room 1) refl (sized-from size s bs size s) (sized-from size s bs (room - 1))
-  where
-    by-tests : (x y : Bool) → leb room 1 ≡ y → sized size size (piecesFrom size size bs) ≡ true → (1 ≤ room - 1 → sized size (room - 1) (piecesFrom size (room - 1) bs) ≡ true)
-        → sized size room (cond x (piece Etx (b ∷ []) ∷ piecesFrom size size bs) (cond y (piece Etb (b ∷ []) ∷ piecesFrom size size bs) (onto b (piecesFrom size (room - 1) bs)))) ≡ true
-    by-tests true y q e f = and-both (between 1 room 1) (every (isSized size) (piecesFrom size size bs)) (sized-one room b h) (sym (sized-every size (piecesFrom size size bs)) ∙ e)
-    by-tests false true q e f = and-both (between 1 room 1) (every (isSized size) (piecesFrom size size bs)) (sized-one room b h) (sym (sized-every size (piecesFrom size size bs)) ∙ e)
-    by-tests false false q e f = let more : 1 < room = leb-false room 1 q in sized-onto size room b (piecesFrom size (room - 1) bs) more (f (omega arith))
-
--- every piece has 1 to limit - 7 bytes
-pub pieces-sized : (limit : ℕ) (text : List ℕ) → aroundText < limit → every (isSized (pieceSize limit)) (piecesOf limit text) ≡ true
-unfolding piecesOf
-pieces-sized limit text h =
-    let size : 1 ≤ pieceSize limit = omega arith in
-    sym (sized-every (pieceSize limit) (piecesFrom (pieceSize limit) (pieceSize limit) text)) ∙ sized-from (pieceSize limit) size text (pieceSize limit) size
+  -- every piece has 1 to limit - 7 bytes
+  pub pieces-sized : every (isSized (pieceSize limit)) (piecesOf limit text) ≡ true
+  unfolding piecesOf
+  pieces-sized =
+      by-pieces (pieceSize limit) (omega arith) (λ (t : List ℕ) (ps : List Piece). every (isSized (pieceSize limit)) ps ≡ true) refl
+      (λ t n least short within ps e.
+      and-both (between 1 (pieceSize limit) (length (take n t))) (every (isSized (pieceSize limit)) ps)
+      (rw (length-take-le n t within) (and-both (leb 1 n) (leb n (pieceSize limit)) (le-leb 1 n least) (le-leb n (pieceSize limit) short))) e)
+      text
 
 -- the pieces of a record with its CR, in front of those behind it: all but the last go on, the last ends with ETX
 pub record RecordCut (ps : List Piece) (r : List ℕ) (behind : List Piece) : Type 0 where
@@ -94,44 +57,72 @@ pub record RecordCut (ps : List Piece) (r : List ℕ) (behind : List Piece) : Ty
 -- a piece that goes on ends with ETB
 pub ends-etb : (end : End) → isEtb end ≡ true → end ≡ Etb
 ends-etb Etb e = refl
-ends-etb Etx e = let z : _≡_ {A = ℕ} 0 1 = cc in absurd (omega arith)
+ends-etb Etx e = clash (cc)
 
-cut-onto : (b : ℕ) (ps : List Piece) (r : List ℕ) (behind : List Piece) → RecordCut ps r behind → RecordCut (onto b ps) (b ∷ r) behind
-cut-onto b ps r behind c = by-front (c .front) (c .whole) (c .going) (c .bytes)
-  where
-    by-front : (front : List Piece) → ps ≡ front ++ piece Etx (c .last) ∷ behind → every goesOn front ≡ true → bytesOf front ++ c .last ≡ r ++ cr ∷ []
-        → RecordCut (onto b ps) (b ∷ r) behind
-    by-front [] w g e = record { front = []; last = b ∷ c .last; whole = ap (onto b) w; going = refl; bytes = ap (λ (l : List ℕ). b ∷ l) e }
-    by-front (q ∷ qs) w g e =
-        record { front = piece (q .end) (b ∷ q .bytes) ∷ qs; last = c .last; whole = ap (onto b) w; going = g; bytes = ap (λ (l : List ℕ). b ∷ l) e }
+-- chunks as pieces: those in front go on, and all bytes are there
+record Ended (end : End) (cs : List (List ℕ)) : Type 0 where
+  front : List Piece
+  last : List ℕ
+  whole : ended end cs ≡ front ++ piece end last ∷ []
+  going : every goesOn front ≡ true
+  bytes : bytesOf front ++ last ≡ bytesOf (ended end cs)
 
-record-from : (size : ℕ) (r : List ℕ) (t : List ℕ) (room : ℕ) → all isNotCr r ≡ true → RecordCut (piecesFrom size room (r ++ cr ∷ t)) r (piecesFrom size size t)
-record-from size [] t room h = record { front = []; last = cr ∷ []; whole = refl; going = refl; bytes = refl }
-record-from size (b ∷ r) t room h =
-    by-room (leb room 1) (is cr b) (not-true (is cr b) (and-left (isNotCr b) (all isNotCr r) h)) (record-from size r t size rest) (record-from size r t (room - 1) rest)
-  where
-    rest : all isNotCr r ≡ true
-    rest = and-right (isNotCr b) (all isNotCr r) h
+ended-some : (end : End) (c : List ℕ) (cs : List (List ℕ)) → Ended end (c ∷ cs)
+ended-some end c [] = record { front = []; last = c; whole = refl; going = refl; bytes = sym (append-nil c) }
+ended-some end c (next ∷ cs) =
+    let e = ended-some end next cs in
+    record {
+      front = piece Etb c ∷ e .front;
+      last = e .last;
+      whole = ap (λ (ps : List Piece). piece Etb c ∷ ps) (e .whole);
+      going = e .going;
+      bytes = append-assoc c (bytesOf (e .front)) (e .last) ∙ ap (λ (l : List ℕ). c ++ l) (e .bytes);
+    }
 
-    by-room : (y x : Bool) → x ≡ false → RecordCut (piecesFrom size size (r ++ cr ∷ t)) r (piecesFrom size size t)
-        → RecordCut (piecesFrom size (room - 1) (r ++ cr ∷ t)) r (piecesFrom size size t)
-        → RecordCut (cond x (piece Etx (b ∷ []) ∷ piecesFrom size size (r ++ cr ∷ t))
-        (cond y (piece Etb (b ∷ []) ∷ piecesFrom size size (r ++ cr ∷ t)) (onto b (piecesFrom size (room - 1) (r ++ cr ∷ t))))) (b ∷ r) (piecesFrom size size t)
-    by-room y true e c d = let z : _≡_ {A = ℕ} 0 1 = cc in absurd (omega arith)
-    by-room true false e c d =
-        record {
-          front = piece Etb (b ∷ []) ∷ c .front;
-          last = c .last;
-          whole = ap (λ (ps : List Piece). piece Etb (b ∷ []) ∷ ps) (c .whole);
-          going = c .going;
-          bytes = ap (λ (l : List ℕ). b ∷ l) (c .bytes);
-        }
-    by-room false false e c d = cut-onto b (piecesFrom size (room - 1) (r ++ cr ∷ t)) r (piecesFrom size size t) d
+bytes-ended : (end : End) (c : List ℕ) (cs : List (List ℕ)) → bytesOf (ended end (c ∷ cs)) ≡ c ++ bytesOf (ended end cs)
+bytes-ended end c [] = refl
+bytes-ended end c (next ∷ cs) = refl
+
+bytes-chunks : (size : ℕ) → 1 ≤ size → (end : End) (most : ℕ) (bs : List ℕ) → length bs ≤ most → bytesOf (ended end (chunksWithin most size bs)) ≡ bs
+bytes-chunks size some end zero [] h = refl
+bytes-chunks size some end zero (b ∷ bs) h = absurd (omega arith)
+bytes-chunks size some end (suc most) [] h = refl
+bytes-chunks size some end (suc most) (b ∷ bs) h =
+    let less = length-drop size (b ∷ bs) in
+    bytes-ended end (take size (b ∷ bs)) (chunksWithin most size (drop size (b ∷ bs)))
+    ∙ ap (λ (l : List ℕ). take size (b ∷ bs) ++ l) (bytes-chunks size some end most (drop size (b ∷ bs)) (omega arith))
+    ∙ take-append-drop size (b ∷ bs)
+
+-- a record with its CR is the first of what begins with it
+pub with-cr-first : (r t : List ℕ) → all isNotCr r ≡ true → recordsWithCr (r ++ cr ∷ t) ≡ (r ++ cr ∷ []) ∷ recordsWithCr t
+with-cr-first [] t h = refl
+with-cr-first (b ∷ r) t h =
+    let other : is cr b ≡ false = not-true (is cr b) (and-left (isNotCr b) (all isNotCr r) h) in
+    rw other (ap (onto b) (with-cr-first r t (and-right (isNotCr b) (all isNotCr r) h)))
 
 -- each record starts a new piece and ends at the only one of its pieces with ETX
-pub record-cut : (limit : ℕ) (r t : List ℕ) → all isNotCr r ≡ true → RecordCut (piecesOf limit (r ++ cr ∷ t)) r (piecesOf limit t)
+pub record-cut : (limit : ℕ) (r t : List ℕ) → aroundText < limit → all isNotCr r ≡ true → RecordCut (piecesOf limit (r ++ cr ∷ t)) r (piecesOf limit t)
 unfolding piecesOf
-record-cut limit r t h = record-from (pieceSize limit) r t (pieceSize limit) h
+record-cut limit r t more h =
+    let size = pieceSize limit in
+    let x = r ++ cr ∷ [] in
+    let long : length x ≡ length r + 1 = length-append r (cr ∷ []) in
+    let at-last : length x - 1 ≡ length r = omega arith in
+    let etx : endAfter (getD x (length x - 1) 0) ≡ Etx = ap endAfter (ap (λ (i : ℕ). getD x i 0) at-last ∙ getD-append-seam r cr [] 0) in
+    let parts : chunks size x ≡ take size x ∷ chunks size (drop size x) = chunks-first size (omega arith) x (omega arith) in
+    let cut : cutRecord size x ≡ ended Etx (take size x ∷ chunks size (drop size x)) = (λ i. ended (etx i) (parts i)) in
+    let e = ended-some Etx (take size x) (chunks size (drop size x)) in
+    let behind = cutAll size (recordsWithCr t) in
+    record {
+      front = e .front;
+      last = e .last;
+      whole =
+          ap (cutAll size) (with-cr-first r t h)
+          ∙ ap (λ (ps : List Piece). ps ++ behind) (cut ∙ e .whole)
+          ∙ append-assoc (e .front) (piece Etx (e .last) ∷ []) behind;
+      going = e .going;
+      bytes = e .bytes ∙ ap (λ (cs : List (List ℕ)). bytesOf (ended Etx cs)) (sym parts) ∙ bytes-chunks size (omega arith) Etx (length x) x (omega arith);
+    }
 
 -- the 12 bytes H|\^& CR L|1|N CR
 abbrev pub twelve : List ℕ
@@ -140,7 +131,7 @@ twelve = 0x48 ∷ 0x7c ∷ 0x5c ∷ 0x5e ∷ 0x26 ∷ 0x0d ∷ 0x4c ∷ 0x7c ∷
 -- cut, they are 26 bytes
 pub twelve-cut : length (cutOf frameLimit twelve) ≡ 26
 unfolding piecesOf
-twelve-cut = cut-long frameLimit twelve
+twelve-cut = cut-long frameLimit twelve (omega arith)
 
 -- a piece has at most 240 bytes; a record of 240 bytes with its CR is one frame, of 241 two
 pub piece-240 : pieceSize frameLimit ≡ 240

@@ -1,4 +1,5 @@
 pub mod Steps
 pub mod Written
 pub mod Laws
+pub mod Limits
 pub mod OneOutcome

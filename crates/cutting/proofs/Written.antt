@@ -19,7 +19,8 @@ use Rattle.framing.specs.declared.Written.{Written}
 use Rattle.framing.proofs.Put.{length-collected}
 use Rattle.faults.specs.Faults.{isMessage}
 use Rattle.records.proofs.Scans.{tailAt, rest-part}
-use Rattle.cutting.specs.Pieces.{Piece, piecesOf, bytesOf}
+use Rattle.cutting.specs.Pieces.{Piece, piecesOf}
+use Rattle.cutting.specs.Inner.Wholes.{bytesOf}
 use Rattle.cutting.specs.Frames.{framesFrom, cutOf, isCuttable, cutAnswer, cutIn, CutInto}
 use Rattle.cutting.specs.declared.Framed.the-variants.{Length, Malformed, NotFitting}
 use Rattle.cutting.proofs.Steps.{firstPiece, Turn}

@@ -1,15 +1,15 @@
--- The pieces that a text is cut into, each the text of one frame.
+-- The pieces that a text is cut into, each the text of one frame: record by record, each record in chunks that fit a frame.
 -- Assumes nothing.
-use Prim.Native.Nat.{ℕ, suc, _-_}
-use mathlib.Core.Bool.{Bool, true, false, cond, _&&_}
+use Prim.Native.Nat.{ℕ, zero, suc, _-_}
+use mathlib.Core.Bool.{cond}
 use mathlib.Core.List.{List, [], _∷_, _++_}
-use lib.ListN.{length}
-use lib.Dec.{leb}
-use Rattle.memory.specs.Tests.{is, between}
+use lib.ListN.{length, getD, take, drop}
+use Rattle.memory.specs.Tests.{is}
 use Rattle.characters.specs.Control.{cr}
 use Rattle.frame.specs.Shape.{aroundText}
 use Rattle.frame.specs.declared.End.{End}
 use Rattle.frame.specs.declared.End.the-variants.{Etb, Etx}
+use Rattle.records.specs.Records.{onto}
 
 -- a piece: what ends its frame's text, and that text
 pub record Piece : Type 0 where
@@ -19,52 +19,45 @@ pub record Piece : Type 0 where
 abbrev pub piece : End → List ℕ → Piece
 piece end bytes = record { end = end; bytes = bytes }
 
--- a byte in front of the first piece; where there is none the text stops within a record
-abbrev pub onto : ℕ → List Piece → List Piece
-onto b [] = piece Etb (b ∷ []) ∷ []
-onto b (p ∷ ps) = piece (p .end) (b ∷ p .bytes) ∷ ps
-
 -- the bytes of a frame's text within a limit: 240 of 247
 abbrev pub pieceSize : ℕ → ℕ
 pieceSize limit = limit - aroundText
 
--- the pieces of at most `size` bytes, the first of at most `room`: a CR ends its piece with ETX, and so its record;
--- any other byte that fills its piece ends it with ETB
-abbrev pub piecesFrom : ℕ → ℕ → List ℕ → List Piece
-piecesFrom size room [] = []
-piecesFrom size room (b ∷ bs) =
-    cond (is cr b) (piece Etx (b ∷ []) ∷ piecesFrom size size bs)
-    (cond (leb room 1) (piece Etb (b ∷ []) ∷ piecesFrom size size bs) (onto b (piecesFrom size (room - 1) bs)))
+-- the records of a text, each with its CR; bytes behind the last CR count as a record too
+abbrev pub recordsWithCr : List ℕ → List (List ℕ)
+recordsWithCr [] = []
+recordsWithCr (b ∷ bs) = cond (is cr b) ((b ∷ []) ∷ recordsWithCr bs) (onto b (recordsWithCr bs))
 
--- the pieces of a text, for frames within a limit
-unfoldable pub piecesOf : ℕ → List ℕ → List Piece
-piecesOf limit text = piecesFrom (pieceSize limit) (pieceSize limit) text
+-- bytes in chunks of `size`, the last perhaps shorter; `most` bounds how many, and no text has more chunks than bytes
+abbrev pub chunksWithin : ℕ → ℕ → List ℕ → List (List ℕ)
+chunksWithin zero size bs = []
+chunksWithin (suc most) size [] = []
+chunksWithin (suc most) size (b ∷ bs) = take size (b ∷ bs) ∷ chunksWithin most size (drop size (b ∷ bs))
 
--- the bytes of pieces, joined
-abbrev pub bytesOf : List Piece → List ℕ
-bytesOf [] = []
-bytesOf (p ∷ ps) = p .bytes ++ bytesOf ps
+abbrev pub chunks : ℕ → List ℕ → List (List ℕ)
+chunks size bs = chunksWithin (length bs) size bs
 
--- what ends a piece whose last byte is b
+-- chunks as pieces: all but the last end with ETB, and the last with this end
+abbrev pub ended : End → List (List ℕ) → List Piece
+ended end [] = []
+ended end (c ∷ []) = piece end c ∷ []
+ended end (c ∷ next ∷ cs) = piece Etb c ∷ ended end (next ∷ cs)
+
+-- what ends a piece whose last byte is b: ETX where it is the CR of a record
 abbrev pub endAfter : ℕ → End
 endAfter b = cond (is cr b) Etx Etb
 
--- every piece passes the test
-abbrev pub every : (Piece → Bool) → List Piece → Bool
-every t [] = true
-every t (p ∷ ps) = t p && every t ps
+-- the pieces of a record with its CR: the last ends with ETX
+abbrev pub cutRecord : ℕ → List ℕ → List Piece
+cutRecord size r = ended (endAfter (getD r (length r - 1) 0)) (chunks size r)
 
--- a piece is not empty and at most `size` long
-abbrev pub isSized : ℕ → Piece → Bool
-isSized size p = between 1 size (length (p .bytes))
+abbrev pub cutAll : ℕ → List (List ℕ) → List Piece
+cutAll size [] = []
+cutAll size (r ∷ rs) = cutRecord size r ++ cutAll size rs
 
--- more of the piece's record follows
-abbrev pub isEtb : End → Bool
-isEtb Etb = true
-isEtb Etx = false
-
-abbrev pub goesOn : Piece → Bool
-goesOn p = isEtb (p .end)
+-- the pieces of a text, for frames within a limit
+unfoldable pub piecesOf : ℕ → List ℕ → List Piece
+piecesOf limit text = cutAll (pieceSize limit) (recordsWithCr text)
 
 -- the bytes through the first CR, or all where there is none
 abbrev pub throughCr : List ℕ → ℕ

@@ -15,7 +15,8 @@ use native.Mathlib.Nat.{zero-add}
 use Rattle.memory.specs.Moves.{copied}
 use Rattle.memory.proofs.Parts.{sets-splice}
 use Rattle.kinds.specs.declared.Delimiters.{Delimiters}
-use Rattle.escaping.specs.Escape.{letterFor, escapeOf, escaped, escapeAnswer, Escaping}
+use Rattle.escaping.specs.Letters.{letterFor}
+use Rattle.escaping.specs.Escape.{escapeOf, escaped, escapeAnswer, Escaping}
 use Rattle.escaping.specs.declared.Put.the-variants.{Done, NotFitting}
 
 pub escape-one : (d : Delimiters) (x : ℕ) → letterFor d x ≡ 0 → escapeOf d x ≡ x ∷ []

@@ -1,4 +1,5 @@
 pub mod Escapes
-pub mod Turns
+pub mod Unescapes
 pub mod RoundTrips
+pub mod Examples
 pub mod OneOutcome

@@ -3,55 +3,54 @@
 use mathlib.Core.Path.{_≡_, refl, sym, ap, _∙_}
 use mathlib.Core.Bool.{Bool, true, false, not, _&&_}
 use mathlib.Core.List.{List, [], _∷_, _++_}
+use mathlib.Core.Option.{some}
 use Prim.Native.Nat.{ℕ}
 use native.Mathlib.Omega.{arith}
 use native.Mathlib.Decide.{ℕ-discrete}
 use lib.Dec.{eqb}
 use borrow.Author.Tests.{eq-eqb, ne-eqb, not-true}
-use Rattle.memory.proofs.Tests.{never-both}
+use Rattle.memory.proofs.Tests.{clash, never-both}
 use Rattle.kinds.specs.Delimiters.{standard, different}
 use Rattle.kinds.specs.declared.Delimiters.{Delimiters}
-use Rattle.escaping.specs.Escape.{letterFor, escapeOf, escaped}
-use Rattle.escaping.specs.Unescape.{Place, Plain, Open, Held, turnPlain, turnOpen, turnHeld, right, plainOf, accepted, plain}
+use Rattle.escaping.specs.Letters.{letterFor, meant}
+use Rattle.escaping.specs.Escape.{escapeOf, escaped}
+use Rattle.escaping.specs.Unescape.{front, unescaped}
 use Rattle.escaping.proofs.Escapes.{escape-one, escape-three}
+use Rattle.escaping.proofs.Unescapes.{Reads, nothing, byte, escape, reads}
 
 -- one byte, escaped and read again
-there : (d : Delimiters) (x : ℕ) (rest : List ℕ) → (right d Plain (escapeOf d x ++ rest) ≡ right d Plain rest) × (plainOf d Plain (escapeOf d x ++ rest) ≡ x ∷ plainOf d Plain rest)
-unfolding letterFor escapeOf turnPlain turnOpen turnHeld
+there : (d : Delimiters) (x : ℕ) (rest : List ℕ) → unescaped d (escapeOf d x ++ rest) ≡ front (some x) (unescaped d rest)
+unfolding letterFor escapeOf meant
 there d x rest =
     let e = eq-eqb (d .escape) (d .escape) refl in
     elim (ℕ-discrete x (d .field)) [
-      | yes p ↦ let q = eq-eqb x (d .field) p in (simp (q, e), simp (q, e) (ap (λ (y : ℕ). y ∷ plainOf d Plain rest) (sym p)))
+      | yes p ↦ simp (eq-eqb x (d .field) p, e) (ap (λ (y : ℕ). front (some y) (unescaped d rest)) (sym p))
       | no p₁ ↦ let n₁ = ne-eqb x (d .field) p₁ in elim (ℕ-discrete x (d .component)) [
-        | yes p ↦ let q = eq-eqb x (d .component) p in (simp (n₁, q, e), simp (n₁, q, e) (ap (λ (y : ℕ). y ∷ plainOf d Plain rest) (sym p)))
+        | yes p ↦ simp (n₁, eq-eqb x (d .component) p, e) (ap (λ (y : ℕ). front (some y) (unescaped d rest)) (sym p))
         | no p₂ ↦ let n₂ = ne-eqb x (d .component) p₂ in elim (ℕ-discrete x (d .repeat)) [
-          | yes p ↦ let q = eq-eqb x (d .repeat) p in (simp (n₁, n₂, q, e), simp (n₁, n₂, q, e) (ap (λ (y : ℕ). y ∷ plainOf d Plain rest) (sym p)))
+          | yes p ↦ simp (n₁, n₂, eq-eqb x (d .repeat) p, e) (ap (λ (y : ℕ). front (some y) (unescaped d rest)) (sym p))
           | no p₃ ↦ let n₃ = ne-eqb x (d .repeat) p₃ in elim (ℕ-discrete x (d .escape)) [
-            | yes p ↦ let q = eq-eqb x (d .escape) p in (simp (n₁, n₂, n₃, q, e), simp (n₁, n₂, n₃, q, e) (ap (λ (y : ℕ). y ∷ plainOf d Plain rest) (sym p)))
-            | no p₄ ↦ let n₄ = ne-eqb x (d .escape) p₄ in (simp (n₁, n₂, n₃, n₄), simp (n₁, n₂, n₃, n₄))
+            | yes p ↦ simp (n₁, n₂, n₃, eq-eqb x (d .escape) p, e) (ap (λ (y : ℕ). front (some y) (unescaped d rest)) (sym p))
+            | no p₄ ↦ simp (n₁, n₂, n₃, ne-eqb x (d .escape) p₄)
           ]
         ]
       ]
     ]
 
--- what was escaped is accepted, and stands for the text again
-pub escaped-accepted : (d : Delimiters) (t : List ℕ) → accepted d (escaped d t) ≡ true
-escaped-accepted d [] = refl
-escaped-accepted d (x ∷ t) = there d x (escaped d t) .0 ∙ escaped-accepted d t
-
-pub escaped-plain : (d : Delimiters) (t : List ℕ) → plain d (escaped d t) ≡ t
+-- what was escaped is accepted, and stands for the text again; for this the delimiters need not be different
+pub escaped-plain : (d : Delimiters) (t : List ℕ) → unescaped d (escaped d t) ≡ some t
 escaped-plain d [] = refl
-escaped-plain d (x ∷ t) = there d x (escaped d t) .1 ∙ ap (λ (l : List ℕ). x ∷ l) (escaped-plain d t)
+escaped-plain d (x ∷ t) = there d x (escaped d t) ∙ ap (front (some x)) (escaped-plain d t)
 
 -- what `different` tells of each pair
 six : (a b c e f g : Bool) → a && b && c && e && f && g ≡ true → (a ≡ true) × (b ≡ true) × (c ≡ true) × (e ≡ true) × (f ≡ true) × (g ≡ true)
 six true true true true true true h = (refl, refl, refl, refl, refl, refl)
-six true true true true true false h = let z : _≡_ {A = ℕ} 0 1 = cc in absurd (omega arith)
-six true true true true false g h = let z : _≡_ {A = ℕ} 0 1 = cc in absurd (omega arith)
-six true true true false f g h = let z : _≡_ {A = ℕ} 0 1 = cc in absurd (omega arith)
-six true true false e f g h = let z : _≡_ {A = ℕ} 0 1 = cc in absurd (omega arith)
-six true false c e f g h = let z : _≡_ {A = ℕ} 0 1 = cc in absurd (omega arith)
-six false b c e f g h = let z : _≡_ {A = ℕ} 0 1 = cc in absurd (omega arith)
+six true true true true true false h = clash (cc)
+six true true true true false g h = clash (cc)
+six true true true false f g h = clash (cc)
+six true true false e f g h = clash (cc)
+six true false c e f g h = clash (cc)
+six false b c e f g h = clash (cc)
 
 -- the letter of each delimiter
 module _ (d : Delimiters) (good : different d ≡ true) where
@@ -83,54 +82,38 @@ letter-field : (d : Delimiters) → letterFor d (d .field) ≡ 0x46
 unfolding letterFor
 letter-field d = rw (eq-eqb (d .field) (d .field) refl)
 
--- the bytes of the escape that a place is in
-abbrev opened : Delimiters → Place → List ℕ
-opened d Plain = []
-opened d Open = d .escape ∷ []
-opened d (Held h) = d .escape ∷ letterFor d h ∷ []
-
-abbrev Sound : Delimiters → Place → Type 0
-Sound d Plain = Unit
-Sound d Open = Unit
-Sound d (Held h) = letterFor d h ≡ 0 → ⊥
-
+-- the letter of a delimiter that a letter stands for is that letter
 module _ (d : Delimiters) (good : different d ≡ true) where
-  back : (p : Place) (c : List ℕ) → Sound d p → right d p c ≡ true → escaped d (plainOf d p c) ≡ opened d p ++ c
-  unfolding turnPlain turnOpen turnHeld
-  back Plain [] z r = refl
-  back Open [] z r = cc
-  back (Held h) [] z r = cc
-  back Plain (x ∷ xs) z r =
-      elim (ℕ-discrete x (d .escape)) [
-        | yes p ↦ let q = eq-eqb x (d .escape) p in rw q (back Open xs tt (rw q at r) ∙ ap (λ (y : ℕ). y ∷ xs) (sym p))
-        | no p ↦ let n = ne-eqb x (d .escape) p in elim (ℕ-discrete (letterFor d x) 0) [
-          | yes l ↦ let k = eq-eqb (letterFor d x) 0 l in rw (n, k, escape-one d x l) (ap (λ (t : List ℕ). x ∷ t) (back Plain xs tt (rw (n, k) at r)))
-          | no l ↦ let k = ne-eqb (letterFor d x) 0 l in let w : _≡_ false true = rw (n, k) at r in cc
-        ]
-      ]
-  back Open (x ∷ xs) z r =
-      elim (ℕ-discrete x 0x46) [
-        | yes p ↦ let q = eq-eqb x 0x46 p in rw (q, p) (rw letter-field at (back (Held (d .field)) xs (λ e. omega (arith, letter-field d)) (rw q at r)))
-        | no p₁ ↦ let n₁ = ne-eqb x 0x46 p₁ in elim (ℕ-discrete x 0x53) [
-          | yes p ↦ let q = eq-eqb x 0x53 p in rw (n₁, q, p) (rw (letter-component d good) at (back (Held (d .component)) xs (λ e. omega (arith, letter-component d good)) (rw (n₁, q) at r)))
-          | no p₂ ↦ let n₂ = ne-eqb x 0x53 p₂ in elim (ℕ-discrete x 0x52) [
-            | yes p ↦ let q = eq-eqb x 0x52 p in rw (n₁, n₂, q, p) (rw (letter-repeat d good) at (back (Held (d .repeat)) xs (λ e. omega (arith, letter-repeat d good)) (rw (n₁, n₂, q) at r)))
-            | no p₃ ↦ let n₃ = ne-eqb x 0x52 p₃ in elim (ℕ-discrete x 0x45) [
-              | yes p ↦ let q = eq-eqb x 0x45 p in rw (n₁, n₂, n₃, q, p) (rw (letter-escape d good) at (back (Held (d .escape)) xs (λ e. omega (arith, letter-escape d good)) (rw (n₁, n₂, n₃, q) at r)))
-              | no p₄ ↦ let n₄ = ne-eqb x 0x45 p₄ in let w : _≡_ false true = rw (n₁, n₂, n₃, n₄) at r in cc
+  letter-back : (l x y : ℕ) → l ≡ y → letterFor d x ≡ y → (y ≡ 0 → ⊥) → (letterFor d x ≡ l) × (letterFor d x ≡ 0 → ⊥)
+  letter-back l x y p e z = (e ∙ sym p, λ k. z (sym e ∙ k))
+
+  meant-letter : (l x : ℕ) → meant d l ≡ some x → (letterFor d x ≡ l) × (letterFor d x ≡ 0 → ⊥)
+  unfolding meant
+  meant-letter l x m =
+      elim (ℕ-discrete l 0x46) [
+        | yes p ↦ let k : d .field ≡ x = (let f = rw (eq-eqb l 0x46 p) at m in cc) in letter-back l x 0x46 p (ap (letterFor d) (sym k) ∙ letter-field d) (λ e. omega arith)
+        | no p₁ ↦ let n₁ = ne-eqb l 0x46 p₁ in elim (ℕ-discrete l 0x53) [
+          | yes p ↦ let k : d .component ≡ x = (let f = rw (n₁, eq-eqb l 0x53 p) at m in cc) in letter-back l x 0x53 p (ap (letterFor d) (sym k) ∙ letter-component d good) (λ e. omega arith)
+          | no p₂ ↦ let n₂ = ne-eqb l 0x53 p₂ in elim (ℕ-discrete l 0x52) [
+            | yes p ↦ let k : d .repeat ≡ x = (let f = rw (n₁, n₂, eq-eqb l 0x52 p) at m in cc) in letter-back l x 0x52 p (ap (letterFor d) (sym k) ∙ letter-repeat d good) (λ e. omega arith)
+            | no p₃ ↦ let n₃ = ne-eqb l 0x52 p₃ in elim (ℕ-discrete l 0x45) [
+              | yes p ↦ let k : d .escape ≡ x = (let f = rw (n₁, n₂, n₃, eq-eqb l 0x45 p) at m in cc) in letter-back l x 0x45 p (ap (letterFor d) (sym k) ∙ letter-escape d good) (λ e. omega arith)
+              | no p₄ ↦ let f = rw (n₁, n₂, n₃, ne-eqb l 0x45 p₄) at m in clash (cc)
             ]
           ]
         ]
       ]
-  back (Held h) (x ∷ xs) z r =
-      elim (ℕ-discrete x (d .escape)) [
-        | yes p ↦ let q = eq-eqb x (d .escape) p in rw (q, escape-three d h z) (λ i. d .escape ∷ letterFor d h ∷ (sym p) i ∷ back Plain xs tt (rw q at r) i)
-        | no p ↦ let n = ne-eqb x (d .escape) p in let w : _≡_ false true = rw n at r in cc
-      ]
+
+  back : {c t : List ℕ} → Reads d c t → escaped d t ≡ c
+  back nothing = refl
+  back (byte {b} other l r) = rw (escape-one d b l) (ap (λ (s : List ℕ). b ∷ s) (back r))
+  back (escape {a} {l} {b} {x} p q m r) =
+      let (k, z) = meant-letter l x m in
+      rw (escape-three d x z) (λ i. (sym p) i ∷ k i ∷ (sym q) i ∷ back r i)
 
   -- an accepted component, unescaped and escaped again, is the component
-  pub plain-escaped : (c : List ℕ) → accepted d c ≡ true → escaped d (plain d c) ≡ c
-  plain-escaped c r = back Plain c tt r
+  pub plain-escaped : (c t : List ℕ) → unescaped d c ≡ some t → escaped d t ≡ c
+  plain-escaped c t e = back (reads d c t e)
 
 -- the four delimiters that document 01 fixes
 pub standard-different : different standard ≡ true

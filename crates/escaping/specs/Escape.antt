@@ -6,18 +6,13 @@ use mathlib.Core.List.{List, [], _∷_, _++_}
 use mathlib.Core.Bool.{cond}
 use lib.Dec.{eqb}
 use lib.ListN.{length}
-use Rattle.memory.specs.Tests.{is}
 use Rattle.memory.specs.Moves.{fitsAt, copied}
 use Rattle.kinds.specs.declared.Delimiters.{Delimiters}
+use Rattle.escaping.specs.Letters.{letterFor}
 use Rattle.escaping.specs.declared.Put.{Put}
 use Rattle.escaping.specs.declared.Put.the-variants.{Done, Malformed, NotFitting}
 
--- the letter that stands for a byte between two &: F for |, S for ^, R for \, E for &; 0 where the byte stands for itself
-unfoldable pub letterFor : Delimiters → ℕ → ℕ
-letterFor d b =
-    cond (is (d .field) b) 0x46
-    (cond (is (d .component) b) 0x53 (cond (is (d .repeat) b) 0x52 (cond (is (d .escape) b) 0x45 0)))
-
+-- a delimiter becomes the escape byte, its letter and the escape byte; another byte stands for itself
 unfoldable pub escapeOf : Delimiters → ℕ → List ℕ
 escapeOf d b = cond (eqb (letterFor d b) 0) (b ∷ []) (d .escape ∷ letterFor d b ∷ d .escape ∷ [])
 

@@ -1,2 +1,4 @@
+pub mod Letters
 pub mod Escape
 pub mod Unescape
+pub mod Inner

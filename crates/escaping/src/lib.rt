@@ -6,6 +6,15 @@ use kinds::Delimiters;
 mod with_escapes; // with_escapes.rt: delimiters into escapes
 mod without_escapes; // without_escapes.rt: escapes into delimiters
 
+// The letters of the escapes, one for each delimiter.
+const FIELD_LETTER: u8 = b'F';
+
+const COMPONENT_LETTER: u8 = b'S';
+
+const REPEAT_LETTER: u8 = b'R';
+
+const ESCAPE_LETTER: u8 = b'E';
+
 // What becomes of a text that is escaped or unescaped: it is put out, with this length; it has a wrong escape; the memory is too short.
 pub enum Put {
     Done(usize),

@@ -4,7 +4,8 @@ ghost use Prim.Native.Nat.{_≤_};
 ghost use lib.Dec.{leb};
 ghost use lib.ListN.{length};
 ghost use lib.Seq.{sets};
-ghost use Rattle.escaping.specs.Escape.{letterFor, escapeOf, escaped};
+ghost use Rattle.escaping.specs.Letters.{letterFor};
+ghost use Rattle.escaping.specs.Escape.{escapeOf, escaped};
 use kinds::Delimiters;
 
 // The letter that stands for a byte in an escape, or 0 where the byte stands for itself.
@@ -12,16 +13,16 @@ pub fn letter_for(d: Delimiters, b: u8) -> u8
     ensures { λ r. ⌜ r ≡ letterFor d b ⌝ }
 {
     if b == d.field {
-        return b'F';
+        return crate::FIELD_LETTER;
     }
     if b == d.component {
-        return b'S';
+        return crate::COMPONENT_LETTER;
     }
     if b == d.repeat {
-        return b'R';
+        return crate::REPEAT_LETTER;
     }
     if b == d.escape {
-        return b'E';
+        return crate::ESCAPE_LETTER;
     }
     0
 }

@@ -1,12 +1,14 @@
 // Escapes into delimiters: first whether they are right and how long the plain text is, then the writing of it.
 ghost use mathlib.Core.Path.{_≡_};
 ghost use mathlib.Core.Bool.{true};
+ghost use mathlib.Core.Option.{some};
 ghost use Prim.Native.Nat.{_≤_};
 ghost use lib.ListN.{length};
 ghost use lib.Seq.{sets};
 ghost use Rattle.memory.specs.Tests.{isOneOf};
 ghost use Rattle.escaping.specs.declared.Measured.the-variants.{Of};
-ghost use Rattle.escaping.specs.Unescape.{Keep, Held, letters, turnOpen, plain, measured};
+ghost use Rattle.escaping.specs.Letters.{meant};
+ghost use Rattle.escaping.specs.Inner.Passes.{letters, measured, plain};
 use crate::Measured;
 use kinds::Delimiters;
 
@@ -14,16 +16,16 @@ use kinds::Delimiters;
 fn is_letter(b: u8) -> bool
     ensures { λ r. ⌜ r ≡ isOneOf letters b ⌝ }
 {
-    if b == b'F' {
+    if b == crate::FIELD_LETTER {
         return true;
     }
-    if b == b'S' {
+    if b == crate::COMPONENT_LETTER {
         return true;
     }
-    if b == b'R' {
+    if b == crate::REPEAT_LETTER {
         return true;
     }
-    if b == b'E' {
+    if b == crate::ESCAPE_LETTER {
         return true;
     }
     false
@@ -32,15 +34,15 @@ fn is_letter(b: u8) -> bool
 // The byte that the letter of an escape stands for.
 fn meant(d: Delimiters, letter: u8) -> u8
     requires { ⌜ isOneOf letters letter ≡ true ⌝ }
-    ensures { λ r. ⌜ turnOpen d letter ≡ Keep (Held r) ⌝ }
+    ensures { λ r. ⌜ meant d letter ≡ some r ⌝ }
 {
-    if letter == b'F' {
+    if letter == crate::FIELD_LETTER {
         return d.field;
     }
-    if letter == b'S' {
+    if letter == crate::COMPONENT_LETTER {
         return d.component;
     }
-    if letter == b'R' {
+    if letter == crate::REPEAT_LETTER {
         return d.repeat;
     }
     d.escape

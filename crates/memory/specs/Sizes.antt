@@ -28,3 +28,11 @@ framesSize = lines * framePart
 
 abbrev pub unfinishedSize : ℕ
 unfinishedSize = lines * messageLimit
+
+-- the most records of a message
+abbrev pub recordsLimit : ℕ
+recordsLimit = 999
+
+-- the most bytes of a message's frames
+abbrev pub cutLimit : ℕ
+cutLimit = 10993

@@ -51,7 +51,7 @@ measure-requires c κs =
 
 -- what was measured is the length of the frames
 measured : (c : tie.After-measure) → c .measure .result ≡ length (cutOf (entry c .args .limit) (now (entry c .args .text)))
-measured c = c .measure .ensures ∙ sym (cut-long (entry c .args .limit) (now (entry c .args .text)))
+measured c = c .measure .ensures ∙ sym (cut-long (entry c .args .limit) (now (entry c .args .text)) (omega arith))
 
 returns-3 : tie.Need-returns-3
 returns-3 c =

@@ -1,9 +1,15 @@
 -- `escaping::unescape` meets its contract: each answer follows from the measure.
 -- Assumes nothing.
-use mathlib.Core.Path.{_≡_, sym, _∙_}
-use Rattle.escaping.specs.Unescape.{measured}
+use mathlib.Core.Path.{_≡_, sym, ap, _∙_}
+use mathlib.Core.List.{List}
+use mathlib.Core.Option.{some}
+use Prim.Native.Nat.{ℕ}
+use lib.ListN.{length}
+use lib.Seq.{sets}
+use Rattle.escaping.specs.Unescape.{unescaped}
+use Rattle.escaping.specs.Inner.Passes.{measured, plain}
 use Rattle.escaping.specs.declared.Measured.the-variants.{Of}
-use Rattle.escaping.proofs.Turns.{unescape-short, unescape-done, unescape-malformed}
+use Rattle.escaping.proofs.Unescapes.{size-told, size-none, unescape-short, unescape-done, unescape-malformed}
 use borrow.Author.Needs.{needs}
 use Rattle.escaping.proofs.unescape.Statement.{statement}
 use Rattle.escaping.proofs.unescape.Tie as tie
@@ -11,15 +17,20 @@ use Rattle.escaping.proofs.unescape.Tie as tie
 abbrev start : tie.After-measure → tie.Start
 start c = c .before .before .before
 
--- the escapes are right, and the plain text is so long
+-- the measure has found the escapes right, and the text so long
 of : (c : tie.After-m) → let a = start (c .before .before) .args in measured (a .d) (a .text .now) ≡ Of (c .m .given .0 .0)
 of c = sym (c .before .before .measure .ensures) ∙ c .m .given .1
+
+told : (c : tie.After-m) → let a = start (c .before .before) .args in (t : List ℕ) × (unescaped (a .d) (a .text .now) ≡ some t) × (c .m .given .0 .0 ≡ length t)
+unfolding measured
+told c = let a = start (c .before .before) .args in size-told (unescaped (a .d) (a .text .now)) (c .m .given .0 .0) (of c)
 
 returns : tie.Need-returns
 returns c =
     let m = c .before .before in
     let a = start (m .before .before) .args in
-    unescape-short (a .d) (a .text .now) (a .out .now) _ (of m) (c .if1 .taken)
+    let (t, e, k) = told m in
+    unescape-short (a .d) (a .text .now) (a .out .now) t _ e k (c .if1 .taken)
 
 write-requires : tie.Need-write-requires
 write-requires c κs = (of (c .before .before .before), c .before .if1 .left)
@@ -27,16 +38,19 @@ write-requires c κs = (of (c .before .before .before), c .before .if1 .left)
 returns-2 : tie.Need-returns-2
 returns-2 c =
     let w = c .before .before in
-    let e = w .before .before in
-    let m = e .before .before in
+    let f = w .before .before in
+    let m = f .before .before in
     let a = start (m .before .before) .args in
-    unescape-done (a .d) (a .text .now) (a .out .now) _ (of m) (e .if1 .left) (w .write .ensures)
+    let (t, e, k) = told m in
+    let written : plain (a .d) (a .text .now) ≡ t = rw e in
+    unescape-done (a .d) (a .text .now) (a .out .now) t _ e k (f .if1 .left) (w .write .ensures ∙ ap (sets (a .out .now) 0) written)
 
 returns-3 : tie.Need-returns-3
+unfolding measured
 returns-3 c =
     let m = c .before .before in
     let a = start m .args in
-    unescape-malformed (a .d) (a .text .now) (a .out .now) (sym (m .measure .ensures) ∙ c .enum-told .given .1)
+    unescape-malformed (a .d) (a .text .now) (a .out .now) (size-none (unescaped (a .d) (a .text .now)) (sym (m .measure .ensures) ∙ c .enum-told .given .1))
 
 pub unescape-spec : {M : Type 1} → statement M
 unescape-spec =

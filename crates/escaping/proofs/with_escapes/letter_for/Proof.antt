@@ -1,6 +1,6 @@
 -- `escaping::with_escapes::letter_for` meets its contract: each answer under the tests that led to it.
 -- Assumes nothing.
-use Rattle.escaping.specs.Escape.{letterFor}
+use Rattle.escaping.specs.Letters.{letterFor}
 use Rattle.memory.proofs.Branches.{branches}
 use Rattle.escaping.proofs.with_escapes.letter_for.Statement.{statement}
 use Rattle.escaping.proofs.with_escapes.letter_for.Tie as tie

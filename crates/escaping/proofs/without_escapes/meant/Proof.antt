@@ -2,19 +2,21 @@
 -- Assumes nothing.
 use mathlib.Core.Path.{_≡_, refl, sym, _∙_}
 use mathlib.Core.Bool.{true}
+use mathlib.Core.Option.{some}
 use Prim.Native.Nat.{ℕ}
 use native.Mathlib.Decide.{ℕ-discrete}
 use borrow.Author.Tests.{eq-eqb, ne-eqb}
 use Rattle.kinds.specs.declared.Delimiters.{Delimiters}
 use Rattle.memory.specs.Tests.{isOneOf}
-use Rattle.escaping.specs.Unescape.{Keep, Held, letters, turnOpen}
+use Rattle.escaping.specs.Letters.{meant}
+use Rattle.escaping.specs.Inner.Passes.{letters}
 use Rattle.memory.proofs.Tests.{never-both}
 use Rattle.memory.proofs.Branches.{branches}
 use Rattle.escaping.proofs.without_escapes.meant.Statement.{statement}
 use Rattle.escaping.proofs.without_escapes.meant.Tie as tie
 
-last-letter : (d : Delimiters) (x : ℕ) → isOneOf letters x ≡ true → (x ≡ 0x46 → ⊥) → (x ≡ 0x53 → ⊥) → (x ≡ 0x52 → ⊥) → turnOpen d x ≡ Keep (Held (d .escape))
-unfolding turnOpen
+last-letter : (d : Delimiters) (x : ℕ) → isOneOf letters x ≡ true → (x ≡ 0x46 → ⊥) → (x ≡ 0x53 → ⊥) → (x ≡ 0x52 → ⊥) → meant d x ≡ some (d .escape)
+unfolding meant
 last-letter d x t f s r =
     let n₁ = ne-eqb x 0x46 f in
     let n₂ = ne-eqb x 0x53 s in
@@ -25,15 +27,15 @@ last-letter d x t f s r =
     ]
 
 returns : tie.Need-returns
-unfolding turnOpen
+unfolding meant
 returns c = search branches
 
 returns-2 : tie.Need-returns-2
-unfolding turnOpen
+unfolding meant
 returns-2 c = search branches
 
 returns-3 : tie.Need-returns-3
-unfolding turnOpen
+unfolding meant
 returns-3 c = search branches
 
 returns-4 : tie.Need-returns-4

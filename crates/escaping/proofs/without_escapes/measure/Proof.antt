@@ -2,16 +2,17 @@
 -- Assumes nothing.
 use borrow.Author.Needs.{needs}
 use borrow.Author.Tests.{not-true, not-false}
-use mathlib.Core.Path.{_≡_, refl, sym, _∙_, ap}
+use mathlib.Core.Path.{_≡_, sym, _∙_}
 use mathlib.Core.List.{List}
 use Prim.Native.Nat.{ℕ, _+_, _-_, _≤_, _<_}
 use native.Mathlib.Omega.{arith}
-use lib.ListN.{length, drop}
+use lib.ListN.{length, getD, drop}
 use Rattle.memory.proofs.Tests.{never-both}
 use Rattle.kinds.specs.declared.Delimiters.{Delimiters}
-use Rattle.escaping.specs.Unescape.{Plain, right, plainOf, measured}
+use Rattle.escaping.specs.Unescape.{unescaped}
+use Rattle.escaping.specs.Inner.Passes.{measured}
 use Rattle.escaping.specs.declared.Measured.the-variants.{Wrong}
-use Rattle.escaping.proofs.Turns.{EscapeAt, itself, bare, escape-one-byte, no-escape, measured-wrong, measured-of, right-end, plain-end}
+use Rattle.escaping.proofs.Unescapes.{EscapeAt, itself-gives, bare-refused, escape-one-byte, no-escape, sizeFrom, size-start, size-wrong, size-next, size-end}
 use Rattle.escaping.proofs.without_escapes.measure.Statement.{statement}
 use Rattle.escaping.proofs.without_escapes.measure.Tie as tie
 
@@ -19,8 +20,7 @@ use Rattle.escaping.proofs.without_escapes.measure.Tie as tie
 record Measuring (d : Delimiters) (text : List ℕ) (less i : ℕ) : Type 0 where
   i-within : i ≤ length text
   less-within : less ≤ i
-  counted : i + length (plainOf d Plain (drop i text)) ≡ less + length (plainOf d Plain text)
-  as-right : right d Plain (drop i text) ≡ right d Plain text
+  counted : sizeFrom (i - less) (unescaped d (drop i text)) ≡ measured d text
 
 abbrev Inv-loop : tie.InvT-loop
 Inv-loop d text less₀ i₀ less i = Measuring d text less i
@@ -50,10 +50,11 @@ no-escape-here c none =
     let l = turn c .loop in
     let a = start (turn c) .args in
     let lt : l .i < length (a .text .now) = omega arith in
-    measured-wrong (a .d) (a .text .now) (sym (l .inv .as-right) ∙ no-escape (a .d) (a .text .now) (l .i) lt (c .if1 .taken) none)
+    size-wrong (a .d) (a .text .now) (l .i) (l .i - l .less) (l .inv .counted) (no-escape (a .d) (a .text .now) (l .i) lt (c .if1 .taken) none)
 
 loop-holds : tie.Need-loop-holds Inv-loop μ-loop
-loop-holds c = record { i-within = search needs; less-within = search needs; counted = omega arith; as-right = refl }
+unfolding measured
+loop-holds c = record { i-within = search needs; less-within = search needs; counted = size-start (unescaped (c .before .args .d) (c .before .args .text .now)) }
 
 returns : tie.Need-returns Inv-loop μ-loop
 returns c = no-escape-here (c .before) (λ e. omega arith)
@@ -74,11 +75,11 @@ loop-again c =
     let a = start (turn t) .args in
     let letter = sym (f .before .is-letter .ensures) ∙ not-false _ (f .if3 .left) in
     let e : EscapeAt (a .d) (a .text .now) (l .i) = record { whole = omega arith; opens = t .if1 .taken; letter = letter; closes = c .if4 .left } in
-    let (r, k) = escape-one-byte (a .d) (a .text .now) (l .i) e in record {
+    let (x, r) = escape-one-byte (a .d) (a .text .now) (l .i) e in
+    record {
       i-within = omega arith;
       less-within = omega arith;
-      counted = omega (arith, k, l .inv .counted);
-      as-right = sym r ∙ l .inv .as-right;
+      counted = size-next (a .d) (a .text .now) (l .i) (l .i - l .less) (l .inv .counted) x (l .i + 3) (l .i + 3 - (l .less + 2)) (omega arith) r;
     }
 
 returns-4 : tie.Need-returns-4 Inv-loop μ-loop
@@ -87,8 +88,8 @@ returns-4 c =
     let l = other-turn o .loop in
     let a = start (other-turn o) .args in
     let lt : l .i < length (a .text .now) = omega arith in
-    let wrong = bare (a .d) (a .text .now) (l .i) lt (o .if1 .left) (λ e. c .if5 .taken (c .before .letter-for .ensures ∙ e)) in
-    measured-wrong (a .d) (a .text .now) (sym (l .inv .as-right) ∙ wrong)
+    let wrong = bare-refused (a .d) (a .text .now) (l .i) lt (o .if1 .left) (λ e. c .if5 .taken (c .before .letter-for .ensures ∙ e)) in
+    size-wrong (a .d) (a .text .now) (l .i) (l .i - l .less) (l .inv .counted) wrong
 
 loop-again-2 : tie.Need-loop-again-2 Inv-loop μ-loop
 loop-again-2 c =
@@ -96,21 +97,18 @@ loop-again-2 c =
     let l = other-turn o .loop in
     let a = start (other-turn o) .args in
     let lt : l .i < length (a .text .now) = omega arith in
-    let (r, p) = itself (a .d) (a .text .now) (l .i) lt (o .if1 .left) (sym (c .before .letter-for .ensures) ∙ c .if5 .left) in
-    let k = ap length p in record {
+    let r = itself-gives (a .d) (a .text .now) (l .i) lt (o .if1 .left) (sym (c .before .letter-for .ensures) ∙ c .if5 .left) in
+    record {
       i-within = omega arith;
       less-within = omega arith;
-      counted = omega (arith, k, l .inv .counted);
-      as-right = sym r ∙ l .inv .as-right;
+      counted = size-next (a .d) (a .text .now) (l .i) (l .i - l .less) (l .inv .counted) (getD (a .text .now) (l .i) 0) (l .i + 1) (l .i + 1 - l .less) (omega arith) r;
     }
 
 returns-5 : tie.Need-returns-5 Inv-loop μ-loop
 returns-5 c =
     let l = c .before .loop in
     let a = start (c .before) .args in
-    let le : length (a .text .now) ≤ l .i = omega arith in
-    let k = ap length (plain-end (a .d) Plain (a .text .now) (l .i) le) in
-    measured-of (a .d) (a .text .now) _ (sym (l .inv .as-right) ∙ right-end (a .d) Plain (a .text .now) (l .i) le) (omega (arith, k, l .inv .counted))
+    size-end (a .d) (a .text .now) (l .i) (l .i - l .less) (l .inv .counted) (omega arith)
 
 pub measure-spec : {M : Type 1} → statement M
 measure-spec =
