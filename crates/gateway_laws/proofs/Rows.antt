@@ -12,11 +12,12 @@ use Rattle.line.specs.declared.Line.{Line}
 use Rattle.answers.specs.declared.Answer.{Answer}
 use Rattle.looking.specs.Views.{framesOf, textsOf, frameText}
 use Rattle.receiving.specs.Settled.{rowOf, withByte, withText, framesAfter, textsAfter, ledgerAfter, journalAfter}
-use Rattle.looking.specs.Fitting.{TextFits, Fitting}
+use Rattle.looking.specs.Inner.Fitting.{TextFits, Fitting}
 use Rattle.looking.specs.declared.Kind.{Kind}
 use Rattle.looking.specs.declared.Verdict.{Verdict}
 use Rattle.looking.specs.declared.Verdict.the-variants.{Left, Opens, Closes, Begins, Counts, Collects, Refuses, Accepts, Stores, Against}
-use Rattle.gateway_laws.specs.Classes.{Class, verdictClass, quiet, opening, closing, refusing, accepting, storing, against}
+use Rattle.gateway_laws.specs.Classes.{Class, quiet, opening, closing, refusing, accepting, storing, against}
+use Rattle.gateway_laws.specs.Inner.Classes.{verdictClass}
 use Rattle.gateway_laws.specs.Own.{ownByte, ownFrames, ownTexts}
 
 module _ (l : Line) (i : ℕ) (u f : List ℕ) (P : List ℕ → List ℕ → Type 0) where

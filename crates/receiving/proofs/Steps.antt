@@ -20,18 +20,22 @@ use Rattle.line.specs.Line.{withinLimits}
 use Rattle.line.specs.declared.Line.{Line}
 use Rattle.answers.specs.declared.Answer.{Answer}
 use Rattle.answers.specs.declared.Answer.the-variants.{NoLine, WrongSize, BeyondLimits}
-use Rattle.looking.specs.Views.{framesOf, textsOf, joinedText, Ready}
+use Rattle.looking.specs.Views.{framesOf, textsOf, joinedText}
+use Rattle.looking.specs.Inner.Ready.{Ready}
 use Rattle.looking.specs.Lent.{rightLengths, rightSizes}
 use Rattle.looking.specs.Looks.{lookOf, lookAlone}
 use Rattle.looking.specs.Answers.{answerOf}
-use Rattle.looking.specs.Fitting.{TextFits, textFits}
+use Rattle.looking.specs.Fitting.{textFits}
+use Rattle.looking.specs.Inner.Fitting.{TextFits}
 use Rattle.receiving.specs.Verdicts.{objectionTo, roomVerdict, decisionOf, decided, ownWork, verdictOf}
-use Rattle.receiving.specs.Settled.{lineAfter, textsAfter, framesAfter, ledgerAfter, journalAfter, Settled}
+use Rattle.receiving.specs.Settled.{lineAfter, textsAfter, framesAfter, ledgerAfter, journalAfter}
+use Rattle.receiving.specs.Inner.Settled.{Settled}
 use Rattle.receiving.specs.declared.completing.Tested.{Tested}
 use Rattle.receiving.specs.declared.completing.Tested.the-variants.{Refused}
-use Rattle.receiving.specs.Decided.{outcomeVerdict, Completion}
+use Rattle.receiving.specs.Inner.Decided.{outcomeVerdict, Completion}
 use Rattle.receiving.specs.Steps.{AfterStep, settle, stepOf, Leaves, memoryOf, Stepping}
-use Rattle.receiving.specs.Alone.{lineAlone, textsAlone, framesAlone, SteppingAlone, testOf, completed, completionOf, decideOf, Deciding, Completing}
+use Rattle.receiving.specs.Alone.{lineAlone, textsAlone, framesAlone, SteppingAlone, completed, completionOf, decideOf, Deciding}
+use Rattle.receiving.specs.Inner.Completing.{testOf, Completing}
 use Rattle.receiving.specs.declared.Alone.{Alone}
 use Rattle.receiving.specs.declared.deciding.Decided.{Decided}
 use Rattle.looking.specs.declared.Event.{Event}

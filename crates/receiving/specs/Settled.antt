@@ -1,7 +1,6 @@
 -- What is left after a verdict: `rowOf` says it row by row, and what stands below reads the rows.
 -- Assumes nothing.
 use Prim.Native.Nat.{ℕ, _+_}
-use mathlib.Core.Path.{_≡_}
 use mathlib.Core.Bool.{Bool, true, false, cond}
 use mathlib.Core.List.{List}
 use mathlib.Core.Option.{Option, none, some}
@@ -78,9 +77,3 @@ ledgerAfter v d i text = cond (rowOf v .stores) (byLength (rowOf v .writes) d (�
 
 abbrev pub journalAfter : Verdict → Ledger → ℕ → (ℕ → List ℕ) → List ℕ → List ℕ
 journalAfter v d i text journal = cond (rowOf v .stores) (byLength (rowOf v .writes) journal (λ n. appended d i (text n) journal)) journal
-
--- what acting says
-pub record Settled (v : Verdict) (k : Kind) (l : Line) (i : ℕ) (u f : List ℕ) (r : Line) (u′ f′ : List ℕ) : Type 0 where
-  pub line : r ≡ lineAfter v l
-  pub texts : u′ ≡ textsAfter v l i u f
-  pub frames : f′ ≡ framesAfter v k l i f

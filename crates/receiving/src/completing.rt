@@ -2,9 +2,10 @@
 ghost use mathlib.Core.Path.{_≡_};
 ghost use mathlib.Core.Bool.{true};
 ghost use Rattle.line.specs.Line.{withinLimits};
-ghost use Rattle.looking.specs.Views.{Ready};
-ghost use Rattle.looking.specs.Fitting.{TextFits, textFits};
-ghost use Rattle.receiving.specs.Alone.{testOf, Completing};
+ghost use Rattle.looking.specs.Inner.Ready.{Ready};
+ghost use Rattle.looking.specs.Fitting.{textFits};
+ghost use Rattle.looking.specs.Inner.Fitting.{TextFits};
+ghost use Rattle.receiving.specs.Inner.Completing.{testOf, Completing};
 use super::Stepped;
 use super::deciding;
 use super::settling;
