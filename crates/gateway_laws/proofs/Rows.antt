@@ -18,7 +18,7 @@ use Rattle.looking.specs.declared.Verdict.{Verdict}
 use Rattle.looking.specs.declared.Verdict.the-variants.{Left, Opens, Closes, Begins, Counts, Collects, Refuses, Accepts, Stores, Against}
 use Rattle.gateway_laws.specs.Classes.{Class, quiet, opening, closing, refusing, accepting, storing, against}
 use Rattle.gateway_laws.specs.Inner.Classes.{verdictClass}
-use Rattle.gateway_laws.specs.Own.{ownByte, ownFrames, ownTexts}
+use Rattle.gateway_laws.specs.Inner.Own.{ownByte, ownFrames, ownTexts}
 
 module _ (l : Line) (i : ℕ) (u f : List ℕ) (P : List ℕ → List ℕ → Type 0) where
   -- the texts of all lines, and the line's own

@@ -20,7 +20,7 @@ use Rattle.looking.specs.declared.Kind.{Kind}
 use Rattle.looking.specs.declared.Kind.the-variants.{Byte, Seconds}
 use Rattle.looking.specs.declared.Verdict.{Verdict}
 use Rattle.receiving.proofs.Pieces.{length-text}
-use Rattle.gateway_laws.specs.Own.{ownByte, ownFrames, ownTexts}
+use Rattle.gateway_laws.specs.Inner.Own.{ownByte, ownFrames, ownTexts}
 use Rattle.gateway_laws.proofs.Rows.{text-rows, frame-rows}
 
 -- two memories that agree on the line's parts

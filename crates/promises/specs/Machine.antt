@@ -27,7 +27,7 @@ use Rattle.gateway.specs.declared.Gateway.{Gateway}
 use Rattle.looking.specs.declared.Kind.{Kind}
 use Rattle.looking.specs.declared.Verdict.{Verdict}
 use Rattle.gateway_laws.specs.Classes.{Class, classOf, quiet, opening, closing, refusing, accepting, storing, against, taking as gives}
-use Rattle.gateway_laws.specs.Own.{ownFrames, ownTexts}
+use Rattle.gateway_laws.specs.Inner.Own.{ownFrames, ownTexts}
 use Rattle.serial.specs.Serial.{Item, event, taking}
 
 pub record State : Type 0 where
