@@ -36,7 +36,8 @@ use Rattle.looking.specs.declared.Kind.the-variants.{Byte, Seconds}
 use Rattle.looking.specs.declared.Verdict.{Verdict}
 use Rattle.looking.specs.declared.Verdict.the-variants.{Collects, Begins}
 use Rattle.numbers.specs.Plain.{waiting, inside, begins, insideAt, firstAt, numberAt, stateOf, withLine, withSerial, withUsed, withinNumbers, onlyCollects, oneMore, quick, lineOf, ledgerOf, inNumbers}
-use Rattle.calls.specs.Calls.{AfterCall, refused, putBack, callOf, Called, Calling, Stepping, Deciding, PutBack, Narrow, Taken, takingInNumbers}
+use Rattle.calls.specs.Calls.{AfterCall, refused, putBack, callOf, Called, Calling, Taken, takingInNumbers}
+use Rattle.calls.specs.Inner.Steps.{Stepping, Deciding, PutBack, Narrow}
 use Rattle.numbers.specs.Changes.{isWithin, recordOf, isCollected, Collected, isBegun, Begun, recordAfter, serialAfter, countsAfter}
 use Rattle.numbers.specs.declared.Answered.{Answered}
 use Rattle.numbers.proofs.Changes.{within-facts}
