@@ -75,14 +75,14 @@ module _ (ns us : List ℕ) (e : Event) (j u f : List ℕ) where
 -- the step of a line with the record l, and the deciding
 module _ (ns us : List ℕ) (l : Line) (e : Event) (j u f : List ℕ) where
   -- an outcome of the gateway, put back
-  put-back : {x : AfterStep} {s : Stepped} {ns′ us′ j′ u′ f′ : List ℕ} {r : Answered} → Leaves x s j′ u′ f′ → PutBack ns us (e .line) s r ns′ us′ → Called (putBack ns us (e .line) x) r ns′ us′ j′ u′ f′
+  put-back : {x : AfterStep} {s : Stepped} {ns′ us′ : List ℕ} {m : Memory} {r : Answered} → Leaves x s m → PutBack ns us (e .line) s r ns′ us′ → Called (putBack ns us (e .line) x) r ns′ us′ (m .journal) (m .unfinished) (m .frames)
   put-back y p = record {
     result = p .result ∙ ap (λ (z : Stepped). inNumbers (z .answer)) (y .result);
     numbers = p .numbers ∙ ap (λ (z : Stepped). withSerial (withLine ns (e .line) (z .line)) (e .line) (z .ledger)) (y .result);
     counts = p .counts ∙ ap (λ (z : Stepped). withUsed us (e .line) (z .ledger)) (y .result);
-    journal = y .journal;
-    unfinished = y .unfinished;
-    frames = y .frames;
+    journal = ap (λ (z : Memory). z .journal) (y .memory);
+    unfinished = ap (λ (z : Memory). z .unfinished) (y .memory);
+    frames = ap (λ (z : Memory). z .frames) (y .memory);
   }
 
   -- a step that is done on the line alone: the ledger stays
@@ -92,10 +92,10 @@ module _ (ns us : List ℕ) (l : Line) (e : Event) (j u f : List ℕ) where
       put-back (step-after l (ledgerOf ns us) e j u f t v x k refl) (record { result = q; numbers = m ∙ sym (serial-back ns us (e .line) (t .line) h); counts = sym (used-back ns us (e .line) h) })
 
   -- a message that is decided
-  pub put-decided : (n : ℕ) {d : Ledger} {s : Stepped} {ns′ us′ j′ u′ f′ : List ℕ} {r : Answered} → d ≡ ledgerOf ns us → Leaves (decideOf todaysShares l d e n (memoryOf j u f)) s j′ u′ f′ → PutBack ns us (e .line) s r ns′ us′
+  pub put-decided : (n : ℕ) {d : Ledger} {s : Stepped} {ns′ us′ j′ u′ f′ : List ℕ} {r : Answered} → d ≡ ledgerOf ns us → Leaves (decideOf todaysShares l d e n (memoryOf j u f)) s (memoryOf j′ u′ f′) → PutBack ns us (e .line) s r ns′ us′
       → Deciding ns us l e n j u f r ns′ us′ j′ u′ f′
   put-decided n {d} {s} {ns′} {us′} {j′} {u′} {f′} q x p =
-      let y : Leaves (decideOf todaysShares l (ledgerOf ns us) e n (memoryOf j u f)) s j′ u′ f′ = rw (← q) x in
+      let y : Leaves (decideOf todaysShares l (ledgerOf ns us) e n (memoryOf j u f)) s (memoryOf j′ u′ f′) = rw (← q) x in
       put-back y p
 
   pub by-decide : {t : Alone} {n : ℕ} {u₁ f₁ ns′ us′ j′ u′ f′ : List ℕ} {r : Answered} → SteppingAlone l e (length j) u f t u₁ f₁ → t .look ≡ Decides n → Deciding ns us l e n j u₁ f₁ r ns′ us′ j′ u′ f′

@@ -19,7 +19,7 @@ use Rattle.line.specs.declared.Last.the-variants.{NoneYet}
 use Rattle.answers.specs.declared.Answer.{Answer}
 use Rattle.answers.specs.declared.Answer.the-variants.{NoLine}
 use Rattle.looking.specs.declared.Event.{Event}
-use Rattle.receiving.specs.Steps.{Memory, memoryOf, AfterStep, stepOf}
+use Rattle.receiving.specs.Steps.{Memory, AfterStep, stepOf}
 use Rattle.gateway.specs.declared.Gateway.{Gateway}
 use Rattle.gateway.specs.declared.Handled.{Handled}
 
@@ -55,11 +55,9 @@ eventOf shares g e m =
     (putBack g (e .line) (stepOf shares (lineAt g (e .line)) (g .ledger) e m))
 
 -- what handling an event says
-pub record Handling (g : Gateway) (e : Event) (j u f : List ℕ) (r : Handled) (j′ u′ f′ : List ℕ) : Type 0 where
-  pub result : r ≡ eventOf todaysShares g e (memoryOf j u f) .handled
-  pub journal : j′ ≡ eventOf todaysShares g e (memoryOf j u f) .memory .journal
-  pub unfinished : u′ ≡ eventOf todaysShares g e (memoryOf j u f) .memory .unfinished
-  pub frames : f′ ≡ eventOf todaysShares g e (memoryOf j u f) .memory .frames
+pub record Handling (g : Gateway) (e : Event) (m : Memory) (r : Handled) (m′ : Memory) : Type 0 where
+  pub result : r ≡ eventOf todaysShares g e m .handled
+  pub memory : m′ ≡ eventOf todaysShares g e m .memory
 
 pub record AfterTake : Type 0 where
   pub handled : Handled

@@ -37,7 +37,9 @@ pub fn handle(
     unfinished: &mut [u8],
     frames: &mut [u8],
 ) -> Handled
-    ensures { λ r. ⌜ Handling g e (now (journal .entry)) (now (unfinished .entry)) (now (frames .entry)) r (now (journal .exit)) (now (unfinished .exit)) (now (frames .exit)) ⌝ }
+    ensures { λ r. ⌜ Handling g e
+        (record { journal = now (journal .entry); unfinished = now (unfinished .entry); frames = now (frames .entry) })
+        r (record { journal = now (journal .exit); unfinished = now (unfinished .exit); frames = now (frames .exit) }) ⌝ }
 {
     let i = e.line as usize;
     if memory::LINES <= i {

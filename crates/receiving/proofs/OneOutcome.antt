@@ -7,6 +7,7 @@ use Rattle.journal.specs.declared.Ledger.{Ledger}
 use Rattle.line.specs.declared.Line.{Line}
 use Rattle.looking.specs.declared.Event.{Event}
 use Rattle.looking.specs.declared.Look.{Look}
+use Rattle.receiving.specs.Steps.{Memory}
 use Rattle.receiving.specs.Alone.{SteppingAlone, Deciding}
 use Rattle.receiving.specs.declared.Alone.{Alone}
 use Rattle.receiving.specs.declared.Stepped.{Stepped}
@@ -19,6 +20,5 @@ alone-once l e n u f {r} {s} a b =
     (λ z. record { line = line z; look = look z }, a .unfinished ∙ sym (b .unfinished), a .frames ∙ sym (b .frames))
 
 -- `decide`
-pub decide-once : (l : Line) (d : Ledger) (e : Event) (n : ℕ) (j u f : List ℕ) {r s : Stepped} {j₁ j₂ u₁ u₂ f₁ f₂ : List ℕ} → Deciding l d e n j u f r j₁ u₁ f₁ → Deciding l d e n j u f s j₂ u₂ f₂
-    → (r ≡ s) × (j₁ ≡ j₂) × (u₁ ≡ u₂) × (f₁ ≡ f₂)
-decide-once l d e n j u f a b = (a .result ∙ sym (b .result), a .journal ∙ sym (b .journal), a .unfinished ∙ sym (b .unfinished), a .frames ∙ sym (b .frames))
+pub decide-once : (l : Line) (d : Ledger) (e : Event) (n : ℕ) (m : Memory) {r s : Stepped} {m₁ m₂ : Memory} → Deciding l d e n m r m₁ → Deciding l d e n m s m₂ → (r ≡ s) × (m₁ ≡ m₂)
+decide-once l d e n m a b = (a .result ∙ sym (b .result), a .memory ∙ sym (b .memory))

@@ -24,7 +24,7 @@ use Rattle.looking.specs.declared.Verdict.{Verdict}
 use Rattle.looking.specs.declared.Verdict.the-variants.{Left}
 use Rattle.receiving.specs.Verdicts.{decisionOf}
 use Rattle.receiving.specs.Settled.{lineAfter, framesAfter, textsAfter}
-use Rattle.receiving.specs.Steps.{Memory, memoryOf, AfterStep, settle, Leaves}
+use Rattle.receiving.specs.Steps.{Memory, AfterStep, settle, Leaves}
 use Rattle.receiving.specs.declared.Alone.{Alone}
 use Rattle.receiving.specs.declared.Stepped.{Stepped}
 
@@ -68,5 +68,5 @@ unfoldable pub decideOf : List ℕ → Line → Ledger → Event → ℕ → Mem
 decideOf shares l d e n m = settle (completionOf shares l d e n m) l d e m
 
 -- what deciding says
-abbrev pub Deciding : Line → Ledger → Event → ℕ → List ℕ → List ℕ → List ℕ → Stepped → List ℕ → List ℕ → List ℕ → Type 0
-Deciding l d e n j u f r j′ u′ f′ = Leaves (decideOf todaysShares l d e n (memoryOf j u f)) r j′ u′ f′
+abbrev pub Deciding : Line → Ledger → Event → ℕ → Memory → Stepped → Memory → Type 0
+Deciding l d e n m r m′ = Leaves (decideOf todaysShares l d e n m) r m′

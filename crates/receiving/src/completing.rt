@@ -25,7 +25,9 @@ pub fn by_decision(
     frames: &mut [u8],
 ) -> Stepped
     requires { ⌜ Ready line (e .line) (now unfinished) (now frames) × TextFits line n ⌝ }
-    ensures { λ r. ⌜ Completing line ledger e n (now (journal .entry)) (now (unfinished .entry)) (now (frames .entry)) r (now (journal .exit)) (now (unfinished .exit)) (now (frames .exit)) ⌝ }
+    ensures { λ r. ⌜ Completing line ledger e n
+        (record { journal = now (journal .entry); unfinished = now (unfinished .entry); frames = now (frames .entry) })
+        r (record { journal = now (journal .exit); unfinished = now (unfinished .exit); frames = now (frames .exit) }) ⌝ }
 {
     let i = e.line as usize;
     let kind = e.kind;

@@ -2,7 +2,6 @@
 -- Assumes nothing.
 use Prim.Native.Nat.{ℕ}
 use mathlib.Core.Bool.{_&&_}
-use mathlib.Core.List.{List}
 use lib.Dec.{ltb}
 use Rattle.memory.specs.Sizes.{lines}
 use Rattle.memory.specs.Tests.{unless}
@@ -14,7 +13,7 @@ use Rattle.answers.specs.declared.Answer.the-variants.{NoLine, WrongSize, Beyon
 use Rattle.looking.specs.Fitting.{textFits}
 use Rattle.looking.specs.Lent.{rightLengths}
 use Rattle.looking.specs.declared.Event.{Event}
-use Rattle.receiving.specs.Steps.{memoryOf, settle, Leaves}
+use Rattle.receiving.specs.Steps.{Memory, settle, Leaves}
 use Rattle.receiving.specs.Alone.{completed}
 use Rattle.receiving.specs.declared.Stepped.{Stepped}
 use Rattle.receiving.specs.declared.completing.Tested.{Tested}
@@ -29,5 +28,5 @@ testOf l i n journal unfinished frames =
     Tested.Ready))
 
 -- the work of deciding, past 40 to 42
-abbrev pub Completing : Line → Ledger → Event → ℕ → List ℕ → List ℕ → List ℕ → Stepped → List ℕ → List ℕ → List ℕ → Type 0
-Completing l d e n j u f r j′ u′ f′ = Leaves (settle (completed todaysShares l d e n (memoryOf j u f)) l d e (memoryOf j u f)) r j′ u′ f′
+abbrev pub Completing : Line → Ledger → Event → ℕ → Memory → Stepped → Memory → Type 0
+Completing l d e n m r m′ = Leaves (settle (completed todaysShares l d e n m) l d e m) r m′
