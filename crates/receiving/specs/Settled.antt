@@ -16,35 +16,38 @@ use Rattle.looking.specs.declared.Kind.the-variants.{Byte, Seconds}
 use Rattle.looking.specs.declared.Verdict.{Verdict}
 use Rattle.looking.specs.declared.Verdict.the-variants.{Left, Opens, Closes, Begins, Counts, Collects, Refuses, Accepts, Stores, Against}
 
--- what a row does: the line's record after it, whether the byte goes to the line's frame bytes,
--- how many bytes of the frame's text are written behind the joined text, if any, and whether the text that the line then has is stored
+-- what a row does
 pub record Row : Type 0 where
+  -- the line's record, by the one before
   pub line : Line → Line
+  -- whether the byte is added to the line's frame bytes
   pub adds : Bool
+  -- how many bytes of the frame's text are written behind the joined text, if any
   pub writes : Option ℕ
+  -- whether the text that the line then has is stored
   pub stores : Bool
 
 -- the rows, one for each kind of answer
 abbrev pub rowOf : Verdict → Row
 -- an ignored event (0), 20 and 40 to 43: nothing changes
 rowOf (Left a) = record { line = λ l. l; adds = false; writes = none; stores = false }
--- 1: the line waits, its counts 0, its next number 1, with no last number and not refusing
+-- 1: the line waits; its counts are 0, its next number is 1, it has no last number and does not refuse
 rowOf Opens = record { line = openedLine; adds = false; writes = none; stores = false }
 -- 5, 6 and 7: the same, but the line is neutral
 rowOf (Closes a) = record { line = closedLine; adds = false; writes = none; stores = false }
--- STX (0): the line is inside a frame
+-- STX (0): the line is inside a frame, and nothing else changes
 rowOf Begins = record { line = begunLine; adds = false; writes = none; stores = false }
 -- seconds (0): n are counted now
 rowOf (Counts n) = record { line = λ l. countedLine l n; adds = false; writes = none; stores = false }
 -- a collected byte (0): it is added, and counted
 rowOf Collects = record { line = λ l. collectedLine l (l .collected + 1); adds = true; writes = none; stores = false }
--- 3 and 21 to 29: as after every judged frame, its last byte is added and the line waits, nothing collected and no seconds counted
+-- 3 and 21 to 29, as every judged frame: its last byte is added, and the line waits with nothing collected and no seconds
 rowOf (Refuses a) = record { line = waitingLine; adds = true; writes = none; stores = false }
--- 2: and the frame's n bytes are joined, and the number advances
+-- 2: besides, the n bytes of the frame's text are written and counted as joined; the number advances
 rowOf (Accepts n) = record { line = λ l. acceptedLine l (l .joined + n); adds = true; writes = some n; stores = false }
--- 4: and the whole text is stored: nothing is joined any more, and the number advances
+-- 4: besides, they are written and the whole text is stored; nothing is joined any more; the number advances
 rowOf (Stores n) = record { line = λ l. acceptedLine l 0; adds = true; writes = some n; stores = true }
--- 30 and 31: the frame's n bytes are written, but nothing is joined any more, and the line refuses
+-- 30 and 31: besides, they are written; nothing is joined any more; the line refuses
 rowOf (Against a n) = record { line = refusingLine; adds = true; writes = some n; stores = false }
 
 -- the line's record
