@@ -86,7 +86,7 @@ module _ (ns us : List ℕ) (l : Line) (e : Event) (j u f : List ℕ) where
   }
 
   -- a step that is done on the line alone: the ledger stays
-  pub put-after : {t : Alone} {v : Verdict} {ns′ u′ f′ : List ℕ} {r : Answered} → e .line < lines → SteppingAlone l e (length j) u f t u′ f′ → t .look ≡ Done v → ns′ ≡ withLine ns (e .line) (t .line) → r ≡ inNumbers (answerOf v)
+  pub put-after : {t : Alone} {v : Verdict} {ns′ u′ f′ : List ℕ} {r : Answered} → e .line < lines → SteppingAlone l e (length j) (record { unfinished = u; frames = f }) t (record { unfinished = u′; frames = f′ }) → t .look ≡ Done v → ns′ ≡ withLine ns (e .line) (t .line) → r ≡ inNumbers (answerOf v)
       → Stepping ns us l e j u f r ns′ us j u′ f′
   put-after {t} {v} h x k m q =
       put-back (step-after l (ledgerOf ns us) e j u f t v x k refl) (record { result = q; numbers = m ∙ sym (serial-back ns us (e .line) (t .line) h); counts = sym (used-back ns us (e .line) h) })
@@ -98,7 +98,7 @@ module _ (ns us : List ℕ) (l : Line) (e : Event) (j u f : List ℕ) where
       let y : Leaves (decideOf todaysShares l (ledgerOf ns us) e n (memoryOf j u f)) s (memoryOf j′ u′ f′) = rw (← q) x in
       put-back y p
 
-  pub by-decide : {t : Alone} {n : ℕ} {u₁ f₁ ns′ us′ j′ u′ f′ : List ℕ} {r : Answered} → SteppingAlone l e (length j) u f t u₁ f₁ → t .look ≡ Decides n → Deciding ns us l e n j u₁ f₁ r ns′ us′ j′ u′ f′
+  pub by-decide : {t : Alone} {n : ℕ} {u₁ f₁ ns′ us′ j′ u′ f′ : List ℕ} {r : Answered} → SteppingAlone l e (length j) (record { unfinished = u; frames = f }) t (record { unfinished = u₁; frames = f₁ }) → t .look ≡ Decides n → Deciding ns us l e n j u₁ f₁ r ns′ us′ j′ u′ f′
       → Stepping ns us l e j u f r ns′ us′ j′ u′ f′
   by-decide {t} {n} {u₁} {f₁} {ns′} {us′} {j′} {u′} {f′} {r} s k c =
       let (h, x, y) = alone-asks l (ledgerOf ns us) e j u f t s k in

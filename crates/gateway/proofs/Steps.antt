@@ -35,7 +35,7 @@ module _ (g : Gateway) (e : Event) (m : Memory) where
       }
 
 pub take-entry : (g : Gateway) (i : ℕ) (j b : List ℕ) (t : Took) (a : Answer) (j′ b′ : List ℕ) → TakenFrom (g .ledger) i j b t j′ b′ → a ≡ tookAnswer (t .answer)
-    → Taking g i j b (record { gateway = record { lines = g .lines; ledger = t .ledger }; answer = a }) j′ b′
+    → Taking g i (record { journal = j; buffer = b }) (record { gateway = record { lines = g .lines; ledger = t .ledger }; answer = a }) (record { journal = j′; buffer = b′ })
 unfolding takeOf
 take-entry g i j b t a j′ b′ s h = record {
   result = ap (λ (x : Answer). record { gateway = record { lines = g .lines; ledger = t .ledger }; answer = x }) h

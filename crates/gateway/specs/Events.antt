@@ -75,8 +75,13 @@ takeOf g i j b = record {
   buffer = takeEntry (g .ledger) i j b .buffer;
 }
 
+-- the lent memory of a taking
+pub record TakeMemory : Type 0 where
+  pub journal : List ℕ
+  pub buffer : List ℕ
+
 -- what a taking says
-pub record Taking (g : Gateway) (i : ℕ) (j b : List ℕ) (r : Handled) (j′ b′ : List ℕ) : Type 0 where
-  pub result : r ≡ takeOf g i j b .handled
-  pub journal : j′ ≡ takeOf g i j b .journal
-  pub buffer : b′ ≡ takeOf g i j b .buffer
+pub record Taking (g : Gateway) (i : ℕ) (m : TakeMemory) (r : Handled) (m′ : TakeMemory) : Type 0 where
+  pub result : r ≡ takeOf g i (m .journal) (m .buffer) .handled
+  pub journal : m′ .journal ≡ takeOf g i (m .journal) (m .buffer) .journal
+  pub buffer : m′ .buffer ≡ takeOf g i (m .journal) (m .buffer) .buffer

@@ -77,7 +77,7 @@ memory-is p q r = λ z. record { journal = p z; unfinished = q z; frames = r z }
 -- an event on its line alone: the row of the look's verdict, or a look that decides
 module _ (l : Line) (e : Event) (n : ℕ) (u f : List ℕ) where
   pub alone-settled : {v : Verdict} {l′ : Line} {u′ f′ : List ℕ} → Done v ≡ lookAlone l e n u f → Settled v (e .kind) l (e .line) u f l′ u′ f′
-      → SteppingAlone l e n u f (record { line = l′; look = Done v }) u′ f′
+      → SteppingAlone l e n (record { unfinished = u; frames = f }) (record { line = l′; look = Done v }) (record { unfinished = u′; frames = f′ })
   alone-settled h s = record {
     look = h;
     line = s .line ∙ ap (λ (x : Look). lineAlone x l) h;
@@ -85,7 +85,7 @@ module _ (l : Line) (e : Event) (n : ℕ) (u f : List ℕ) where
     frames = s .frames ∙ ap (λ (x : Look). framesAlone x (e .kind) l (e .line) f) h;
   }
 
-  pub alone-decides : {k : Look} {m : ℕ} → k ≡ lookAlone l e n u f → k ≡ Decides m → SteppingAlone l e n u f (record { line = l; look = k }) u f
+  pub alone-decides : {k : Look} {m : ℕ} → k ≡ lookAlone l e n u f → k ≡ Decides m → SteppingAlone l e n (record { unfinished = u; frames = f }) (record { line = l; look = k }) (record { unfinished = u; frames = f })
   alone-decides h p =
       let q = sym p ∙ h in
       record {
@@ -125,7 +125,7 @@ module _ (l : Line) (d : Ledger) (e : Event) (j u f : List ℕ) where
   verdict-by h = verdict-alone ∙ ap by h
 
   -- a step that is done on the line alone leaves the ledger and the journal
-  pub step-after : (s : Alone) (v : Verdict) {a : Answer} {u′ f′ : List ℕ} → SteppingAlone l e (length j) u f s u′ f′ → s .look ≡ Done v → a ≡ answerOf v
+  pub step-after : (s : Alone) (v : Verdict) {a : Answer} {u′ f′ : List ℕ} → SteppingAlone l e (length j) (record { unfinished = u; frames = f }) s (record { unfinished = u′; frames = f′ }) → s .look ≡ Done v → a ≡ answerOf v
       → Stepping l d e (memoryOf j u f) (record { line = s .line; ledger = d; answer = a }) (memoryOf j u′ f′)
   unfolding stepOf
   step-after s v {a} {u′} {f′} t h p =
@@ -142,7 +142,7 @@ module _ (l : Line) (d : Ledger) (e : Event) (j u f : List ℕ) where
       }
 
   -- where it decides, nothing is changed
-  pub alone-asks : (s : Alone) {n : ℕ} {u′ f′ : List ℕ} → SteppingAlone l e (length j) u f s u′ f′ → s .look ≡ Decides n → (lookAlone l e (length j) u f ≡ Decides n) × (u′ ≡ u) × (f′ ≡ f)
+  pub alone-asks : (s : Alone) {n : ℕ} {u′ f′ : List ℕ} → SteppingAlone l e (length j) (record { unfinished = u; frames = f }) s (record { unfinished = u′; frames = f′ }) → s .look ≡ Decides n → (lookAlone l e (length j) u f ≡ Decides n) × (u′ ≡ u) × (f′ ≡ f)
   alone-asks s t h =
       let k = sym (t .look) ∙ h in
       (k, t .unfinished ∙ ap (λ (x : Look). textsAlone x l (e .line) u f) k, t .frames ∙ ap (λ (x : Look). framesAlone x (e .kind) l (e .line) f) k)
@@ -165,7 +165,7 @@ module _ (l : Line) (d : Ledger) (e : Event) (j u f : List ℕ) where
       let t = subst (λ (x : Look). Acts x l (e .line) u f) h (alone-acts l e (length j) u f) in
       ap (λ (v : Verdict). settle v l d e (memoryOf j u f)) (verdict-by h ∙ sym (completion-is n h (fits-test l n (t .0))))
 
-  pub step-asks : (s : Alone) {n : ℕ} {u₁ f₁ : List ℕ} {r : Stepped} {j′ u′ f′ : List ℕ} → SteppingAlone l e (length j) u f s u₁ f₁ → s .look ≡ Decides n → Deciding l d e n (memoryOf j u₁ f₁) r (memoryOf j′ u′ f′)
+  pub step-asks : (s : Alone) {n : ℕ} {u₁ f₁ : List ℕ} {r : Stepped} {j′ u′ f′ : List ℕ} → SteppingAlone l e (length j) (record { unfinished = u; frames = f }) s (record { unfinished = u₁; frames = f₁ }) → s .look ≡ Decides n → Deciding l d e n (memoryOf j u₁ f₁) r (memoryOf j′ u′ f′)
       → Stepping l d e (memoryOf j u f) r (memoryOf j′ u′ f′)
   step-asks s {n} {u₁} {f₁} {r} {j′} {u′} {f′} a h t =
       let (k, p, q) = alone-asks s a h in

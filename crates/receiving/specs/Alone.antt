@@ -41,15 +41,20 @@ abbrev pub framesAlone : Look → Kind → Line → ℕ → List ℕ → List �
 framesAlone (Done v) k l i frames = framesAfter v k l i frames
 framesAlone (Decides n) k l i frames = frames
 
-pub record LeavesAlone (k : Look) (l : Line) (e : Event) (u f : List ℕ) (r : Alone) (u′ f′ : List ℕ) : Type 0 where
+-- the lent memory of an event on its line alone: the journal is not lent
+pub record AloneMemory : Type 0 where
+  pub unfinished : List ℕ
+  pub frames : List ℕ
+
+pub record LeavesAlone (k : Look) (l : Line) (e : Event) (m : AloneMemory) (r : Alone) (m′ : AloneMemory) : Type 0 where
   pub look : r .look ≡ k
   pub line : r .line ≡ lineAlone k l
-  pub unfinished : u′ ≡ textsAlone k l (e .line) u f
-  pub frames : f′ ≡ framesAlone k (e .kind) l (e .line) f
+  pub unfinished : m′ .unfinished ≡ textsAlone k l (e .line) (m .unfinished) (m .frames)
+  pub frames : m′ .frames ≡ framesAlone k (e .kind) l (e .line) (m .frames)
 
 -- what a step on the line alone says
-abbrev pub SteppingAlone : Line → Event → ℕ → List ℕ → List ℕ → Alone → List ℕ → List ℕ → Type 0
-SteppingAlone l e journal u f r u′ f′ = LeavesAlone (lookAlone l e journal u f) l e u f r u′ f′
+abbrev pub SteppingAlone : Line → Event → ℕ → AloneMemory → Alone → AloneMemory → Type 0
+SteppingAlone l e journal m r m′ = LeavesAlone (lookAlone l e journal (m .unfinished) (m .frames)) l e m r m′
 
 -- the decision on the text that the line has with n bytes of its frame
 abbrev pub completed : List ℕ → Line → Ledger → Event → ℕ → Memory → Verdict

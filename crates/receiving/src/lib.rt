@@ -33,7 +33,9 @@ pub fn step_alone(
     unfinished: &mut [u8],
     frames: &mut [u8],
 ) -> Alone
-    ensures { λ r. ⌜ SteppingAlone line e journal (now (unfinished .entry)) (now (frames .entry)) r (now (unfinished .exit)) (now (frames .exit)) ⌝ }
+    ensures { λ r. ⌜ SteppingAlone line e journal
+        (record { unfinished = now (unfinished .entry); frames = now (frames .entry) })
+        r (record { unfinished = now (unfinished .exit); frames = now (frames .exit) }) ⌝ }
 {
     let i = e.line as usize;
     let kind = e.kind;
