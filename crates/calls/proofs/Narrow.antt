@@ -24,7 +24,7 @@ use Rattle.journal.specs.declared.Verdict.{Verdict as Judgement}
 use Rattle.header.proofs.Heads.{head-size-high}
 use Rattle.journal.proofs.Judged.{fits-facts}
 use Rattle.journal.proofs.Wholes.{kept}
-use Rattle.calls.specs.Calls.{Narrow}
+use Rattle.calls.specs.Inner.Steps.{Narrow}
 use Rattle.line.specs.Line.{withinLimits}
 use Rattle.line.specs.declared.Line.{Line}
 use Rattle.looking.specs.Views.{framesOf, textsOf, joinedText}

@@ -36,7 +36,8 @@ use Rattle.looking.specs.declared.Kind.the-variants.{Byte, Seconds}
 use Rattle.looking.specs.declared.Verdict.{Verdict}
 use Rattle.looking.specs.declared.Verdict.the-variants.{Collects, Begins}
 use Rattle.numbers.specs.Plain.{waiting, inside, begins, insideAt, firstAt, numberAt, stateOf, withLine, withSerial, withUsed, withinNumbers, onlyCollects, oneMore, quick, lineOf, ledgerOf, inNumbers}
-use Rattle.calls.specs.Calls.{AfterCall, refused, putBack, callOf, Called, Calling, Stepping, Deciding, PutBack, Narrow, Taken, takingInNumbers}
+use Rattle.calls.specs.Calls.{AfterCall, refused, putBack, callOf, Called, Calling, Taken, takingInNumbers}
+use Rattle.calls.specs.Inner.Steps.{Stepping, Deciding, PutBack, Narrow}
 use Rattle.numbers.specs.Changes.{isWithin, recordOf, isCollected, Collected, isBegun, Begun, recordAfter, serialAfter, countsAfter}
 use Rattle.numbers.specs.declared.Answered.{Answered}
 use Rattle.numbers.proofs.Changes.{within-facts}
@@ -74,30 +75,30 @@ module _ (ns us : List ℕ) (e : Event) (j u f : List ℕ) where
 -- the step of a line with the record l, and the deciding
 module _ (ns us : List ℕ) (l : Line) (e : Event) (j u f : List ℕ) where
   -- an outcome of the gateway, put back
-  put-back : {x : AfterStep} {s : Stepped} {ns′ us′ j′ u′ f′ : List ℕ} {r : Answered} → Leaves x s j′ u′ f′ → PutBack ns us (e .line) s r ns′ us′ → Called (putBack ns us (e .line) x) r ns′ us′ j′ u′ f′
+  put-back : {x : AfterStep} {s : Stepped} {ns′ us′ : List ℕ} {m : Memory} {r : Answered} → Leaves x s m → PutBack ns us (e .line) s r ns′ us′ → Called (putBack ns us (e .line) x) r ns′ us′ (m .journal) (m .unfinished) (m .frames)
   put-back y p = record {
     result = p .result ∙ ap (λ (z : Stepped). inNumbers (z .answer)) (y .result);
     numbers = p .numbers ∙ ap (λ (z : Stepped). withSerial (withLine ns (e .line) (z .line)) (e .line) (z .ledger)) (y .result);
     counts = p .counts ∙ ap (λ (z : Stepped). withUsed us (e .line) (z .ledger)) (y .result);
-    journal = y .journal;
-    unfinished = y .unfinished;
-    frames = y .frames;
+    journal = ap (λ (z : Memory). z .journal) (y .memory);
+    unfinished = ap (λ (z : Memory). z .unfinished) (y .memory);
+    frames = ap (λ (z : Memory). z .frames) (y .memory);
   }
 
   -- a step that is done on the line alone: the ledger stays
-  pub put-after : {t : Alone} {v : Verdict} {ns′ u′ f′ : List ℕ} {r : Answered} → e .line < lines → SteppingAlone l e (length j) u f t u′ f′ → t .look ≡ Done v → ns′ ≡ withLine ns (e .line) (t .line) → r ≡ inNumbers (answerOf v)
+  pub put-after : {t : Alone} {v : Verdict} {ns′ u′ f′ : List ℕ} {r : Answered} → e .line < lines → SteppingAlone l e (length j) (record { unfinished = u; frames = f }) t (record { unfinished = u′; frames = f′ }) → t .look ≡ Done v → ns′ ≡ withLine ns (e .line) (t .line) → r ≡ inNumbers (answerOf v)
       → Stepping ns us l e j u f r ns′ us j u′ f′
   put-after {t} {v} h x k m q =
       put-back (step-after l (ledgerOf ns us) e j u f t v x k refl) (record { result = q; numbers = m ∙ sym (serial-back ns us (e .line) (t .line) h); counts = sym (used-back ns us (e .line) h) })
 
   -- a message that is decided
-  pub put-decided : (n : ℕ) {d : Ledger} {s : Stepped} {ns′ us′ j′ u′ f′ : List ℕ} {r : Answered} → d ≡ ledgerOf ns us → Leaves (decideOf todaysShares l d e n (memoryOf j u f)) s j′ u′ f′ → PutBack ns us (e .line) s r ns′ us′
+  pub put-decided : (n : ℕ) {d : Ledger} {s : Stepped} {ns′ us′ j′ u′ f′ : List ℕ} {r : Answered} → d ≡ ledgerOf ns us → Leaves (decideOf todaysShares l d e n (memoryOf j u f)) s (memoryOf j′ u′ f′) → PutBack ns us (e .line) s r ns′ us′
       → Deciding ns us l e n j u f r ns′ us′ j′ u′ f′
   put-decided n {d} {s} {ns′} {us′} {j′} {u′} {f′} q x p =
-      let y : Leaves (decideOf todaysShares l (ledgerOf ns us) e n (memoryOf j u f)) s j′ u′ f′ = rw (← q) x in
+      let y : Leaves (decideOf todaysShares l (ledgerOf ns us) e n (memoryOf j u f)) s (memoryOf j′ u′ f′) = rw (← q) x in
       put-back y p
 
-  pub by-decide : {t : Alone} {n : ℕ} {u₁ f₁ ns′ us′ j′ u′ f′ : List ℕ} {r : Answered} → SteppingAlone l e (length j) u f t u₁ f₁ → t .look ≡ Decides n → Deciding ns us l e n j u₁ f₁ r ns′ us′ j′ u′ f′
+  pub by-decide : {t : Alone} {n : ℕ} {u₁ f₁ ns′ us′ j′ u′ f′ : List ℕ} {r : Answered} → SteppingAlone l e (length j) (record { unfinished = u; frames = f }) t (record { unfinished = u₁; frames = f₁ }) → t .look ≡ Decides n → Deciding ns us l e n j u₁ f₁ r ns′ us′ j′ u′ f′
       → Stepping ns us l e j u f r ns′ us′ j′ u′ f′
   by-decide {t} {n} {u₁} {f₁} {ns′} {us′} {j′} {u′} {f′} {r} s k c =
       let (h, x, y) = alone-asks l (ledgerOf ns us) e j u f t s k in

@@ -1,6 +1,6 @@
 -- What a host's calls leave: an event and a taking over plain numbers.
 -- Assumes nothing.
-use Prim.Native.Nat.{ℕ, _^_, _<_}
+use Prim.Native.Nat.{ℕ}
 use mathlib.Core.Path.{_≡_}
 use mathlib.Core.List.{List}
 use lib.Dec.{ltb}
@@ -8,18 +8,14 @@ use Rattle.memory.specs.Sizes.{lines}
 use Rattle.memory.specs.Tests.{unless}
 use Rattle.room.specs.Room.{todaysShares}
 use Rattle.journal.specs.Removal.{AfterTaking, takeOf}
-use Rattle.journal.specs.declared.Ledger.{Ledger}
 use Rattle.journal.specs.declared.Took.{Took}
 use Rattle.answers.specs.Paper.{numberOf}
-use Rattle.line.specs.declared.Line.{Line}
 use Rattle.answers.specs.declared.Answer.{Answer}
 use Rattle.answers.specs.declared.Answer.the-variants.{NoLine, WrongSize, BeyondLimits}
 use Rattle.looking.specs.Lent.{rightSizes}
 use Rattle.receiving.specs.Steps.{Memory, memoryOf, AfterStep, stepOf}
-use Rattle.receiving.specs.Alone.{decideOf}
 use Rattle.looking.specs.declared.Event.{Event}
 use Rattle.taking.specs.Taking.{tookAnswer}
-use Rattle.receiving.specs.declared.Stepped.{Stepped}
 use Rattle.numbers.specs.Plain.{withinNumbers, lineOf, withLine, ledgerOf, withSerial, withUsed, inNumbers}
 use Rattle.numbers.specs.declared.Answered.{Answered}
 
@@ -62,23 +58,6 @@ pub record Called (s : AfterCall) (r : Answered) (ns us j u f : List ℕ) : Type
 
 abbrev pub Calling : List ℕ → List ℕ → Event → List ℕ → List ℕ → List ℕ → Answered → List ℕ → List ℕ → List ℕ → List ℕ → List ℕ → Type 0
 Calling ns us e j u f r ns′ us′ j′ u′ f′ = Called (callOf ns us e (memoryOf j u f)) r ns′ us′ j′ u′ f′
-
--- the step alone, past 40 to 42, of a line with this record
-abbrev pub Stepping : List ℕ → List ℕ → Line → Event → List ℕ → List ℕ → List ℕ → Answered → List ℕ → List ℕ → List ℕ → List ℕ → List ℕ → Type 0
-Stepping ns us l e j u f r ns′ us′ j′ u′ f′ = Called (putBack ns us (e .line) (stepOf todaysShares l (ledgerOf ns us) e (memoryOf j u f))) r ns′ us′ j′ u′ f′
-
--- the deciding of a message that n bytes of its frame complete
-abbrev pub Deciding : List ℕ → List ℕ → Line → Event → ℕ → List ℕ → List ℕ → List ℕ → Answered → List ℕ → List ℕ → List ℕ → List ℕ → List ℕ → Type 0
-Deciding ns us l e n j u f r ns′ us′ j′ u′ f′ = Called (putBack ns us (e .line) (decideOf todaysShares l (ledgerOf ns us) e n (memoryOf j u f))) r ns′ us′ j′ u′ f′
-
--- the outcome of a decision in the numbers, where its bytes in use are a number of 32 bits
-abbrev pub Narrow : Ledger → Type 0
-Narrow d = d .in_use < 2 ^ 32
-
-pub record PutBack (ns us : List ℕ) (i : ℕ) (s : Stepped) (r : Answered) (ns′ us′ : List ℕ) : Type 0 where
-  pub result : r ≡ inNumbers (s .answer)
-  pub numbers : ns′ ≡ withSerial (withLine ns i (s .line)) i (s .ledger)
-  pub counts : us′ ≡ withUsed us i (s .ledger)
 
 -- the answer to a taking: for 8 the text's length and the serial
 unfoldable pub takingInNumbers : Took → Answered

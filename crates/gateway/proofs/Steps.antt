@@ -11,33 +11,31 @@ use Rattle.journal.specs.declared.Taking.{Taking as Took}
 use Rattle.answers.specs.declared.Answer.{Answer}
 use Rattle.answers.specs.declared.Answer.the-variants.{NoLine}
 use Rattle.looking.specs.declared.Event.{Event}
-use Rattle.receiving.specs.Steps.{Stepping}
+use Rattle.receiving.specs.Steps.{Memory, Stepping}
 use Rattle.receiving.specs.declared.Stepped.{Stepped}
 use Rattle.gateway.specs.Events.{lineAt, eventOf, Handling, takeOf, Taking}
 use Rattle.taking.specs.Taking.{tookAnswer}
 use Rattle.gateway.specs.declared.Gateway.{Gateway}
 
-module _ (g : Gateway) (e : Event) (j u f : List ℕ) where
-  pub event-no-line : lines ≤ e .line → Handling g e j u f (record { gateway = g; answer = NoLine }) j u f
+module _ (g : Gateway) (e : Event) (m : Memory) where
+  pub event-no-line : lines ≤ e .line → Handling g e m (record { gateway = g; answer = NoLine }) m
   unfolding eventOf
   event-no-line h =
       let t = le-ltb (e .line) lines h in
-      record { result = rw t; journal = rw t; unfinished = rw t; frames = rw t }
+      record { result = rw t; memory = rw t }
 
-  pub event-step : (s : Stepped) (j′ u′ f′ : List ℕ) → e .line < lines → Stepping (lineAt g (e .line)) (g .ledger) e j u f s j′ u′ f′
-      → Handling g e j u f (record { gateway = record { lines = set (g .lines) (e .line) (s .line); ledger = s .ledger }; answer = s .answer }) j′ u′ f′
+  pub event-step : (s : Stepped) (m′ : Memory) → e .line < lines → Stepping (lineAt g (e .line)) (g .ledger) e m s m′
+      → Handling g e m (record { gateway = record { lines = set (g .lines) (e .line) (s .line); ledger = s .ledger }; answer = s .answer }) m′
   unfolding eventOf
-  event-step s j′ u′ f′ h t =
+  event-step s m′ h t =
       let i = lt-ltb (e .line) lines h in
       record {
         result = rw i (ap (λ (x : Stepped). record { gateway = record { lines = set (g .lines) (e .line) (x .line); ledger = x .ledger }; answer = x .answer }) (t .result));
-        journal = rw i (t .journal);
-        unfinished = rw i (t .unfinished);
-        frames = rw i (t .frames);
+        memory = rw i (t .memory);
       }
 
 pub take-entry : (g : Gateway) (i : ℕ) (j b : List ℕ) (t : Took) (a : Answer) (j′ b′ : List ℕ) → TakenFrom (g .ledger) i j b t j′ b′ → a ≡ tookAnswer (t .answer)
-    → Taking g i j b (record { gateway = record { lines = g .lines; ledger = t .ledger }; answer = a }) j′ b′
+    → Taking g i (record { journal = j; buffer = b }) (record { gateway = record { lines = g .lines; ledger = t .ledger }; answer = a }) (record { journal = j′; buffer = b′ })
 unfolding takeOf
 take-entry g i j b t a j′ b′ s h = record {
   result = ap (λ (x : Answer). record { gateway = record { lines = g .lines; ledger = t .ledger }; answer = x }) h

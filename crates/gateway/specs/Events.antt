@@ -19,7 +19,7 @@ use Rattle.line.specs.declared.Last.the-variants.{NoneYet}
 use Rattle.answers.specs.declared.Answer.{Answer}
 use Rattle.answers.specs.declared.Answer.the-variants.{NoLine}
 use Rattle.looking.specs.declared.Event.{Event}
-use Rattle.receiving.specs.Steps.{Memory, memoryOf, AfterStep, stepOf}
+use Rattle.receiving.specs.Steps.{Memory, AfterStep, stepOf}
 use Rattle.gateway.specs.declared.Gateway.{Gateway}
 use Rattle.gateway.specs.declared.Handled.{Handled}
 
@@ -55,11 +55,9 @@ eventOf shares g e m =
     (putBack g (e .line) (stepOf shares (lineAt g (e .line)) (g .ledger) e m))
 
 -- what handling an event says
-pub record Handling (g : Gateway) (e : Event) (j u f : List ℕ) (r : Handled) (j′ u′ f′ : List ℕ) : Type 0 where
-  pub result : r ≡ eventOf todaysShares g e (memoryOf j u f) .handled
-  pub journal : j′ ≡ eventOf todaysShares g e (memoryOf j u f) .memory .journal
-  pub unfinished : u′ ≡ eventOf todaysShares g e (memoryOf j u f) .memory .unfinished
-  pub frames : f′ ≡ eventOf todaysShares g e (memoryOf j u f) .memory .frames
+pub record Handling (g : Gateway) (e : Event) (m : Memory) (r : Handled) (m′ : Memory) : Type 0 where
+  pub result : r ≡ eventOf todaysShares g e m .handled
+  pub memory : m′ ≡ eventOf todaysShares g e m .memory
 
 pub record AfterTake : Type 0 where
   pub handled : Handled
@@ -77,8 +75,13 @@ takeOf g i j b = record {
   buffer = takeEntry (g .ledger) i j b .buffer;
 }
 
+-- the lent memory of a taking
+pub record TakeMemory : Type 0 where
+  pub journal : List ℕ
+  pub buffer : List ℕ
+
 -- what a taking says
-pub record Taking (g : Gateway) (i : ℕ) (j b : List ℕ) (r : Handled) (j′ b′ : List ℕ) : Type 0 where
-  pub result : r ≡ takeOf g i j b .handled
-  pub journal : j′ ≡ takeOf g i j b .journal
-  pub buffer : b′ ≡ takeOf g i j b .buffer
+pub record Taking (g : Gateway) (i : ℕ) (m : TakeMemory) (r : Handled) (m′ : TakeMemory) : Type 0 where
+  pub result : r ≡ takeOf g i (m .journal) (m .buffer) .handled
+  pub journal : m′ .journal ≡ takeOf g i (m .journal) (m .buffer) .journal
+  pub buffer : m′ .buffer ≡ takeOf g i (m .journal) (m .buffer) .buffer

@@ -37,7 +37,9 @@ pub fn handle(
     unfinished: &mut [u8],
     frames: &mut [u8],
 ) -> Handled
-    ensures { λ r. ⌜ Handling g e (now (journal .entry)) (now (unfinished .entry)) (now (frames .entry)) r (now (journal .exit)) (now (unfinished .exit)) (now (frames .exit)) ⌝ }
+    ensures { λ r. ⌜ Handling g e
+        (record { journal = now (journal .entry); unfinished = now (unfinished .entry); frames = now (frames .entry) })
+        r (record { journal = now (journal .exit); unfinished = now (unfinished .exit); frames = now (frames .exit) }) ⌝ }
 {
     let i = e.line as usize;
     if memory::LINES <= i {
@@ -63,7 +65,9 @@ pub fn handle(
 
 // One taking: the line's oldest entry into the buffer.
 pub fn take(g: Gateway, line: u8, journal: &mut [u8], buffer: &mut [u8]) -> Handled
-    ensures { λ r. ⌜ Taking g line (now (journal .entry)) (now (buffer .entry)) r (now (journal .exit)) (now (buffer .exit)) ⌝ }
+    ensures { λ r. ⌜ Taking g line
+        (record { journal = now (journal .entry); buffer = now (buffer .entry) })
+        r (record { journal = now (journal .exit); buffer = now (buffer .exit) }) ⌝ }
 {
     let ledger = g.ledger;
     let taking = journal::take(ledger, line, journal, buffer);

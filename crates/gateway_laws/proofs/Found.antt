@@ -14,11 +14,12 @@ use Rattle.line.specs.Line.{withinLimits}
 use Rattle.line.specs.declared.Line.{Line}
 use Rattle.answers.specs.declared.Answer.{Answer}
 use Rattle.answers.specs.declared.Answer.the-variants.{NoLine, WrongSize, BeyondLimits}
-use Rattle.looking.specs.Views.{framesOf, textsOf, joinedText, Ready}
+use Rattle.looking.specs.Views.{framesOf, textsOf, joinedText}
+use Rattle.looking.specs.Inner.Ready.{Ready}
 use Rattle.looking.specs.Looks.{lookOf}
 use Rattle.receiving.specs.Verdicts.{decided, ownWork, workOf, verdictOf}
 use Rattle.looking.specs.Lent.{rightSizes}
-use Rattle.looking.specs.Fitting.{Fitting}
+use Rattle.looking.specs.Inner.Fitting.{Fitting}
 use Rattle.looking.specs.declared.Event.{Event}
 use Rattle.looking.specs.declared.Look.{Look}
 use Rattle.looking.specs.declared.Look.the-variants.{Done, Decides}

@@ -24,7 +24,7 @@ use Rattle.looking.specs.Looks.{lookOf}
 use Rattle.receiving.specs.Verdicts.{ownWork, verdictOf}
 use Rattle.looking.specs.Answers.{answerOf}
 use Rattle.receiving.specs.Settled.{lineAfter, withByte}
-use Rattle.looking.specs.Fitting.{Fitting}
+use Rattle.looking.specs.Inner.Fitting.{Fitting}
 use Rattle.receiving.specs.Steps.{Memory, AfterStep, settle, stepOf}
 use Rattle.gateway.specs.Events.{lineAt, noRecord, AfterEvent, putBack, eventOf, takeOf}
 use Rattle.looking.specs.declared.Event.{Event}

@@ -11,9 +11,10 @@ use Rattle.memory.proofs.Parts.{set-splice, length-splice}
 use Rattle.memory.proofs.Lines.{part-elsewhere}
 use Rattle.line.specs.declared.Line.{Line}
 use Rattle.line.proofs.Limits.{within-facts}
-use Rattle.looking.specs.Views.{frameStart, textStart, framesOf, textsOf, frameText, Ready}
+use Rattle.looking.specs.Views.{frameStart, textStart, framesOf, textsOf, frameText}
+use Rattle.looking.specs.Inner.Ready.{Ready}
 use Rattle.receiving.specs.Settled.{withByte, withText, framesAfter, textsAfter}
-use Rattle.looking.specs.Fitting.{TextFits, Fitting}
+use Rattle.looking.specs.Inner.Fitting.{TextFits, Fitting}
 use Rattle.looking.specs.declared.Kind.{Kind}
 use Rattle.looking.specs.declared.Kind.the-variants.{Byte, Seconds}
 use Rattle.looking.specs.declared.Verdict.{Verdict}

@@ -10,7 +10,8 @@ use Rattle.journal.specs.Verdicts.{judgeOf}
 use Rattle.journal.specs.declared.Ledger.{Ledger}
 use Rattle.journal.specs.declared.Verdict.{Verdict as Judgement}
 use Rattle.line.specs.declared.Line.{Line}
-use Rattle.looking.specs.Views.{framesOf, textsOf, joinedText, Ready}
+use Rattle.looking.specs.Views.{framesOf, textsOf, joinedText}
+use Rattle.looking.specs.Inner.Ready.{Ready}
 use Rattle.looking.specs.Looks.{lookOf}
 use Rattle.receiving.specs.Verdicts.{objectionTo, roomVerdict, decisionOf, decided, ownWork, workOf, verdictOf}
 use Rattle.looking.specs.Answers.{answerOf}
@@ -21,7 +22,8 @@ use Rattle.looking.specs.declared.Verdict.{Verdict}
 use Rattle.looking.specs.declared.Verdict.the-variants.{Left}
 use Rattle.looking.proofs.Views.{own-parts}
 use Rattle.looking.proofs.Cases.{Cases, every-look}
-use Rattle.gateway_laws.specs.Classes.{against, classOf, verdictClass}
+use Rattle.gateway_laws.specs.Classes.{against, classOf}
+use Rattle.gateway_laws.specs.Inner.Classes.{verdictClass}
 use Rattle.gateway_laws.proofs.Found.{Found, refused, worked, verdict-found}
 
 abbrev pub Proper : Verdict → Type 0

@@ -1,6 +1,7 @@
 -- The rows of "What is left" by what they write: three write the frame's text and seven leave the texts, five add a byte to the frame and five leave it,
 -- one stores and nine leave ledger and journal. What holds in both cases holds of every verdict. And the verdicts of each class.
 -- Assumes nothing.
+use mathlib.Core.Bool.{Bool, true, false, cond}
 use mathlib.Core.List.{List}
 use Prim.Native.Nat.{ℕ}
 use lib.ListN.{length}
@@ -10,13 +11,14 @@ use Rattle.journal.specs.declared.Ledger.{Ledger}
 use Rattle.line.specs.declared.Line.{Line}
 use Rattle.answers.specs.declared.Answer.{Answer}
 use Rattle.looking.specs.Views.{framesOf, textsOf, frameText}
-use Rattle.receiving.specs.Settled.{withByte, withText, framesAfter, textsAfter, ledgerAfter, journalAfter}
-use Rattle.looking.specs.Fitting.{TextFits, Fitting}
+use Rattle.receiving.specs.Settled.{rowOf, withByte, withText, framesAfter, textsAfter, ledgerAfter, journalAfter}
+use Rattle.looking.specs.Inner.Fitting.{TextFits, Fitting}
 use Rattle.looking.specs.declared.Kind.{Kind}
 use Rattle.looking.specs.declared.Verdict.{Verdict}
 use Rattle.looking.specs.declared.Verdict.the-variants.{Left, Opens, Closes, Begins, Counts, Collects, Refuses, Accepts, Stores, Against}
-use Rattle.gateway_laws.specs.Classes.{Class, verdictClass, quiet, opening, closing, refusing, accepting, storing, against}
-use Rattle.gateway_laws.specs.Own.{ownByte, ownFrames, ownTexts}
+use Rattle.gateway_laws.specs.Classes.{Class, quiet, opening, closing, refusing, accepting, storing, against}
+use Rattle.gateway_laws.specs.Inner.Classes.{verdictClass}
+use Rattle.gateway_laws.specs.Inner.Own.{ownByte, ownFrames, ownTexts}
 
 module _ (l : Line) (i : ℕ) (u f : List ℕ) (P : List ℕ → List ℕ → Type 0) where
   -- the texts of all lines, and the line's own
@@ -35,16 +37,11 @@ module _ (l : Line) (i : ℕ) (u f : List ℕ) (P : List ℕ → List ℕ → Ty
 
   -- the frame bytes of all lines, and the line's own
   pub frame-rows : (k : Kind) → P f (framesOf i f) → P (withByte k l i f) (ownByte k l (framesOf i f)) → (v : Verdict) → P (framesAfter v k l i f) (ownFrames v k l (framesOf i f))
-  frame-rows k left added (Left a) = left
-  frame-rows k left added Opens = left
-  frame-rows k left added (Closes a) = left
-  frame-rows k left added Begins = left
-  frame-rows k left added (Counts n) = left
-  frame-rows k left added Collects = added
-  frame-rows k left added (Refuses a) = added
-  frame-rows k left added (Accepts n) = added
-  frame-rows k left added (Stores n) = added
-  frame-rows k left added (Against a n) = added
+  frame-rows k left added v = by-byte (rowOf v .adds)
+    where
+      by-byte : (b : Bool) → P (cond b (withByte k l i f) f) (cond b (ownByte k l (framesOf i f)) (framesOf i f))
+      by-byte true = added
+      by-byte false = left
 
 -- ledger and journal
 module _ (d : Ledger) (i : ℕ) (text : ℕ → List ℕ) (j : List ℕ) (P : Verdict → Ledger → List ℕ → Type 0) where

@@ -10,16 +10,17 @@ use Rattle.memory.proofs.Parts.{part-around, set-splice}
 use Rattle.journal.specs.declared.Ledger.{Ledger}
 use Rattle.line.specs.declared.Line.{Line}
 use Rattle.line.proofs.Limits.{within-facts}
-use Rattle.looking.specs.Views.{frameStart, textStart, framesOf, textsOf, frameText, Ready}
+use Rattle.looking.specs.Views.{frameStart, textStart, framesOf, textsOf, frameText}
+use Rattle.looking.specs.Inner.Ready.{Ready}
 use Rattle.receiving.specs.Verdicts.{ownWork, workOf}
 use Rattle.receiving.specs.Settled.{withByte, withText, framesAfter, textsAfter}
-use Rattle.looking.specs.Fitting.{TextFits, Fitting}
+use Rattle.looking.specs.Inner.Fitting.{TextFits, Fitting}
 use Rattle.looking.specs.declared.Event.{Event}
 use Rattle.looking.specs.declared.Kind.{Kind}
 use Rattle.looking.specs.declared.Kind.the-variants.{Byte, Seconds}
 use Rattle.looking.specs.declared.Verdict.{Verdict}
 use Rattle.receiving.proofs.Pieces.{length-text}
-use Rattle.gateway_laws.specs.Own.{ownByte, ownFrames, ownTexts}
+use Rattle.gateway_laws.specs.Inner.Own.{ownByte, ownFrames, ownTexts}
 use Rattle.gateway_laws.proofs.Rows.{text-rows, frame-rows}
 
 -- two memories that agree on the line's parts

@@ -2,8 +2,6 @@
 -- Assumes nothing.
 use Rattle.answers.specs.declared.Answer.{Answer}
 use Rattle.answers.specs.declared.Answer.the-variants.{Nothing, Opened, Accepted, Repeated, Stored, Ended, Dropped, TimedOut, Taken, Busy, Unended, Torn, WrongCheck, BadText, BadNumber, Refusing, OutOfTurn, TooLong, NoCr, NoMessage, NoRoom, NoLine, WrongSize, BeyondLimits, Broken, NothingWaiting, BufferShort, Malformed, NotFitting}
-use Rattle.looking.specs.declared.Verdict.{Verdict}
-use Rattle.looking.specs.declared.Verdict.the-variants.{Left, Opens, Closes, Begins, Counts, Collects, Refuses, Accepts, Stores, Against}
 
 -- quiet: 0, 20, 40 to 47; opening: 1; closing: 5, 6, 7; refusing: 3 and 21 to 29; deciding against: 30, 31; and 2, 4, 8
 pub data Class : Type 0 where
@@ -39,15 +37,3 @@ classOf NothingWaiting = quiet
 classOf BufferShort = quiet
 classOf Malformed = quiet
 classOf NotFitting = quiet
-
-abbrev pub verdictClass : Verdict → Class
-verdictClass (Left a) = quiet
-verdictClass Opens = opening
-verdictClass (Closes a) = closing
-verdictClass Begins = quiet
-verdictClass (Counts n) = quiet
-verdictClass Collects = quiet
-verdictClass (Refuses a) = refusing
-verdictClass (Accepts n) = accepting
-verdictClass (Stores n) = storing
-verdictClass (Against a n) = against

@@ -15,10 +15,11 @@ use Rattle.line.specs.Line.{withinLimits}
 use Rattle.line.specs.declared.Line.{Line}
 use Rattle.answers.specs.declared.Answer.{Answer}
 use Rattle.answers.specs.declared.Answer.the-variants.{NoLine, WrongSize, BeyondLimits}
-use Rattle.looking.specs.Views.{framesOf, textsOf, Ready}
+use Rattle.looking.specs.Views.{framesOf, textsOf}
+use Rattle.looking.specs.Inner.Ready.{Ready}
 use Rattle.looking.specs.Lent.{rightLengths}
 use Rattle.looking.specs.Looks.{lookOf, lookAlone}
-use Rattle.looking.specs.Fitting.{Fitting, TextFits, writes, Quiet}
+use Rattle.looking.specs.Inner.Fitting.{Fitting, TextFits, writes, Quiet}
 use Rattle.looking.specs.declared.Event.{Event}
 use Rattle.looking.specs.declared.Look.{Look}
 use Rattle.looking.specs.declared.Look.the-variants.{Done, Decides}

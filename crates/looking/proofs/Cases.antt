@@ -30,9 +30,10 @@ use Rattle.line.specs.declared.Turn.{Turn}
 use Rattle.line.specs.declared.Turn.the-variants.{Refused, Again, Missed, Overlong, InTurn}
 use Rattle.line.proofs.Limits.{within-facts}
 use Rattle.line.proofs.Turns.{in-turn-due}
-use Rattle.looking.specs.Views.{frameBytes, joinedText, Own}
+use Rattle.looking.specs.Views.{frameBytes, joinedText}
+use Rattle.looking.specs.Inner.Ready.{Own}
 use Rattle.looking.specs.Looks.{endLook, turnLook, shapeLook, frameLook, neutralLook, waitingLook, insideLook, byState, passedLook, byteLook, secondsLook, lookOf}
-use Rattle.looking.specs.Fitting.{TextFits}
+use Rattle.looking.specs.Inner.Fitting.{TextFits}
 use Rattle.looking.specs.declared.Kind.{Kind}
 use Rattle.looking.specs.declared.Kind.the-variants.{Byte, Seconds}
 use Rattle.looking.specs.declared.Look.{Look}

@@ -3,9 +3,9 @@
 use mathlib.Core.List.{List}
 use Prim.Native.Nat.{ℕ}
 use Rattle.line.specs.declared.Line.{Line}
-use Rattle.looking.specs.Views.{Own}
+use Rattle.looking.specs.Inner.Ready.{Own}
 use Rattle.looking.specs.Looks.{lookOf}
-use Rattle.looking.specs.Fitting.{TextFits, Fitting, Quiet}
+use Rattle.looking.specs.Inner.Fitting.{TextFits, Fitting, Quiet}
 use Rattle.looking.specs.declared.Kind.{Kind}
 use Rattle.looking.specs.declared.Look.{Look}
 use Rattle.looking.specs.declared.Look.the-variants.{Done, Decides}

@@ -11,7 +11,8 @@ use Rattle.memory.specs.Parts.{part}
 use Rattle.memory.proofs.Parts.{length-part, part-part}
 use Rattle.line.specs.declared.Line.{Line}
 use Rattle.line.proofs.Limits.{within-facts}
-use Rattle.looking.specs.Views.{frameStart, textStart, framesOf, textsOf, frameBytes, unfinishedText, frameText, Own, Ready}
+use Rattle.looking.specs.Views.{frameStart, textStart, framesOf, textsOf, frameBytes, unfinishedText, frameText}
+use Rattle.looking.specs.Inner.Ready.{Own, Ready}
 
 -- a line that is ready has its own parts
 pub own-parts : (l : Line) (i : ℕ) (u f : List ℕ) → Ready l i u f → Own l (textsOf i u) (framesOf i f)

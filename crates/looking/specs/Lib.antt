@@ -3,3 +3,4 @@ pub mod Lent
 pub mod Looks
 pub mod Answers
 pub mod Fitting
+pub mod Inner

@@ -1,13 +1,9 @@
 -- What line i has of the lent memory, and the bytes that a byte b would make a frame of.
 -- Assumes nothing.
-use Prim.Native.Nat.{ℕ, _+_, _*_, _<_}
-use mathlib.Core.Path.{_≡_}
-use mathlib.Core.Bool.{true}
+use Prim.Native.Nat.{ℕ, _+_, _*_}
 use mathlib.Core.List.{List, [], _∷_, _++_}
-use Rattle.memory.specs.Sizes.{lines, framePart, messageLimit, framesSize, unfinishedSize}
-use lib.ListN.{length}
+use Rattle.memory.specs.Sizes.{framePart, messageLimit}
 use Rattle.memory.specs.Parts.{part}
-use Rattle.line.specs.Line.{withinLimits}
 use Rattle.line.specs.declared.Line.{Line}
 
 -- where its parts start
@@ -38,16 +34,3 @@ frameText n frames = part frames 1 n
 -- the text that the line has then
 abbrev pub joinedText : Line → ℕ → List ℕ → List ℕ → List ℕ
 joinedText l n texts frames = unfinishedText l texts ++ frameText n frames
-
--- a record within its limits, and parts of a line's sizes
-pub record Own (l : Line) (texts frames : List ℕ) : Type 0 where
-  pub within : withinLimits l ≡ true
-  pub texts-long : length texts ≡ messageLimit
-  pub frames-long : length frames ≡ framePart
-
--- what 40, 41 and 42 have left: a line, its record within its limits, and memory of the right sizes
-pub record Ready (l : Line) (i : ℕ) (unfinished frames : List ℕ) : Type 0 where
-  pub line : i < lines
-  pub within : withinLimits l ≡ true
-  pub texts : length unfinished ≡ unfinishedSize
-  pub bytes : length frames ≡ framesSize

@@ -1,6 +1,7 @@
 // A byte or seconds, by the line's state.
 ghost use mathlib.Core.Path.{_≡_};
-ghost use Rattle.looking.specs.Views.{Ready, framesOf, textsOf};
+ghost use Rattle.looking.specs.Views.{framesOf, textsOf};
+ghost use Rattle.looking.specs.Inner.Ready.{Ready};
 ghost use Rattle.looking.specs.Looks.{neutralLook, waitingLook, insideLook, passedLook, byteLook, secondsLook, lookOf};
 use super::Kind;
 use super::Look;

@@ -19,7 +19,8 @@ use Rattle.gateway.specs.Events.{lineAt, putBack, eventOf}
 use Rattle.looking.specs.declared.Event.{Event}
 use Rattle.gateway.specs.declared.Gateway.{Gateway}
 use Rattle.looking.specs.declared.Verdict.{Verdict}
-use Rattle.gateway_laws.specs.Classes.{Class, quiet, opening, closing, refusing, accepting, storing, against, taking as gives, classOf, verdictClass}
+use Rattle.gateway_laws.specs.Classes.{Class, quiet, opening, closing, refusing, accepting, storing, against, taking as gives, classOf}
+use Rattle.gateway_laws.specs.Inner.Classes.{verdictClass}
 use Rattle.gateway_laws.proofs.Rows.{Of, of-class}
 use Rattle.gateway_laws.proofs.Proper.{verdict-proper}
 use Rattle.serial.specs.Serial.{event, taking, annotate, final, Every}

@@ -18,6 +18,7 @@ use Rattle.journal.specs.Storage.{grown}
 use Rattle.journal.specs.Removal.{AfterTaking, shrunk, takeAt, takeOldest, takeFrom, takeOf}
 use Rattle.journal.specs.declared.Ledger.{Ledger}
 use Rattle.line.specs.declared.Line.{Line}
+use Rattle.looking.specs.Views.{framesOf, textsOf, joinedText}
 use Rattle.receiving.specs.Settled.{ledgerAfter}
 use Rattle.receiving.specs.Verdicts.{verdictOf}
 use Rattle.receiving.specs.Steps.{Memory, stepOf}
@@ -84,4 +85,5 @@ module _ (d : Ledger) (i : ℕ) (h : i < lines) (u : length (d .used) ≡ lines)
 pub step-touched : (shares : List ℕ) (l : Line) (d : Ledger) (e : Event) (m : Memory) → e .line < lines → length (d .used) ≡ lines → length (d .serials) ≡ lines
     → Touched d (e .line) (stepOf shares l d e m .stepped .ledger)
 unfolding stepOf
-step-touched shares l d e m h u s = by-verdict d (e .line) h u s (verdictOf shares l d e (m .journal) (m .unfinished) (m .frames)) _
+step-touched shares l d e m h u s =
+    by-verdict d (e .line) h u s (verdictOf shares l d e (m .journal) (m .unfinished) (m .frames)) (λ n. joinedText l n (textsOf (e .line) (m .unfinished)) (framesOf (e .line) (m .frames)))

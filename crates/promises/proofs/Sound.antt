@@ -10,10 +10,11 @@ use lib.Seq.{getD-set-other, getD-set-same}
 use Rattle.memory.specs.Sizes.{lines, journalSize, unfinishedSize, framesSize}
 use Rattle.room.specs.Room.{todaysShares}
 use Rattle.line.specs.declared.Line.{Line}
-use Rattle.looking.specs.Views.{framesOf, textsOf, Ready}
+use Rattle.looking.specs.Views.{framesOf, textsOf}
+use Rattle.looking.specs.Inner.Ready.{Ready}
 use Rattle.receiving.specs.Verdicts.{ownWork, verdictOf}
 use Rattle.receiving.specs.Settled.{lineAfter}
-use Rattle.looking.specs.Fitting.{Fitting}
+use Rattle.looking.specs.Inner.Fitting.{Fitting}
 use Rattle.receiving.specs.Steps.{settle, stepOf}
 use Rattle.gateway.specs.Events.{lineAt, noRecord, AfterEvent, putBack, eventOf}
 use Rattle.looking.specs.declared.Kind.{Kind}

@@ -26,7 +26,7 @@ use Rattle.room.specs.Room.{todaysShares, fits, raised}
 use Rattle.journal_laws.specs.Held.{Held}
 use Rattle.journal_laws.specs.Runs.{State as Store}
 use Rattle.journal_laws.proofs.Cases.{held-judged}
-use Rattle.looking.specs.Views.{Own}
+use Rattle.looking.specs.Inner.Ready.{Own}
 use Rattle.gateway.specs.Events.{lineAt}
 use Rattle.looking.specs.Looks.{byteLook, neutralLook, waitingLook}
 use Rattle.receiving.specs.Verdicts.{ownWork}

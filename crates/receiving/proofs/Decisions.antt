@@ -16,7 +16,7 @@ use Rattle.answers.specs.Paper.{numberOf, isObjection}
 use Rattle.answers.specs.declared.Answer.{Answer}
 use Rattle.receiving.specs.Verdicts.{objectionTo, roomVerdict, decisionOf}
 use Rattle.receiving.specs.Settled.{ledgerAfter, journalAfter}
-use Rattle.receiving.specs.Decided.{outcomeVerdict, Decision}
+use Rattle.receiving.specs.Inner.Decided.{outcomeVerdict, Decision}
 use Rattle.receiving.specs.declared.deciding.Outcome.{Outcome}
 use Rattle.receiving.specs.declared.deciding.Decided.{Decided}
 use Rattle.looking.specs.declared.Verdict.{Verdict}

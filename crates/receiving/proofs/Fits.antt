@@ -10,7 +10,7 @@ use Rattle.journal.specs.Verdicts.{judgeOf}
 use Rattle.journal.specs.declared.Ledger.{Ledger}
 use Rattle.journal.specs.declared.Verdict.{Verdict as Judgement}
 use Rattle.line.specs.declared.Line.{Line}
-use Rattle.looking.specs.Fitting.{TextFits, Fitting, Quiet}
+use Rattle.looking.specs.Inner.Fitting.{TextFits, Fitting, Quiet}
 use Rattle.looking.specs.declared.Verdict.{Verdict}
 use Rattle.looking.specs.declared.Verdict.the-variants.{Left, Opens, Closes, Begins, Counts, Collects, Refuses, Accepts, Stores, Against}
 use Rattle.receiving.specs.Verdicts.{objectionTo, roomVerdict, decisionOf}

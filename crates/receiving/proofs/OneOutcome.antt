@@ -1,24 +1,25 @@
 -- Any two outcomes that a contract of this crate allows are equal.
 -- Assumes nothing.
 use mathlib.Core.Path.{_≡_, sym, ap, _∙_}
-use mathlib.Core.List.{List}
 use Prim.Native.Nat.{ℕ}
 use Rattle.journal.specs.declared.Ledger.{Ledger}
 use Rattle.line.specs.declared.Line.{Line}
 use Rattle.looking.specs.declared.Event.{Event}
 use Rattle.looking.specs.declared.Look.{Look}
-use Rattle.receiving.specs.Alone.{SteppingAlone, Deciding}
+use Rattle.receiving.specs.Steps.{Memory}
+use Rattle.receiving.specs.Alone.{AloneMemory, SteppingAlone, Deciding}
 use Rattle.receiving.specs.declared.Alone.{Alone}
 use Rattle.receiving.specs.declared.Stepped.{Stepped}
 
 -- `step_alone`
-pub alone-once : (l : Line) (e : Event) (n : ℕ) (u f : List ℕ) {r s : Alone} {u₁ u₂ f₁ f₂ : List ℕ} → SteppingAlone l e n u f r u₁ f₁ → SteppingAlone l e n u f s u₂ f₂ → (r ≡ s) × (u₁ ≡ u₂) × (f₁ ≡ f₂)
-alone-once l e n u f {r} {s} a b =
+pub alone-once : (l : Line) (e : Event) (n : ℕ) (m : AloneMemory) {r s : Alone} {m₁ m₂ : AloneMemory} → SteppingAlone l e n m r m₁ → SteppingAlone l e n m s m₂ → (r ≡ s) × (m₁ ≡ m₂)
+alone-once l e n m {r} {s} {m₁} {m₂} a b =
     let line : r .line ≡ s .line = a .line ∙ sym (b .line) in
     let look : r .look ≡ s .look = a .look ∙ sym (b .look) in
-    (λ z. record { line = line z; look = look z }, a .unfinished ∙ sym (b .unfinished), a .frames ∙ sym (b .frames))
+    let unfinished : m₁ .unfinished ≡ m₂ .unfinished = a .unfinished ∙ sym (b .unfinished) in
+    let frames : m₁ .frames ≡ m₂ .frames = a .frames ∙ sym (b .frames) in
+    (λ z. record { line = line z; look = look z }, λ z. record { unfinished = unfinished z; frames = frames z })
 
 -- `decide`
-pub decide-once : (l : Line) (d : Ledger) (e : Event) (n : ℕ) (j u f : List ℕ) {r s : Stepped} {j₁ j₂ u₁ u₂ f₁ f₂ : List ℕ} → Deciding l d e n j u f r j₁ u₁ f₁ → Deciding l d e n j u f s j₂ u₂ f₂
-    → (r ≡ s) × (j₁ ≡ j₂) × (u₁ ≡ u₂) × (f₁ ≡ f₂)
-decide-once l d e n j u f a b = (a .result ∙ sym (b .result), a .journal ∙ sym (b .journal), a .unfinished ∙ sym (b .unfinished), a .frames ∙ sym (b .frames))
+pub decide-once : (l : Line) (d : Ledger) (e : Event) (n : ℕ) (m : Memory) {r s : Stepped} {m₁ m₂ : Memory} → Deciding l d e n m r m₁ → Deciding l d e n m s m₂ → (r ≡ s) × (m₁ ≡ m₂)
+decide-once l d e n m a b = (a .result ∙ sym (b .result), a .memory ∙ sym (b .memory))

@@ -13,8 +13,9 @@ use Rattle.memory.proofs.Parts.{part-lent, part-start, part-splice, length-part
 use Rattle.memory.proofs.Moves.{lent-back, copied-fits}
 use Rattle.line.specs.declared.Line.{Line}
 use Rattle.line.proofs.Limits.{within-facts}
-use Rattle.looking.specs.Views.{frameStart, textStart, framesOf, textsOf, frameText, unfinishedText, joinedText, Ready}
-use Rattle.looking.specs.Fitting.{TextFits}
+use Rattle.looking.specs.Views.{frameStart, textStart, framesOf, textsOf, frameText, unfinishedText, joinedText}
+use Rattle.looking.specs.Inner.Ready.{Ready}
+use Rattle.looking.specs.Inner.Fitting.{TextFits}
 use Rattle.receiving.specs.Settled.{withText}
 use Rattle.looking.proofs.Views.{own-parts, lent-unfinished, lent-text}
 

@@ -5,10 +5,10 @@ use mathlib.Core.Bool.{true}
 use mathlib.Core.List.{List}
 use Prim.Native.Nat.{ℕ}
 use Rattle.line.specs.declared.Line.{Line}
-use Rattle.looking.specs.Views.{Ready}
-use Rattle.looking.specs.Fitting.{Fitting, Quiet, writes}
-use Rattle.receiving.specs.Settled.{Settled}
-use Rattle.receiving.specs.Decided.{outcomeVerdict}
+use Rattle.looking.specs.Inner.Ready.{Ready}
+use Rattle.looking.specs.Inner.Fitting.{Fitting, Quiet, writes}
+use Rattle.receiving.specs.Inner.Settled.{Settled}
+use Rattle.receiving.specs.Inner.Decided.{outcomeVerdict}
 use Rattle.receiving.specs.declared.deciding.Outcome.{Outcome}
 use Rattle.looking.specs.declared.Kind.{Kind}
 use Rattle.looking.specs.declared.Verdict.{Verdict}

@@ -20,18 +20,22 @@ use Rattle.line.specs.Line.{withinLimits}
 use Rattle.line.specs.declared.Line.{Line}
 use Rattle.answers.specs.declared.Answer.{Answer}
 use Rattle.answers.specs.declared.Answer.the-variants.{NoLine, WrongSize, BeyondLimits}
-use Rattle.looking.specs.Views.{framesOf, textsOf, joinedText, Ready}
+use Rattle.looking.specs.Views.{framesOf, textsOf, joinedText}
+use Rattle.looking.specs.Inner.Ready.{Ready}
 use Rattle.looking.specs.Lent.{rightLengths, rightSizes}
 use Rattle.looking.specs.Looks.{lookOf, lookAlone}
 use Rattle.looking.specs.Answers.{answerOf}
-use Rattle.looking.specs.Fitting.{TextFits, textFits}
+use Rattle.looking.specs.Fitting.{textFits}
+use Rattle.looking.specs.Inner.Fitting.{TextFits}
 use Rattle.receiving.specs.Verdicts.{objectionTo, roomVerdict, decisionOf, decided, ownWork, verdictOf}
-use Rattle.receiving.specs.Settled.{lineAfter, textsAfter, framesAfter, ledgerAfter, journalAfter, Settled}
+use Rattle.receiving.specs.Settled.{lineAfter, textsAfter, framesAfter, ledgerAfter, journalAfter}
+use Rattle.receiving.specs.Inner.Settled.{Settled}
 use Rattle.receiving.specs.declared.completing.Tested.{Tested}
 use Rattle.receiving.specs.declared.completing.Tested.the-variants.{Refused}
-use Rattle.receiving.specs.Decided.{outcomeVerdict, Completion}
-use Rattle.receiving.specs.Steps.{AfterStep, settle, stepOf, Leaves, memoryOf, Stepping}
-use Rattle.receiving.specs.Alone.{lineAlone, textsAlone, framesAlone, SteppingAlone, testOf, completed, completionOf, decideOf, Deciding, Completing}
+use Rattle.receiving.specs.Inner.Decided.{outcomeVerdict, Completion}
+use Rattle.receiving.specs.Steps.{Memory, AfterStep, settle, stepOf, Leaves, memoryOf, Stepping}
+use Rattle.receiving.specs.Alone.{lineAlone, textsAlone, framesAlone, SteppingAlone, completed, completionOf, decideOf, Deciding}
+use Rattle.receiving.specs.Inner.Completing.{testOf, Completing}
 use Rattle.receiving.specs.declared.Alone.{Alone}
 use Rattle.receiving.specs.declared.deciding.Decided.{Decided}
 use Rattle.looking.specs.declared.Event.{Event}
@@ -66,10 +70,14 @@ decision-text shares d i n text j = by-message (isMessage (text n)) (judgeOf d s
     by-message true q = room-text q d i n text j
     by-message false q = (refl, refl)
 
+-- lent memory is known by its three parts
+memory-is : {a b : Memory} → a .journal ≡ b .journal → a .unfinished ≡ b .unfinished → a .frames ≡ b .frames → a ≡ b
+memory-is p q r = λ z. record { journal = p z; unfinished = q z; frames = r z }
+
 -- an event on its line alone: the row of the look's verdict, or a look that decides
 module _ (l : Line) (e : Event) (n : ℕ) (u f : List ℕ) where
   pub alone-settled : {v : Verdict} {l′ : Line} {u′ f′ : List ℕ} → Done v ≡ lookAlone l e n u f → Settled v (e .kind) l (e .line) u f l′ u′ f′
-      → SteppingAlone l e n u f (record { line = l′; look = Done v }) u′ f′
+      → SteppingAlone l e n (record { unfinished = u; frames = f }) (record { line = l′; look = Done v }) (record { unfinished = u′; frames = f′ })
   alone-settled h s = record {
     look = h;
     line = s .line ∙ ap (λ (x : Look). lineAlone x l) h;
@@ -77,7 +85,7 @@ module _ (l : Line) (e : Event) (n : ℕ) (u f : List ℕ) where
     frames = s .frames ∙ ap (λ (x : Look). framesAlone x (e .kind) l (e .line) f) h;
   }
 
-  pub alone-decides : {k : Look} {m : ℕ} → k ≡ lookAlone l e n u f → k ≡ Decides m → SteppingAlone l e n u f (record { line = l; look = k }) u f
+  pub alone-decides : {k : Look} {m : ℕ} → k ≡ lookAlone l e n u f → k ≡ Decides m → SteppingAlone l e n (record { unfinished = u; frames = f }) (record { line = l; look = k }) (record { unfinished = u; frames = f })
   alone-decides h p =
       let q = sym p ∙ h in
       record {
@@ -117,8 +125,8 @@ module _ (l : Line) (d : Ledger) (e : Event) (j u f : List ℕ) where
   verdict-by h = verdict-alone ∙ ap by h
 
   -- a step that is done on the line alone leaves the ledger and the journal
-  pub step-after : (s : Alone) (v : Verdict) {a : Answer} {u′ f′ : List ℕ} → SteppingAlone l e (length j) u f s u′ f′ → s .look ≡ Done v → a ≡ answerOf v
-      → Stepping l d e j u f (record { line = s .line; ledger = d; answer = a }) j u′ f′
+  pub step-after : (s : Alone) (v : Verdict) {a : Answer} {u′ f′ : List ℕ} → SteppingAlone l e (length j) (record { unfinished = u; frames = f }) s (record { unfinished = u′; frames = f′ }) → s .look ≡ Done v → a ≡ answerOf v
+      → Stepping l d e (memoryOf j u f) (record { line = s .line; ledger = d; answer = a }) (memoryOf j u′ f′)
   unfolding stepOf
   step-after s v {a} {u′} {f′} t h p =
       let k : lookAlone l e (length j) u f ≡ Done v = sym (t .look) ∙ h in
@@ -127,13 +135,14 @@ module _ (l : Line) (d : Ledger) (e : Event) (j u f : List ℕ) where
       let after : s .line ≡ lineAfter v l = t .line ∙ ap (λ (x : Look). lineAlone x l) k in
       record {
         result = rw (after, p) (ap (λ (z : Ledger). record { line = lineAfter v l; ledger = z; answer = answerOf v }) (sym ledger) ∙ ap (λ (z : Verdict). settle z l d e (memoryOf j u f) .stepped) w);
-        journal = sym journal ∙ ap (λ (z : Verdict). settle z l d e (memoryOf j u f) .memory .journal) w;
-        unfinished = t .unfinished ∙ ap (λ (x : Look). textsAlone x l (e .line) u f) k ∙ ap (λ (x : Verdict). textsAfter x l (e .line) u f) w;
-        frames = t .frames ∙ ap (λ (x : Look). framesAlone x (e .kind) l (e .line) f) k ∙ ap (λ (x : Verdict). framesAfter x (e .kind) l (e .line) f) w;
+        memory = memory-is
+            (sym journal ∙ ap (λ (z : Verdict). settle z l d e (memoryOf j u f) .memory .journal) w)
+            (t .unfinished ∙ ap (λ (x : Look). textsAlone x l (e .line) u f) k ∙ ap (λ (x : Verdict). textsAfter x l (e .line) u f) w)
+            (t .frames ∙ ap (λ (x : Look). framesAlone x (e .kind) l (e .line) f) k ∙ ap (λ (x : Verdict). framesAfter x (e .kind) l (e .line) f) w);
       }
 
   -- where it decides, nothing is changed
-  pub alone-asks : (s : Alone) {n : ℕ} {u′ f′ : List ℕ} → SteppingAlone l e (length j) u f s u′ f′ → s .look ≡ Decides n → (lookAlone l e (length j) u f ≡ Decides n) × (u′ ≡ u) × (f′ ≡ f)
+  pub alone-asks : (s : Alone) {n : ℕ} {u′ f′ : List ℕ} → SteppingAlone l e (length j) (record { unfinished = u; frames = f }) s (record { unfinished = u′; frames = f′ }) → s .look ≡ Decides n → (lookAlone l e (length j) u f ≡ Decides n) × (u′ ≡ u) × (f′ ≡ f)
   alone-asks s t h =
       let k = sym (t .look) ∙ h in
       (k, t .unfinished ∙ ap (λ (x : Look). textsAlone x l (e .line) u f) k, t .frames ∙ ap (λ (x : Look). framesAlone x (e .kind) l (e .line) f) k)
@@ -156,12 +165,12 @@ module _ (l : Line) (d : Ledger) (e : Event) (j u f : List ℕ) where
       let t = subst (λ (x : Look). Acts x l (e .line) u f) h (alone-acts l e (length j) u f) in
       ap (λ (v : Verdict). settle v l d e (memoryOf j u f)) (verdict-by h ∙ sym (completion-is n h (fits-test l n (t .0))))
 
-  pub step-asks : (s : Alone) {n : ℕ} {u₁ f₁ : List ℕ} {r : Stepped} {j′ u′ f′ : List ℕ} → SteppingAlone l e (length j) u f s u₁ f₁ → s .look ≡ Decides n → Deciding l d e n j u₁ f₁ r j′ u′ f′
-      → Stepping l d e j u f r j′ u′ f′
+  pub step-asks : (s : Alone) {n : ℕ} {u₁ f₁ : List ℕ} {r : Stepped} {j′ u′ f′ : List ℕ} → SteppingAlone l e (length j) (record { unfinished = u; frames = f }) s (record { unfinished = u₁; frames = f₁ }) → s .look ≡ Decides n → Deciding l d e n (memoryOf j u₁ f₁) r (memoryOf j′ u′ f′)
+      → Stepping l d e (memoryOf j u f) r (memoryOf j′ u′ f′)
   step-asks s {n} {u₁} {f₁} {r} {j′} {u′} {f′} a h t =
       let (k, p, q) = alone-asks s a h in
-      let x : Deciding l d e n j u f r j′ u′ f′ = rw (← p, ← q) t in
-      subst (λ (y : AfterStep). Leaves y r j′ u′ f′) (sym (step-decides n k)) x
+      let x : Deciding l d e n (memoryOf j u f) r (memoryOf j′ u′ f′) = rw (← p, ← q) t in
+      subst (λ (y : AfterStep). Leaves y r (memoryOf j′ u′ f′)) (sym (step-decides n k)) x
 
 -- what has passed the tests: the line is ready and the text fits
 pub tested-ready : (l : Line) (e : Event) (n : ℕ) (j u f : List ℕ) → testOf l (e .line) n (length j) (length u) (length f) ≡ Tested.Ready → Ready l (e .line) u f × TextFits l n
@@ -186,9 +195,9 @@ module _ (l : Line) (d : Ledger) (e : Event) (n : ℕ) (j u f : List ℕ) where
   byTest Tested.Ready = completed todaysShares l d e n (memoryOf j u f)
   byTest (Refused a) = Left a
 
-  decide-by : (v : Verdict) {r : Stepped} {j′ u′ f′ : List ℕ} → completionOf todaysShares l d e n (memoryOf j u f) ≡ v → Leaves (settle v l d e (memoryOf j u f)) r j′ u′ f′ → Deciding l d e n j u f r j′ u′ f′
+  decide-by : (v : Verdict) {r : Stepped} {j′ u′ f′ : List ℕ} → completionOf todaysShares l d e n (memoryOf j u f) ≡ v → Leaves (settle v l d e (memoryOf j u f)) r (memoryOf j′ u′ f′) → Deciding l d e n (memoryOf j u f) r (memoryOf j′ u′ f′)
   unfolding decideOf
-  decide-by v {r} {j′} {u′} {f′} h s = subst (λ (x : Verdict). Leaves (settle x l d e (memoryOf j u f)) r j′ u′ f′) (sym h) s
+  decide-by v {r} {j′} {u′} {f′} h s = subst (λ (x : Verdict). Leaves (settle x l d e (memoryOf j u f)) r (memoryOf j′ u′ f′)) (sym h) s
 
   -- 40, 41 and 42 are the tests of the deciding
   completion-tested : completionOf todaysShares l d e n (memoryOf j u f) ≡ byTest (testOf l (e .line) n (length j) (length u) (length f))
@@ -202,16 +211,16 @@ module _ (l : Line) (d : Ledger) (e : Event) (n : ℕ) (j u f : List ℕ) where
       by-tests true false c = refl
       by-tests false b c = refl
 
-  pub decide-refused : (a : Answer) → testOf l (e .line) n (length j) (length u) (length f) ≡ Refused a → Deciding l d e n j u f (record { line = l; ledger = d; answer = a }) j u f
-  decide-refused a h = decide-by (Left a) (completion-tested ∙ ap byTest h) (record { result = refl; journal = refl; unfinished = refl; frames = refl })
+  pub decide-refused : (a : Answer) → testOf l (e .line) n (length j) (length u) (length f) ≡ Refused a → Deciding l d e n (memoryOf j u f) (record { line = l; ledger = d; answer = a }) (memoryOf j u f)
+  decide-refused a h = decide-by (Left a) (completion-tested ∙ ap byTest h) (record { result = refl; memory = refl })
 
-  pub decide-work : (r : Stepped) (j′ u′ f′ : List ℕ) → testOf l (e .line) n (length j) (length u) (length f) ≡ Tested.Ready → Completing l d e n j u f r j′ u′ f′ → Deciding l d e n j u f r j′ u′ f′
+  pub decide-work : (r : Stepped) (j′ u′ f′ : List ℕ) → testOf l (e .line) n (length j) (length u) (length f) ≡ Tested.Ready → Completing l d e n (memoryOf j u f) r (memoryOf j′ u′ f′) → Deciding l d e n (memoryOf j u f) r (memoryOf j′ u′ f′)
   decide-work r j′ u′ f′ h s = decide-by (completed todaysShares l d e n (memoryOf j u f)) (completion-tested ∙ ap byTest h) s
 
   module _ (r : Stepped) where
     -- what the decision and its row leave
     pub decision-settled : (c : Decided) (k : Line) (a : Answer) (j′ u′ f′ : List ℕ) → Completion l d (e .line) n j u f c j′
-        → Settled (outcomeVerdict (c .outcome) n) (e .kind) l (e .line) u f k u′ f′ → ((m : ℕ) → a ≡ answerOf (outcomeVerdict (c .outcome) m)) → r ≡ record { line = k; ledger = c .ledger; answer = a } → Completing l d e n j u f r j′ u′ f′
+        → Settled (outcomeVerdict (c .outcome) n) (e .kind) l (e .line) u f k u′ f′ → ((m : ℕ) → a ≡ answerOf (outcomeVerdict (c .outcome) m)) → r ≡ record { line = k; ledger = c .ledger; answer = a } → Completing l d e n (memoryOf j u f) r (memoryOf j′ u′ f′)
     decision-settled c k a j′ u′ f′ t s p q =
         let text : ℕ → List ℕ = λ m. joinedText l m (textsOf (e .line) u) (framesOf (e .line) f) in
         let v : Verdict = decisionOf todaysShares d (e .line) n (text n) j in
@@ -220,7 +229,5 @@ module _ (l : Line) (d : Ledger) (e : Event) (n : ℕ) (j u f : List ℕ) where
         let booked : c .ledger ≡ ledgerAfter v d (e .line) text = t .ledger n ∙ ledger in
         record {
           result = q ∙ rw (s .line, p n, booked) (ap (λ (x : Verdict). record { line = lineAfter x l; ledger = ledgerAfter v d (e .line) text; answer = answerOf x }) is);
-          journal = t .journal n ∙ journal;
-          unfinished = s .texts ∙ ap (λ (x : Verdict). textsAfter x l (e .line) u f) is;
-          frames = s .frames ∙ ap (λ (x : Verdict). framesAfter x (e .kind) l (e .line) f) is;
+          memory = memory-is (t .journal n ∙ journal) (s .texts ∙ ap (λ (x : Verdict). textsAfter x l (e .line) u f) is) (s .frames ∙ ap (λ (x : Verdict). framesAfter x (e .kind) l (e .line) f) is);
         }

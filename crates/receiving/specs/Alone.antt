@@ -14,7 +14,7 @@ use Rattle.line.specs.declared.Line.{Line}
 use Rattle.answers.specs.declared.Answer.the-variants.{NoLine, WrongSize, BeyondLimits}
 use Rattle.looking.specs.Views.{framesOf, textsOf, joinedText}
 use Rattle.looking.specs.Fitting.{textFits}
-use Rattle.looking.specs.Lent.{rightLengths, rightSizes}
+use Rattle.looking.specs.Lent.{rightSizes}
 use Rattle.looking.specs.Looks.{lookAlone}
 use Rattle.looking.specs.declared.Event.{Event}
 use Rattle.looking.specs.declared.Kind.{Kind}
@@ -24,11 +24,9 @@ use Rattle.looking.specs.declared.Verdict.{Verdict}
 use Rattle.looking.specs.declared.Verdict.the-variants.{Left}
 use Rattle.receiving.specs.Verdicts.{decisionOf}
 use Rattle.receiving.specs.Settled.{lineAfter, framesAfter, textsAfter}
-use Rattle.receiving.specs.Steps.{Memory, memoryOf, AfterStep, settle, Leaves}
+use Rattle.receiving.specs.Steps.{Memory, AfterStep, settle, Leaves}
 use Rattle.receiving.specs.declared.Alone.{Alone}
 use Rattle.receiving.specs.declared.Stepped.{Stepped}
-use Rattle.receiving.specs.declared.completing.Tested.{Tested}
-use Rattle.receiving.specs.declared.completing.Tested.the-variants.{Refused}
 
 -- what a look leaves: the row of its verdict, or everything as it was where a message is complete
 abbrev pub lineAlone : Look → Line → Line
@@ -43,23 +41,20 @@ abbrev pub framesAlone : Look → Kind → Line → ℕ → List ℕ → List �
 framesAlone (Done v) k l i frames = framesAfter v k l i frames
 framesAlone (Decides n) k l i frames = frames
 
-pub record LeavesAlone (k : Look) (l : Line) (e : Event) (u f : List ℕ) (r : Alone) (u′ f′ : List ℕ) : Type 0 where
+-- the lent memory of an event on its line alone: the journal is not lent
+pub record AloneMemory : Type 0 where
+  pub unfinished : List ℕ
+  pub frames : List ℕ
+
+pub record LeavesAlone (k : Look) (l : Line) (e : Event) (m : AloneMemory) (r : Alone) (m′ : AloneMemory) : Type 0 where
   pub look : r .look ≡ k
   pub line : r .line ≡ lineAlone k l
-  pub unfinished : u′ ≡ textsAlone k l (e .line) u f
-  pub frames : f′ ≡ framesAlone k (e .kind) l (e .line) f
+  pub unfinished : m′ .unfinished ≡ textsAlone k l (e .line) (m .unfinished) (m .frames)
+  pub frames : m′ .frames ≡ framesAlone k (e .kind) l (e .line) (m .frames)
 
 -- what a step on the line alone says
-abbrev pub SteppingAlone : Line → Event → ℕ → List ℕ → List ℕ → Alone → List ℕ → List ℕ → Type 0
-SteppingAlone l e journal u f r u′ f′ = LeavesAlone (lookAlone l e journal u f) l e u f r u′ f′
-
--- 40, 41 and 42 of an event that is to complete a message; more bytes than the line has or has room for are beyond its limits
-unfoldable pub testOf : Line → ℕ → ℕ → ℕ → ℕ → ℕ → Tested
-testOf l i n journal unfinished frames =
-    unless (ltb i lines) (Refused NoLine)
-    (unless (rightLengths journal unfinished frames) (Refused WrongSize)
-    (unless (withinLimits l && textFits l n) (Refused BeyondLimits)
-    Tested.Ready))
+abbrev pub SteppingAlone : Line → Event → ℕ → AloneMemory → Alone → AloneMemory → Type 0
+SteppingAlone l e journal m r m′ = LeavesAlone (lookAlone l e journal (m .unfinished) (m .frames)) l e m r m′
 
 -- the decision on the text that the line has with n bytes of its frame
 abbrev pub completed : List ℕ → Line → Ledger → Event → ℕ → Memory → Verdict
@@ -73,12 +68,10 @@ completionOf shares l d e n m =
     (unless (withinLimits l && textFits l n) (Left BeyondLimits)
     (completed shares l d e n m)))
 
--- what deciding says, and the work of it past 40 to 42
+-- what deciding leaves
 unfoldable pub decideOf : List ℕ → Line → Ledger → Event → ℕ → Memory → AfterStep
 decideOf shares l d e n m = settle (completionOf shares l d e n m) l d e m
 
-abbrev pub Deciding : Line → Ledger → Event → ℕ → List ℕ → List ℕ → List ℕ → Stepped → List ℕ → List ℕ → List ℕ → Type 0
-Deciding l d e n j u f r j′ u′ f′ = Leaves (decideOf todaysShares l d e n (memoryOf j u f)) r j′ u′ f′
-
-abbrev pub Completing : Line → Ledger → Event → ℕ → List ℕ → List ℕ → List ℕ → Stepped → List ℕ → List ℕ → List ℕ → Type 0
-Completing l d e n j u f r j′ u′ f′ = Leaves (settle (completed todaysShares l d e n (memoryOf j u f)) l d e (memoryOf j u f)) r j′ u′ f′
+-- what deciding says
+abbrev pub Deciding : Line → Ledger → Event → ℕ → Memory → Stepped → Memory → Type 0
+Deciding l d e n m r m′ = Leaves (decideOf todaysShares l d e n m) r m′

@@ -1,5 +1,5 @@
 pub mod Verdicts
 pub mod Settled
-pub mod Decided
 pub mod Steps
 pub mod Alone
+pub mod Inner

@@ -1,8 +1,9 @@
--- What is left after a verdict, row by row.
+-- What is left after a verdict: `rowOf` says it row by row, and what stands below reads the rows.
 -- Assumes nothing.
 use Prim.Native.Nat.{ℕ, _+_}
-use mathlib.Core.Path.{_≡_}
+use mathlib.Core.Bool.{Bool, true, false, cond}
 use mathlib.Core.List.{List}
+use mathlib.Core.Option.{Option, none, some}
 use lib.ListN.{length, set}
 use Rattle.memory.specs.Parts.{splice}
 use Rattle.journal.specs.Storage.{grown, appended}
@@ -15,82 +16,67 @@ use Rattle.looking.specs.declared.Kind.the-variants.{Byte, Seconds}
 use Rattle.looking.specs.declared.Verdict.{Verdict}
 use Rattle.looking.specs.declared.Verdict.the-variants.{Left, Opens, Closes, Begins, Counts, Collects, Refuses, Accepts, Stores, Against}
 
--- the line's record: 1, 5, 6 and 7 set its counts to 0, its next number to 1, no last number and no refusing; a judged frame makes it wait;
--- 2 and 4 advance the number, 30 and 31 make it refuse; the joined count grows after 2 and is 0 after the others
-abbrev pub lineAfter : Verdict → Line → Line
-lineAfter (Left a) l = l
-lineAfter Opens l = openedLine l
-lineAfter (Closes a) l = closedLine l
-lineAfter Begins l = begunLine l
-lineAfter (Counts n) l = countedLine l n
-lineAfter Collects l = collectedLine l (l .collected + 1)
-lineAfter (Refuses a) l = waitingLine l
-lineAfter (Accepts n) l = acceptedLine l (l .joined + n)
-lineAfter (Stores n) l = acceptedLine l 0
-lineAfter (Against a n) l = refusingLine l
+-- what a row does
+pub record Row : Type 0 where
+  -- the line's record, by the one before
+  pub line : Line → Line
+  -- whether the byte is added to the line's frame bytes
+  pub adds : Bool
+  -- how many bytes of the frame's text are written behind the joined text, if any
+  pub writes : Option ℕ
+  -- whether the text that the line then has is stored
+  pub stores : Bool
 
--- a byte is added to the line's frame bytes, behind those collected
+-- the rows, one for each kind of answer
+abbrev pub rowOf : Verdict → Row
+-- an ignored event (0), 20 and 40 to 43: nothing changes
+rowOf (Left a) = record { line = λ l. l; adds = false; writes = none; stores = false }
+-- 1: the line waits; its counts are 0, its next number is 1, it has no last number and does not refuse
+rowOf Opens = record { line = openedLine; adds = false; writes = none; stores = false }
+-- 5, 6 and 7: the same, but the line is neutral
+rowOf (Closes a) = record { line = closedLine; adds = false; writes = none; stores = false }
+-- STX (0): the line is inside a frame, and nothing else changes
+rowOf Begins = record { line = begunLine; adds = false; writes = none; stores = false }
+-- seconds (0): n are counted now
+rowOf (Counts n) = record { line = λ l. countedLine l n; adds = false; writes = none; stores = false }
+-- a collected byte (0): it is added, and counted
+rowOf Collects = record { line = λ l. collectedLine l (l .collected + 1); adds = true; writes = none; stores = false }
+-- 3 and 21 to 29, as every judged frame: its last byte is added, and the line waits with nothing collected and no seconds
+rowOf (Refuses a) = record { line = waitingLine; adds = true; writes = none; stores = false }
+-- 2: besides, the n bytes of the frame's text are written and counted as joined; the number advances
+rowOf (Accepts n) = record { line = λ l. acceptedLine l (l .joined + n); adds = true; writes = some n; stores = false }
+-- 4: besides, they are written and the whole text is stored; nothing is joined any more; the number advances
+rowOf (Stores n) = record { line = λ l. acceptedLine l 0; adds = true; writes = some n; stores = true }
+-- 30 and 31: besides, they are written; nothing is joined any more; the line refuses
+rowOf (Against a n) = record { line = refusingLine; adds = true; writes = some n; stores = false }
+
+-- the line's record
+abbrev pub lineAfter : Verdict → Line → Line
+lineAfter v l = rowOf v .line l
+
+-- the frames: a byte is added behind the line's collected ones
 abbrev pub withByte : Kind → Line → ℕ → List ℕ → List ℕ
 withByte (Byte b) l i frames = set frames (frameStart i + l .collected) b
 withByte (Seconds s) l i frames = frames
 
--- the frames: a collected byte is added, and so is the last byte of a judged frame
 abbrev pub framesAfter : Verdict → Kind → Line → ℕ → List ℕ → List ℕ
-framesAfter (Left a) k l i frames = frames
-framesAfter Opens k l i frames = frames
-framesAfter (Closes a) k l i frames = frames
-framesAfter Begins k l i frames = frames
-framesAfter (Counts n) k l i frames = frames
-framesAfter Collects k l i frames = withByte k l i frames
-framesAfter (Refuses a) k l i frames = withByte k l i frames
-framesAfter (Accepts n) k l i frames = withByte k l i frames
-framesAfter (Stores n) k l i frames = withByte k l i frames
-framesAfter (Against a n) k l i frames = withByte k l i frames
+framesAfter v k l i frames = cond (rowOf v .adds) (withByte k l i frames) frames
 
--- the frame's text is written behind the joined text
+-- what a row that writes makes of something by the length of the frame's text; the others leave it
+abbrev pub byLength : {A : Type 0} → Option ℕ → A → (ℕ → A) → A
+byLength none old new = old
+byLength (some n) old new = new n
+
+-- the unfinished texts: the frame's text is written behind the line's joined one
 abbrev pub withText : Line → ℕ → ℕ → List ℕ → List ℕ → List ℕ
 withText l i n unfinished frames = splice unfinished (textStart i + l .joined) (frameText n (framesOf i frames))
 
--- the unfinished texts: 2, 4, 30 and 31 write the text
 abbrev pub textsAfter : Verdict → Line → ℕ → List ℕ → List ℕ → List ℕ
-textsAfter (Left a) l i unfinished frames = unfinished
-textsAfter Opens l i unfinished frames = unfinished
-textsAfter (Closes a) l i unfinished frames = unfinished
-textsAfter Begins l i unfinished frames = unfinished
-textsAfter (Counts n) l i unfinished frames = unfinished
-textsAfter Collects l i unfinished frames = unfinished
-textsAfter (Refuses a) l i unfinished frames = unfinished
-textsAfter (Accepts n) l i unfinished frames = withText l i n unfinished frames
-textsAfter (Stores n) l i unfinished frames = withText l i n unfinished frames
-textsAfter (Against a n) l i unfinished frames = withText l i n unfinished frames
+textsAfter v l i unfinished frames = byLength (rowOf v .writes) unfinished (λ n. withText l i n unfinished frames)
 
--- ledger and journal, where `text n` is the text that the line has with n bytes of this frame: only 4 changes them
+-- ledger and journal, where `text n` is the text that the line has with n bytes of this frame
 abbrev pub ledgerAfter : Verdict → Ledger → ℕ → (ℕ → List ℕ) → Ledger
-ledgerAfter (Left a) d i text = d
-ledgerAfter Opens d i text = d
-ledgerAfter (Closes a) d i text = d
-ledgerAfter Begins d i text = d
-ledgerAfter (Counts n) d i text = d
-ledgerAfter Collects d i text = d
-ledgerAfter (Refuses a) d i text = d
-ledgerAfter (Accepts n) d i text = d
-ledgerAfter (Stores n) d i text = grown d i (length (text n))
-ledgerAfter (Against a n) d i text = d
+ledgerAfter v d i text = cond (rowOf v .stores) (byLength (rowOf v .writes) d (λ n. grown d i (length (text n)))) d
 
 abbrev pub journalAfter : Verdict → Ledger → ℕ → (ℕ → List ℕ) → List ℕ → List ℕ
-journalAfter (Left a) d i text journal = journal
-journalAfter Opens d i text journal = journal
-journalAfter (Closes a) d i text journal = journal
-journalAfter Begins d i text journal = journal
-journalAfter (Counts n) d i text journal = journal
-journalAfter Collects d i text journal = journal
-journalAfter (Refuses a) d i text journal = journal
-journalAfter (Accepts n) d i text journal = journal
-journalAfter (Stores n) d i text journal = appended d i (text n) journal
-journalAfter (Against a n) d i text journal = journal
-
--- what acting says
-pub record Settled (v : Verdict) (k : Kind) (l : Line) (i : ℕ) (u f : List ℕ) (r : Line) (u′ f′ : List ℕ) : Type 0 where
-  pub line : r ≡ lineAfter v l
-  pub texts : u′ ≡ textsAfter v l i u f
-  pub frames : f′ ≡ framesAfter v k l i f
+journalAfter v d i text journal = cond (rowOf v .stores) (byLength (rowOf v .writes) journal (λ n. appended d i (text n) journal)) journal

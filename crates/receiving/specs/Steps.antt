@@ -42,15 +42,13 @@ unfoldable pub stepOf : List ℕ → Line → Ledger → Event → Memory → Af
 stepOf shares l d e m = settle (verdictOf shares l d e (m .journal) (m .unfinished) (m .frames)) l d e m
 
 -- what an outcome of a step says
-pub record Leaves (s : AfterStep) (r : Stepped) (j u f : List ℕ) : Type 0 where
+pub record Leaves (s : AfterStep) (r : Stepped) (m : Memory) : Type 0 where
   pub result : r ≡ s .stepped
-  pub journal : j ≡ s .memory .journal
-  pub unfinished : u ≡ s .memory .unfinished
-  pub frames : f ≡ s .memory .frames
+  pub memory : m ≡ s .memory
 
 abbrev pub memoryOf : List ℕ → List ℕ → List ℕ → Memory
 memoryOf j u f = record { journal = j; unfinished = u; frames = f }
 
 -- what a step says
-abbrev pub Stepping : Line → Ledger → Event → List ℕ → List ℕ → List ℕ → Stepped → List ℕ → List ℕ → List ℕ → Type 0
-Stepping l d e j u f r j′ u′ f′ = Leaves (stepOf todaysShares l d e (memoryOf j u f)) r j′ u′ f′
+abbrev pub Stepping : Line → Ledger → Event → Memory → Stepped → Memory → Type 0
+Stepping l d e m r m′ = Leaves (stepOf todaysShares l d e m) r m′

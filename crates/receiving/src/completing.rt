@@ -2,9 +2,10 @@
 ghost use mathlib.Core.Path.{_≡_};
 ghost use mathlib.Core.Bool.{true};
 ghost use Rattle.line.specs.Line.{withinLimits};
-ghost use Rattle.looking.specs.Views.{Ready};
-ghost use Rattle.looking.specs.Fitting.{TextFits, textFits};
-ghost use Rattle.receiving.specs.Alone.{testOf, Completing};
+ghost use Rattle.looking.specs.Inner.Ready.{Ready};
+ghost use Rattle.looking.specs.Fitting.{textFits};
+ghost use Rattle.looking.specs.Inner.Fitting.{TextFits};
+ghost use Rattle.receiving.specs.Inner.Completing.{testOf, Completing};
 use super::Stepped;
 use super::deciding;
 use super::settling;
@@ -24,7 +25,9 @@ pub fn by_decision(
     frames: &mut [u8],
 ) -> Stepped
     requires { ⌜ Ready line (e .line) (now unfinished) (now frames) × TextFits line n ⌝ }
-    ensures { λ r. ⌜ Completing line ledger e n (now (journal .entry)) (now (unfinished .entry)) (now (frames .entry)) r (now (journal .exit)) (now (unfinished .exit)) (now (frames .exit)) ⌝ }
+    ensures { λ r. ⌜ Completing line ledger e n
+        (record { journal = now (journal .entry); unfinished = now (unfinished .entry); frames = now (frames .entry) })
+        r (record { journal = now (journal .exit); unfinished = now (unfinished .exit); frames = now (frames .exit) }) ⌝ }
 {
     let i = e.line as usize;
     let kind = e.kind;

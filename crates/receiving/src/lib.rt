@@ -33,7 +33,9 @@ pub fn step_alone(
     unfinished: &mut [u8],
     frames: &mut [u8],
 ) -> Alone
-    ensures { λ r. ⌜ SteppingAlone line e journal (now (unfinished .entry)) (now (frames .entry)) r (now (unfinished .exit)) (now (frames .exit)) ⌝ }
+    ensures { λ r. ⌜ SteppingAlone line e journal
+        (record { unfinished = now (unfinished .entry); frames = now (frames .entry) })
+        r (record { unfinished = now (unfinished .exit); frames = now (frames .exit) }) ⌝ }
 {
     let i = e.line as usize;
     let kind = e.kind;
@@ -57,7 +59,9 @@ pub fn decide(
     unfinished: &mut [u8],
     frames: &mut [u8],
 ) -> Stepped
-    ensures { λ r. ⌜ Deciding line ledger e n (now (journal .entry)) (now (unfinished .entry)) (now (frames .entry)) r (now (journal .exit)) (now (unfinished .exit)) (now (frames .exit)) ⌝ }
+    ensures { λ r. ⌜ Deciding line ledger e n
+        (record { journal = now (journal .entry); unfinished = now (unfinished .entry); frames = now (frames .entry) })
+        r (record { journal = now (journal .exit); unfinished = now (unfinished .exit); frames = now (frames .exit) }) ⌝ }
 {
     let i = e.line as usize;
     match completing::test(line, i, n, journal.len(), unfinished.len(), frames.len()) {

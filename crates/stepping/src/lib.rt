@@ -17,7 +17,9 @@ pub fn step(
     unfinished: &mut [u8],
     frames: &mut [u8],
 ) -> Stepped
-    ensures { λ r. ⌜ Stepping line ledger e (now (journal .entry)) (now (unfinished .entry)) (now (frames .entry)) r (now (journal .exit)) (now (unfinished .exit)) (now (frames .exit)) ⌝ }
+    ensures { λ r. ⌜ Stepping line ledger e
+        (record { journal = now (journal .entry); unfinished = now (unfinished .entry); frames = now (frames .entry) })
+        r (record { journal = now (journal .exit); unfinished = now (unfinished .exit); frames = now (frames .exit) }) ⌝ }
 {
     let alone = receiving::step_alone(line, e, journal.len(), unfinished, frames);
     let after = alone.line;
@@ -37,8 +39,10 @@ pub fn step_in_place(
     unfinished: &mut [u8],
     frames: &mut [u8],
 ) -> Answer
-    ensures { λ r. ⌜ Stepping (now (line .entry)) (now (ledger .entry)) event (now (journal .entry)) (now (unfinished .entry)) (now (frames .entry))
-        (record { line = now (line .exit); ledger = now (ledger .exit); answer = r }) (now (journal .exit)) (now (unfinished .exit)) (now (frames .exit)) ⌝ }
+    ensures { λ r. ⌜ Stepping (now (line .entry)) (now (ledger .entry)) event
+        (record { journal = now (journal .entry); unfinished = now (unfinished .entry); frames = now (frames .entry) })
+        (record { line = now (line .exit); ledger = now (ledger .exit); answer = r })
+        (record { journal = now (journal .exit); unfinished = now (unfinished .exit); frames = now (frames .exit) }) ⌝ }
 {
     let s = step(*line, *ledger, event, journal, unfinished, frames);
     *line = s.line;

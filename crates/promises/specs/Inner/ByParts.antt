@@ -12,7 +12,7 @@ use Rattle.receiving.specs.Settled.{lineAfter, ledgerAfter, journalAfter}
 use Rattle.taking.specs.Taking.{tookAnswer}
 use Rattle.looking.specs.declared.Kind.{Kind}
 use Rattle.looking.specs.declared.Verdict.{Verdict}
-use Rattle.gateway_laws.specs.Own.{ownFrames, ownTexts}
+use Rattle.gateway_laws.specs.Inner.Own.{ownFrames, ownTexts}
 use Rattle.promises.specs.Machine.{Response, response, Parts}
 
 -- an event by its line's parts and the store alone

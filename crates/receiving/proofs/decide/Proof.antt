@@ -20,7 +20,8 @@ by-decision-requires c κs =
 
 returns : tie.Need-returns
 returns c =
-    let done = c .before .before .before .before .before .before in
+    let back = c .before .before .before in
+    let done = back .before .before .before in
     let told = done .before .before .before .before in
     let tested = told .before .before in
     let a = entry tested .args in

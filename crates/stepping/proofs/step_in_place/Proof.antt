@@ -56,7 +56,7 @@ use Rattle.receiving.proofs.Stepped as Stepped
 use Rattle.receiving.proofs.Stepped.Laws as Stepped′
 use Rattle.answers.proofs.Answer as Answer
 use Rattle.answers.proofs.Answer.Laws as Answer′
-use Rattle.receiving.specs.Steps.{Stepping}
+use Rattle.receiving.specs.Steps.{memoryOf, Stepping}
 use Rattle.stepping.proofs.step as callee
 use Rattle.stepping.proofs.step.Symbol as callee-def
 use Rattle.stepping.proofs.step.Symbol.{name as #callee}
@@ -129,7 +129,7 @@ module _ {M : Type 1} (𝓤 : URA M) (H : Heap 𝓤) (A : Atoms 𝓤) (W : Given
       qed W ((‵ (flft κ-journal q-journal) ⊛ ‵ (flft κ-unfinished q-unfinished) ⊛ ‵ (flft κ-frames q-frames) ⊛ ‵ ftrue) ∷ ‵ (MutSlice (named 0) κ-journal u8 .own x-journal (s-journal ∷ [])) ∷ ‵ (MutSlice (named 1) κ-unfinished u8 .own x-unfinished (s-unfinished ∷ [])) ∷ ‵ (MutSlice (named 2) κ-frames u8 .own x-frames (s-frames ∷ [])) ∷ []) ∵ nothing ! $ move ! (4 ∷ 0 ∷ []) $ fjoin ! $ move ! (3 ∷ 0 ∷ []) $ fjoin ! $ move ! (2 ∷ 0 ∷ []) $ fjoin ! $ owned ! Event.the-row (Is Event.the-row) (LL.makes Event.the-type Event′.the-plain 𝓤 H A) event _ is-event $ fjoin ! $ owned ! Ledger.the-row (Is Ledger.the-row) (LL.makes Ledger.the-type Ledger′.the-plain 𝓤 H A) h-ledger _ was-ledger $ fjoin ! $ owned ! Line.the-row (Is Line.the-row) (LL.makes Line.the-type Line′.the-plain 𝓤 H A) h-line _ was-line $ fjoin ! $ move ! (1 ∷ 0 ∷ []) $ join ! $ frame ! $ done !
 
   abbrev Said : Stepped → List ℕ → List ℕ → List ℕ → Type 0
-  Said r z-journal z-unfinished z-frames = Stepping h-line h-ledger event y-journal y-unfinished y-frames r z-journal z-unfinished z-frames
+  Said r z-journal z-unfinished z-frames = Stepping h-line h-ledger event (memoryOf y-journal y-unfinished y-frames) r (memoryOf z-journal z-unfinished z-frames)
 
   exits : (r : Stepped) (z-journal : List ℕ) (z-unfinished : List ℕ) (z-frames : List ℕ) → Said r z-journal z-unfinished z-frames → length z-journal ≡ length y-journal → length z-unfinished ≡ length y-unfinished → length z-frames ≡ length y-frames → Is Answer.the-row (r .answer) (EL.vals Answer.the-type Answer′.the-laws (r .answer))
       → ent 𝓤 (⋆ 𝓤 H A (‵ (fobs γ-line (Line.the-row .coded .code (r .line))) ∷ ‵ (fbor κ-line (Body (mem Line.the-row) b-line o-line γ-line)) ∷ ‵ (flft κ-line q-line) ∷ ‵ (fobs γ-ledger (Ledger.the-row .coded .code (r .ledger))) ∷ ‵ (fbor κ-ledger (Body (mem Ledger.the-row) b-ledger o-ledger γ-ledger)) ∷ ‵ (flft κ-ledger q-ledger) ∷ (‵ (flft κ-journal q-journal) ⊛ ‵ (flft κ-unfinished q-unfinished) ⊛ ‵ (flft κ-frames q-frames) ⊛ ‵ ftrue) ∷ ‵ (finally u8 γ-journal z-journal) ∷ ‵ (finally u8 γ-unfinished z-unfinished) ∷ ‵ (finally u8 γ-frames z-frames) ∷ [])) (Post (EL.val Answer.the-type Answer′.the-laws (r .answer)))

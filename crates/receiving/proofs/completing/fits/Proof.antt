@@ -26,14 +26,16 @@ sub-if3 c = omega (arith, within-facts _ (c .before .before .before .before .bef
 
 returns-3 : tie.Need-returns-3
 returns-3 c =
-    let a = c .before .before .before .before .before .before .args in
+    let past = c .before .before .before in
+    let a = past .before .before .before .args in
     let long : a .n + 5 ≤ a .line .collected = omega arith in
     let over : messageLimit < a .line .joined + a .n = omega arith in
     rw (le-leb _ _ long, lt-leb _ _ over)
 
 returns-4 : tie.Need-returns-4
 returns-4 c =
-    let start = c .before .before .before .before .before .before in
+    let past = c .before .before .before in
+    let start = past .before .before .before in
     let a = start .args in
     let long : a .n + 5 ≤ a .line .collected = omega arith in
     let room : a .line .joined + a .n ≤ messageLimit = omega (arith, within-facts _ (start .pre)) in

@@ -6,7 +6,7 @@ use Prim.Native.Nat.{_≤_, _<_}
 use native.Mathlib.Omega.{arith}
 use borrow.Author.Tests.{lt-ltb, le-ltb, not-true, not-false}
 use Rattle.memory.specs.Sizes.{lines}
-use Rattle.receiving.specs.Alone.{testOf}
+use Rattle.receiving.specs.Inner.Completing.{testOf}
 use Rattle.receiving.proofs.completing.test.Statement.{statement}
 use Rattle.receiving.proofs.completing.test.Tie as tie
 

@@ -10,10 +10,17 @@ use Rattle.receiving.proofs.settling.write_text.Statement.{statement}
 use Rattle.receiving.proofs.settling.write_text.Tie as tie
 
 part-copy-end-2 : tie.Need-part-copy-end-2
-part-copy-end-2 c = omega (arith, within-facts (c .before .before .before .before .args .line) (c .before .before .before .before .pre .0 .within), c .before .before .before .before .pre)
+part-copy-end-2 c =
+    let start = c .before .before .before .before in
+    omega (arith, within-facts (start .args .line) (start .pre .0 .within), start .pre)
 
 returns : tie.Need-returns
-returns c = let a = c .before .before .before .before .before .before .before .before .args in text-written (a .line) (a .i) (a .n) (now (a .unfinished)) (now (a .frames)) (c .before .before .before .before .before .before .before .before .pre .0) (c .before .before .before .before .before .before .before .before .pre .1) _ _ _ _ (omega arith) refl (c .before .before .copy .ensures)
+returns c =
+    let copied = c .before .before in
+    let lent = copied .before .before in
+    let start = lent .before .before .before .before in
+    let a = start .args in
+    text-written (a .line) (a .i) (a .n) (now (a .unfinished)) (now (a .frames)) (start .pre .0) (start .pre .1) _ _ _ _ (omega arith) refl (copied .copy .ensures)
 
 pub write-text-spec : {M : Type 1} → statement M
 write-text-spec =

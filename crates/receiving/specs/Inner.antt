@@ -1,0 +1,3 @@
+pub mod Settled
+pub mod Decided
+pub mod Completing
