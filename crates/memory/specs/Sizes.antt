@@ -28,3 +28,7 @@ framesSize = lines * framePart
 
 abbrev pub unfinishedSize : ℕ
 unfinishedSize = lines * messageLimit
+
+-- the most records of a message
+abbrev pub recordsLimit : ℕ
+recordsLimit = 999

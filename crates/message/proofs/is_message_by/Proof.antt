@@ -16,8 +16,8 @@ use Rattle.records.specs.Fields.{before}
 use Rattle.records.specs.Records.{endsWithCr}
 use Rattle.sequence.specs.Numbers.{started}
 use Rattle.kinds.specs.Header.{isHeader}
-use Rattle.faults.specs.Faults.{isMessageBy}
-use Rattle.message.specs.Rest.{breaks, rightRest}
+use Rattle.faults.specs.Message.{isMessageBy}
+use Rattle.message.specs.Inner.Rest.{breaks, rightRest}
 use Rattle.records.proofs.Scans.{rest-part}
 use Rattle.faults.proofs.Messages.{sound}
 use Rattle.message.proofs.Breaks.{cr-some, break-within, ends-behind, broken-by-cr, broken-by-other}

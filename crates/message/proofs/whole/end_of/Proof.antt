@@ -9,7 +9,7 @@ use lib.ListN.{length, getD, drop}
 use borrow.Author.Tests.{not-true, not-false}
 use Rattle.memory.specs.Tests.{find}
 use Rattle.memory.proofs.Tests.{find-stop, find-next}
-use Rattle.message.specs.Rest.{breaks}
+use Rattle.message.specs.Inner.Rest.{breaks}
 use Rattle.message.proofs.Breaks.{cr-some, not-last, unbroken}
 use Rattle.message.proofs.whole.end_of.Statement.{statement}
 use Rattle.message.proofs.whole.end_of.Tie as tie

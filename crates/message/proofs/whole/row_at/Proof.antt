@@ -9,7 +9,8 @@ use borrow.Author.Tests.{eq-eqb, ne-eqb}
 use Rattle.memory.specs.Tests.{is}
 use Rattle.memory.proofs.Tests.{is-false}
 use Rattle.characters.specs.Control.{cr}
-use Rattle.kinds.specs.Kinds.{kindOf, letterRow}
+use Rattle.kinds.specs.Kinds.{kindOf}
+use Rattle.kinds.specs.Inner.Rows.{letterRow}
 use Rattle.message.proofs.Breaks.{cr-some, not-last}
 use Rattle.message.proofs.Starting.{cr-names-none, type-unknown, type-long, type-named, b-first, b-later, b-second}
 use Rattle.message.proofs.Tallies.{no-row}
