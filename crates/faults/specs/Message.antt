@@ -1,4 +1,4 @@
--- What a message is: 1 to 4,000 allowed bytes, made of records that CR ends: a header, records of which each may come next, and L.
+-- What a message is: allowed bytes, not none and not over the limit, made of records that CR ends: a header, records of which each may come next, and L the last.
 -- Assumes nothing.
 use Prim.Native.Nat.{ℕ, _+_}
 use mathlib.Core.List.{List, [], _∷_}

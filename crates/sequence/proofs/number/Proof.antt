@@ -19,6 +19,13 @@ Inv-loop f n₀ i₀ n i = (i ≤ length f) × (n < 10 ^ i) × (decimal n (drop 
 abbrev μ-loop : tie.MeasureT-loop
 μ-loop f n₀ i₀ n i = length f - i
 
+-- the places: the start, and the first digit tested
+abbrev start : tie.Else3 Inv-loop μ-loop → tie.Start Inv-loop μ-loop
+start c = c .before .before .before .before .before
+
+abbrev field : tie.At-loop Inv-loop μ-loop → List ℕ
+field l = start (l .before) .args .f .now
+
 returns : tie.Need-returns Inv-loop μ-loop
 returns c = number-none _ (c .if1 .taken)
 
@@ -38,10 +45,10 @@ shared-slice-read-b : tie.Need-shared-slice-read-b Inv-loop μ-loop
 shared-slice-read-b c = search needs
 
 returns-4 : tie.Need-returns-4 Inv-loop μ-loop
-returns-4 c = let l = c .before .before .before in let f : List ℕ = l .before .before .before .before .before .before .args .f .now in number-bad f (all-stop isDigit f (l .loop .i) (search needs) (between-low 0x30 0x39 (getD f (l .loop .i) 0) (c .if4 .taken)) (l .loop .inv .3))
+returns-4 c = let l = c .before .before .before in let f = field l in number-bad f (all-stop isDigit f (l .loop .i) (search needs) (between-low 0x30 0x39 (getD f (l .loop .i) 0) (c .if4 .taken)) (l .loop .inv .3))
 
 returns-5 : tie.Need-returns-5 Inv-loop μ-loop
-returns-5 c = let l = c .before .before .before .before in let f : List ℕ = l .before .before .before .before .before .before .args .f .now in number-bad f (all-stop isDigit f (l .loop .i) (search needs) (between-high 0x30 0x39 (getD f (l .loop .i) 0) (c .if5 .taken)) (l .loop .inv .3))
+returns-5 c = let l = c .before .before .before .before in let f = field l in number-bad f (all-stop isDigit f (l .loop .i) (search needs) (between-high 0x30 0x39 (getD f (l .loop .i) 0) (c .if5 .taken)) (l .loop .inv .3))
 
 mul-n : tie.Need-mul-n Inv-loop μ-loop
 mul-n c = omega (arith, six-digits _ _ (c .before .before .before .before .loop .inv .1) (omega arith))
@@ -60,14 +67,14 @@ loop-less c = search needs
 
 loop-again : tie.Need-loop-again Inv-loop μ-loop
 loop-again c = let l = c .before .before .before .before .before in
-    let f : List ℕ = l .before .before .before .before .before .before .args .f .now in
+    let f = field l in
     let w : c .wide .result ≡ getD f (l .loop .i) 0 - 48 = c .wide .ensures in
     let lt : l .loop .i < length f = omega arith in
     (search needs, tenfold _ _ _ (l .loop .inv .1) (omega arith), rw w (sym (decimal-more (l .loop .n) f (l .loop .i) lt) ∙ l .loop .inv .2), all-next isDigit f (l .loop .i) lt (between-yes 0x30 0x39 (getD f (l .loop .i) 0) (omega arith) (omega arith)) (l .loop .inv .3))
 
 returns-6 : tie.Need-returns-6 Inv-loop μ-loop
 returns-6 c = let l = c .before in
-    let f : List ℕ = l .before .before .before .before .before .before .args .f .now in
+    let f = field l in
     let le : length f ≤ l .loop .i = omega arith in
     let v : l .loop .n ≡ decimal 0 f = rw (drop-of-length-le f) at (l .loop .inv .2) in
     v ∙ number-is f (omega arith) (omega arith) (l .before .if3 .left) (all-done isDigit f (l .loop .i) le (l .loop .inv .3))

@@ -22,6 +22,16 @@ Inv-loop text table i₀ i =
 abbrev μ-loop : tie.MeasureT-loop
 μ-loop text table i₀ i = length text - i
 
+-- the places: the start, the loop's head, a byte that is no CR, and that was looked up
+abbrev start : tie.At-loop Inv-loop μ-loop → tie.Start Inv-loop μ-loop
+start l = l .before .before .before
+
+abbrev head : tie.Else1 Inv-loop μ-loop → tie.At-loop Inv-loop μ-loop
+head c = c .before .before .before
+
+abbrev no-cr : tie.After-is-marked Inv-loop μ-loop → tie.Else1 Inv-loop μ-loop
+no-cr c = c .before .before
+
 loop-holds : tie.Need-loop-holds Inv-loop μ-loop
 loop-holds c = (search needs, omega arith, refl)
 
@@ -31,15 +41,15 @@ shared-slice-read-b c = search needs
 returns : tie.Need-returns Inv-loop μ-loop
 returns c =
     let l = c .before .before .before in
-    scan-stop (l .before .before .before .args .text .now) (l .loop .i) (search needs) (eq-eqb _ _ (c .if1 .taken)) (l .loop .inv .1) (l .loop .inv .2)
+    scan-stop (start l .args .text .now) (l .loop .i) (search needs) (eq-eqb _ _ (c .if1 .taken)) (l .loop .inv .1) (l .loop .inv .2)
 
 is-marked-requires : tie.Need-is-marked-requires Inv-loop μ-loop
 is-marked-requires c κs = search needs
 
 returns-2 : tie.Need-returns-2 Inv-loop μ-loop
 returns-2 c =
-    let l = c .before .before .before .before .before .before in
-    scan-bad (l .before .before .before .args .text .now) (l .loop .i) (search needs) (ne-eqb _ _ (c .before .before .before .if1 .left))
+    let l = head (no-cr (c .before)) in
+    scan-bad (start l .args .text .now) (l .loop .i) (search needs) (ne-eqb _ _ (no-cr (c .before) .if1 .left))
     (sym (c .before .is-marked .ensures .1 (l .before .classes .ensures)) ∙ not-true _ (c .if2 .taken)) (l .loop .inv .2)
 
 add-i : tie.Need-add-i Inv-loop μ-loop
@@ -50,18 +60,18 @@ loop-less c = search needs
 
 loop-again : tie.Need-loop-again Inv-loop μ-loop
 loop-again c =
-    let l = c .before .before .before .before .before .before in
-    let s = l .before .before .before .args .text .now in (
+    let l = head (no-cr (c .before)) in
+    let s = start l .args .text .now in (
       search needs,
-      find-next (is cr) s (l .loop .i) (search needs) (ne-eqb _ _ (c .before .before .before .if1 .left)) (l .loop .inv .1),
-      scan-next s (l .loop .i) (search needs) (ne-eqb _ _ (c .before .before .before .if1 .left))
+      find-next (is cr) s (l .loop .i) (search needs) (ne-eqb _ _ (no-cr (c .before) .if1 .left)) (l .loop .inv .1),
+      scan-next s (l .loop .i) (search needs) (ne-eqb _ _ (no-cr (c .before) .if1 .left))
           (sym (c .before .is-marked .ensures .1 (l .before .classes .ensures)) ∙ not-false _ (c .if2 .left)) (l .loop .inv .2),
     )
 
 returns-3 : tie.Need-returns-3 Inv-loop μ-loop
 returns-3 c =
     let l = c .before in
-    scan-done (l .before .before .before .args .text .now) (l .loop .i) (search needs) (l .loop .inv .1) (l .loop .inv .2)
+    scan-done (start l .args .text .now) (l .loop .i) (search needs) (l .loop .inv .1) (l .loop .inv .2)
 
 pub scan-spec : {M : Type 1} → statement M
 scan-spec =

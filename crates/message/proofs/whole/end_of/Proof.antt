@@ -20,26 +20,36 @@ Inv-loop classes text i₀ i = (i < length text) × (i + find breaks (drop i tex
 abbrev μ-loop : tie.MeasureT-loop
 μ-loop classes text i₀ i = length text - i
 
+-- the places: the start, the loop's head, a first byte that is passed
+abbrev start : tie.At-loop Inv-loop μ-loop → tie.Start Inv-loop μ-loop
+start l = l .before .before
+
+abbrev head : tie.Then1 Inv-loop μ-loop → tie.At-loop Inv-loop μ-loop
+head c = c .before .before .before
+
+abbrev one-on : tie.Else2 Inv-loop μ-loop → tie.Then1 Inv-loop μ-loop
+one-on c = c .before .before .before
+
 -- the first byte of a turn is passed, and so is the second
 first-passed : (c : tie.Then1 Inv-loop μ-loop)
-    → let l = c .before .before .before in
-    let s = l .before .before .args .text .now in
+    → let l = head c in
+    let s = start l .args .text .now in
     (breaks (getD s (l .loop .i) 0) ≡ false) × (l .loop .i + 1 < length s)
 first-passed c =
-    let l = c .before .before .before in
-    let a = l .before .before in
+    let l = head c in
+    let a = start l in
     let s = a .args .text .now in
     let on : breaks (getD s (l .loop .i) 0) ≡ false = rw (sym (c .before .is-ordinary .ensures .1 (a .pre .0)) ∙ c .if1 .taken) in
     (on, not-last s (a .pre .1) (l .loop .i) (l .loop .inv .0) (unbroken (getD s (l .loop .i) 0) on .1))
 
 second-passed : (c : tie.Else2 Inv-loop μ-loop)
-    → let l = c .before .before .before .before .before .before in
-    let s = l .before .before .args .text .now in
+    → let l = head (one-on c) in
+    let s = start l .args .text .now in
     (breaks (getD s (l .loop .i + 1) 0) ≡ false) × (l .loop .i + 1 + 1 < length s)
 second-passed c =
-    let t = c .before .before .before in
-    let l = t .before .before .before in
-    let a = l .before .before in
+    let t = one-on c in
+    let l = head t in
+    let a = start l in
     let s = a .args .text .now in
     let on : breaks (getD s (l .loop .i + 1) 0) ≡ false = rw (sym (c .before .is-ordinary2 .ensures .1 (a .pre .0)) ∙ not-false _ (c .if2 .left)) in
     (on, not-last s (a .pre .1) (l .loop .i + 1) (first-passed t .1) (unbroken (getD s (l .loop .i + 1) 0) on .1))
@@ -68,8 +78,8 @@ add-result c = search needs
 returns : tie.Need-returns Inv-loop μ-loop
 returns c =
     let t = c .before .before .before in
-    let l = t .before .before .before in
-    let a = l .before .before in
+    let l = head t in
+    let a = start l in
     let s = a .args .text .now in
     let (on, lt) = first-passed t in
     let off : breaks (getD s (l .loop .i + 1) 0) ≡ true = rw (sym (c .before .is-ordinary2 .ensures .1 (a .pre .0)) ∙ not-true _ (c .if2 .taken)) in
@@ -83,9 +93,9 @@ loop-less c = search needs
 
 loop-again : tie.Need-loop-again Inv-loop μ-loop
 loop-again c =
-    let t = c .before .before .before in
-    let l = t .before .before .before in
-    let s = l .before .before .args .text .now in
+    let t = one-on c in
+    let l = head t in
+    let s = start l .args .text .now in
     let (on, lt) = first-passed t in
     let (on₂, lt₂) = second-passed c in
     let two : l .loop .i + 1 + 1 ≡ l .loop .i + 2 = omega arith in
@@ -94,7 +104,7 @@ loop-again c =
 returns-2 : tie.Need-returns-2 Inv-loop μ-loop
 returns-2 c =
     let l = c .before .before .before in
-    let a = l .before .before in
+    let a = start l in
     let s = a .args .text .now in
     let off : breaks (getD s (l .loop .i) 0) ≡ true = rw (sym (c .before .is-ordinary .ensures .1 (a .pre .0)) ∙ c .if1 .left) in
     find-stop breaks s (l .loop .i) (l .loop .inv .0) off (l .loop .inv .1)
