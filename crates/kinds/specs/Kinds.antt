@@ -58,7 +58,7 @@ among k (x ∷ xs) = eqb (letterOf k) (letterOf x) || among k xs
 unfoldable pub mayFollow : Kind → Kind → Bool
 mayFollow other k = among k (followersOf other)
 
--- L
+-- the type is L
 abbrev pub isTerminator : Kind → Bool
 isTerminator Header = false
 isTerminator Patient = false

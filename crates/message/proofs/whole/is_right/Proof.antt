@@ -158,7 +158,7 @@ returns-2 : tie.Need-returns-2 Inv-loop μ-loop
 returns-2 c =
     let o = c .before .before in
     let i = turn (leading o) in
-    let other : is cr (getD (tail i) (find breaks (tail i)) 0) ≡ false = ap (is cr) (breaking o) ∙ ne-eqb _ _ (c .if2 .taken) in
+    let other : is cr (getD (tail i) (find breaks (tail i)) 0) ≡ false = ap (is cr) (breaking o) ∙ ne-eqb (getD (tailAt (tail i) 2) (o .end-of .result) 0) cr (λ q. omega (arith, q, c .if2 .taken)) in
     sym (left-bad (marks i) (tallied i) (tail i) (cr-some (tail i) (ends i)) (broken-by-other (tail i) (break-within (tail i) (ends i)) other)) ∙ decides i
 
 add-at : tie.Need-add-at Inv-loop μ-loop
@@ -178,7 +178,7 @@ loop-again c =
     let at = head i .loop .at in
     let e = o .end-of .result in
     let next = countsOf (row p) (array p) in
-    let by-cr : is cr (getD (tail i) (find breaks (tail i)) 0) ≡ true = ap (is cr) (breaking o) ∙ eq-eqb _ _ (c .if2 .left) in
+    let by-cr : is cr (getD (tail i) (find breaks (tail i)) 0) ≡ true = ap (is cr) (breaking o) ∙ eq-eqb (getD (tailAt (tail i) 2) e 0) cr (omega (arith, c .if2 .left)) in
     let (same, clean) = broken-by-cr (tail i) (break-within (tail i) (ends i)) by-cr in
     let end : find (is cr) (tail i) + 1 ≡ e + 3 = omega (arith, found o) in
     let behind-is : behind cr (tail i) ≡ drop (at + (e + 3)) (all-of i) =

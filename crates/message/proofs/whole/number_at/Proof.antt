@@ -110,7 +110,7 @@ returns-5 c =
     let l = head (unended (c .before .before)) in
     let a = start l .args in
     let (lt, is-digit, below) = digit (c .before .before) in
-    read-zero (fieldAt (a .b) (a .text .now)) (l .loop .n) (l .loop .i) (l .loop .inv) lt (c .before .before .before .wrapping-sub-u8 .result) is-digit below (c .if5 .taken)
+    read-zero (fieldAt (a .b) (a .text .now)) (l .loop .n) (l .loop .i) (l .loop .inv) lt (c .before .before .before .wrapping-sub-u8 .result) is-digit below (omega (arith, c .if5 .taken))
 
 add-i : tie.Need-add-i Inv-loop μ-loop
 add-i c = omega (arith, head (unended (c .before .before)) .loop .inv .few)
@@ -123,7 +123,7 @@ loop-again c =
     let l = head (unended (c .before .before)) in
     let a = start l .args in
     let (lt, is-digit, below) = digit (c .before .before) in
-    read-more (fieldAt (a .b) (a .text .now)) (l .loop .n) (l .loop .i) (l .loop .inv) lt (c .before .before .before .wrapping-sub-u8 .result) is-digit below (c .before .if4 .left) (c .if5 .left)
+    read-more (fieldAt (a .b) (a .text .now)) (l .loop .n) (l .loop .i) (l .loop .inv) lt (c .before .before .before .wrapping-sub-u8 .result) is-digit below (c .before .if4 .left) (λ z. omega (arith, z, c .if5 .left))
 
 pub number-at-spec : {M : Type 1} → statement M
 number-at-spec =
