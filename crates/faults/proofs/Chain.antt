@@ -10,7 +10,8 @@ use Rattle.kinds.specs.Kinds.{letterOf, kindOf, mayFollow}
 use Rattle.kinds.specs.Header.{isHeader}
 use Rattle.records.specs.Records.{records}
 use Rattle.sequence.specs.Numbers.{started, counted}
-use Rattle.faults.specs.Message.{typeIn, numberIn, isNext, nextCounts, areNext, areRecords, isMessageBy}
+use Rattle.faults.specs.Message.{numberIn, areNext, areRecords, isMessageBy}
+use Rattle.faults.specs.Inner.Next.{comes, countsBehind}
 use Rattle.kinds.specs.declared.Delimiters.{Delimiters}
 use Rattle.sequence.specs.declared.Counts.{Counts}
 use Rattle.kinds.specs.declared.Letter.the-variants.{Known}
@@ -48,9 +49,9 @@ chain-rest : (d : Delimiters) (s : Counts) (rs : List (List ℕ)) → areNext d 
 chain-rest d s [] h = tt
 chain-rest d s (r ∷ rs) h =
     let t = typed d s r (and-left _ _ h) in
-    let next = nextCounts s (typeIn d r) (numberIn d r) in
+    let next = countsBehind d s r in
     let other : next .other ≡ otherOf (s .other) (t .kind) = ap (λ (u : Counts). u .other) (t .counts) ∙ counted-other s (t .kind) (numberIn d r) in
-    (t .kind, t .first, t .follows, rw other at (chain-rest d next rs (and-right (isNext s (typeIn d r) (numberIn d r)) _ h)))
+    (t .kind, t .first, t .follows, rw other at (chain-rest d next rs (and-right (comes d s r) _ h)))
 
 -- the records of a message: H and the chain behind it
 pub record Chained (rs : List (List ℕ)) : Type 0 where

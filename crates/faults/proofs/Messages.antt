@@ -20,7 +20,8 @@ use Rattle.kinds.specs.Delimiters.{standard}
 use Rattle.records.specs.Fields.{before, behind}
 use Rattle.records.specs.Records.{records, joined, none, isNotCr, endsWithCr, beginsWithL, endsWithL}
 use Rattle.sequence.specs.Numbers.{numberOf, started, countOf, counted}
-use Rattle.faults.specs.Message.{typeIn, numberIn, isNext, nextCounts, areNext, areRecords, isMessageBy, isMessage}
+use Rattle.faults.specs.Message.{typeIn, numberIn, isNext, areNext, areRecords, isMessageBy, isMessage}
+use Rattle.faults.specs.Inner.Next.{comes, countsBehind}
 use Rattle.kinds.specs.declared.Delimiters.{Delimiters}
 use Rattle.sequence.specs.declared.Counts.{Counts}
 use Rattle.kinds.specs.declared.Kind.{Kind}
@@ -62,7 +63,7 @@ pub record Typed (d : Delimiters) (s : Counts) (r : List ℕ) : Type 0 where
   pub kind : Kind
   pub first : kindOf (getD r 0 0) ≡ Known kind
   pub follows : mayFollow (s .other) kind ≡ true
-  pub counts : nextCounts s (typeIn d r) (numberIn d r) ≡ counted s kind (numberIn d r)
+  pub counts : countsBehind d s r ≡ counted s kind (numberIn d r)
   pub long : 3 ≤ length r
 
 -- a number is not empty, so something stands behind the letter and the delimiter
@@ -76,7 +77,7 @@ numbered b r n one e =
           absurd (omega (arith, number-none (before b (behind b r)) none, e))
     ]
 
-pub typed : (d : Delimiters) (s : Counts) (r : List ℕ) → isNext s (typeIn d r) (numberIn d r) ≡ true → Typed d s r
+pub typed : (d : Delimiters) (s : Counts) (r : List ℕ) → comes d s r ≡ true → Typed d s r
 typed d s r h = by-type (typeIn d r) refl h
   where
     by-type : (l : Letter) → typeIn d r ≡ l → isNext s l (numberIn d r) ≡ true → Typed d s r
@@ -104,19 +105,19 @@ l-behind s Terminator n h = refl
 l-behind s Comment n h = not-behind-l (s .other) Comment h
 l-behind s Manufacturer n h = not-behind-l (s .other) Manufacturer h
 
-begins-as-other : (d : Delimiters) (s : Counts) (r : List ℕ) → isNext s (typeIn d r) (numberIn d r) ≡ true
-    → beginsWithL r ≡ isTerminator ((nextCounts s (typeIn d r) (numberIn d r)) .other)
+begins-as-other : (d : Delimiters) (s : Counts) (r : List ℕ) → comes d s r ≡ true
+    → beginsWithL r ≡ isTerminator ((countsBehind d s r) .other)
 begins-as-other d s r h =
     let t = typed d s r h in
     l-names (getD r 0 0) (t .kind) (t .first) ∙ sym (l-behind s (t .kind) (numberIn d r) (t .follows)) ∙ sym (ap (λ (u : Counts). isTerminator (u .other)) (t .counts))
 
 -- among records of which each may come next, one begins with L exactly if none comes behind it
 rest-last : (d : Delimiters) (s : Counts) (rs : List (List ℕ)) (r : List ℕ) (ss : List (List ℕ)) → areNext d s (rs ++ r ∷ ss) ≡ true → beginsWithL r ≡ none ss
-rest-last d s [] r [] h = begins-as-other d s r (and-left _ _ h) ∙ and-right (isNext s (typeIn d r) (numberIn d r)) _ h
+rest-last d s [] r [] h = begins-as-other d s r (and-left _ _ h) ∙ and-right (comes d s r) _ h
 rest-last d s [] r (q ∷ ss) h =
-    let t = typed d (nextCounts s (typeIn d r) (numberIn d r)) q (and-left _ _ (and-right (isNext s (typeIn d r) (numberIn d r)) _ h)) in
-    begins-as-other d s r (and-left _ _ h) ∙ not-behind-l ((nextCounts s (typeIn d r) (numberIn d r)) .other) (t .kind) (t .follows)
-rest-last d s (x ∷ rs) r ss h = rest-last d (nextCounts s (typeIn d x) (numberIn d x)) rs r ss (and-right (isNext s (typeIn d x) (numberIn d x)) _ h)
+    let t = typed d (countsBehind d s r) q (and-left _ _ (and-right (comes d s r) _ h)) in
+    begins-as-other d s r (and-left _ _ h) ∙ not-behind-l ((countsBehind d s r) .other) (t .kind) (t .follows)
+rest-last d s (x ∷ rs) r ss h = rest-last d (countsBehind d s x) rs r ss (and-right (comes d s x) _ h)
 
 -- a header begins with H, and with the four delimiters has five bytes
 pub header : (d : Delimiters) (r : List ℕ) → isHeader d r ≡ true → (5 ≤ length r) × (getD r 0 0 ≡ letterOf Header)
@@ -135,7 +136,7 @@ rest-few : (d : Delimiters) (s : Counts) (rs : List (List ℕ)) → areNext d s 
 rest-few d s [] h = omega arith
 rest-few d s (r ∷ rs) h =
     let long : 3 ≤ length r = typed d s r (and-left _ _ h) .long in
-    let rest = rest-few d (nextCounts s (typeIn d r) (numberIn d r)) rs (and-right (isNext s (typeIn d r) (numberIn d r)) _ h) in
+    let rest = rest-few d (countsBehind d s r) rs (and-right (comes d s r) _ h) in
     rw (length-append r (cr ∷ joined rs)) (omega (arith, long, rest))
 
 all-few : (d : Delimiters) (rs : List (List ℕ)) → areRecords d rs ≡ true → length (joined rs) ≤ messageLimit → length rs ≤ recordsLimit

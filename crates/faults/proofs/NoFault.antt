@@ -17,6 +17,7 @@ use Rattle.kinds.specs.Header.{isHeader}
 use Rattle.records.specs.Records.{records, endsWithCr}
 use Rattle.sequence.specs.Numbers.{started, countOf, counted}
 use Rattle.faults.specs.Message.{typeIn, numberIn, isNext, nextCounts, areNext, areRecords, isMessageBy}
+use Rattle.faults.specs.Inner.Next.{comes, countsBehind}
 use Rattle.faults.specs.Faults.{kindStep, recordStep, headerStep, after, restFault, recordsFault, fault, isFaultless}
 use Rattle.kinds.specs.declared.Delimiters.{Delimiters}
 use Rattle.kinds.specs.declared.Letter.{Letter}
@@ -66,7 +67,7 @@ unfolding recordStep
 rest-right d s place r [] = last-right s (typeIn d r) (numberIn d r) place
 rest-right d s place r (q ∷ rs) =
     one-right s (typeIn d r) (numberIn d r) place (λ t. restFault d t (place + 1) (q ∷ rs))
-    ∙ ap (λ (b : Bool). isNext s (typeIn d r) (numberIn d r) && b) (rest-right d (nextCounts s (typeIn d r) (numberIn d r)) (place + 1) q rs)
+    ∙ ap (λ (b : Bool). comes d s r && b) (rest-right d (countsBehind d s r) (place + 1) q rs)
 
 records-right : (d : Delimiters) (rs : List (List ℕ)) → isFaultless (recordsFault d rs) ≡ areRecords d rs
 unfolding recordsFault headerStep

@@ -19,7 +19,8 @@ use Rattle.kinds.specs.Header.{isHeader}
 use Rattle.records.specs.Fields.{before, behind}
 use Rattle.records.specs.Records.{records, endsWithCr}
 use Rattle.sequence.specs.Numbers.{started}
-use Rattle.faults.specs.Message.{typeIn, numberIn, isNext, nextCounts, areNext, areRecords, isMessageBy}
+use Rattle.faults.specs.Message.{areNext, areRecords, isMessageBy}
+use Rattle.faults.specs.Inner.Next.{comes, countsBehind}
 use Rattle.message.specs.Inner.Rest.{breaks, rightRest}
 use Rattle.kinds.specs.declared.Delimiters.{Delimiters}
 use Rattle.sequence.specs.declared.Counts.{Counts}
@@ -60,21 +61,18 @@ module _ (d : Delimiters) (text : List ℕ) (short : length text ≤ messageLimi
 
 -- the first of the records that are left
 module _ (d : Delimiters) (s : Counts) (text : List ℕ) (some : 0 < length text) where
-  left : rightRest d s text
-      ≡ all allowed text
-      && (isNext s (typeIn d (before cr text)) (numberIn d (before cr text))
-      && areNext d (nextCounts s (typeIn d (before cr text)) (numberIn d (before cr text))) (records (behind cr text)))
+  left : rightRest d s text ≡ all allowed text && (comes d s (before cr text) && areNext d (countsBehind d s (before cr text)) (records (behind cr text)))
   unfolding rightRest
   left = ap (λ (rs : List (List ℕ)). all allowed text && areNext d s rs) (records-cons text some)
 
   pub left-bad : all allowed text ≡ false → rightRest d s text ≡ false
   left-bad h = left ∙ rw h
 
-  pub left-wrong : isNext s (typeIn d (before cr text)) (numberIn d (before cr text)) ≡ false → rightRest d s text ≡ false
+  pub left-wrong : comes d s (before cr text) ≡ false → rightRest d s text ≡ false
   left-wrong h = left ∙ rw h (and-not-right (all allowed text) false refl)
 
-  pub left-fine : (t : Counts) → isNext s (typeIn d (before cr text)) (numberIn d (before cr text)) ≡ true
-      → nextCounts s (typeIn d (before cr text)) (numberIn d (before cr text)) ≡ t → all allowed (before cr text) ≡ true
+  pub left-fine : (t : Counts) → comes d s (before cr text) ≡ true
+      → countsBehind d s (before cr text) ≡ t → all allowed (before cr text) ≡ true
       → rightRest d t (behind cr text) ≡ rightRest d s text
   unfolding rightRest
   left-fine t h e a = sym (left ∙ rw (h, e, all-parts text, a))

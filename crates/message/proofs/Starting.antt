@@ -19,6 +19,7 @@ use Rattle.records.specs.Fields.{before, behind}
 use Rattle.records.specs.Records.{endsWithCr}
 use Rattle.sequence.specs.Numbers.{numberOf, countOf}
 use Rattle.faults.specs.Message.{typeIn, numberIn, isNext}
+use Rattle.faults.specs.Inner.Next.{comes}
 use Rattle.message.specs.Inner.Rest.{breaks}
 use Rattle.kinds.specs.declared.Delimiters.{Delimiters}
 use Rattle.sequence.specs.declared.Counts.{Counts}
@@ -171,7 +172,7 @@ two-behind p (x ∷ y ∷ t) h = by-first (p x) (p y) h
 
 -- the first record's type and number, by what stands before the first b of the text
 module _ (d : Delimiters) (text : List ℕ) (ends : endsWithCr text ≡ true) where
-  pub untyped : (s : Counts) → typeOf (before (d .field) text) ≡ Unknown → isNext s (typeIn d (before cr text)) (numberIn d (before cr text)) ≡ false
+  pub untyped : (s : Counts) → typeOf (before (d .field) text) ≡ Unknown → comes d s (before cr text) ≡ false
   untyped s h =
       let b = d .field in
       elim (decLt (find (is b) text) (find (is cr) text)) [
@@ -234,12 +235,12 @@ module _ (d : Delimiters) (text : List ℕ) (ends : endsWithCr text ≡ true) wh
 
 -- so a record that may come next is broken off behind them
 pub next-passes : (d : Delimiters) (text : List ℕ) → endsWithCr text ≡ true → ordinary (d .field) ≡ true
-    → (s : Counts) → isNext s (typeIn d (before cr text)) (numberIn d (before cr text)) ≡ true
+    → (s : Counts) → comes d s (before cr text) ≡ true
     → (2 < length text) × (2 + find breaks (drop 2 text) ≡ find breaks text)
 next-passes d text ends o s next = by-type (typeOf (before (d .field) text)) refl
   where
     by-type : (l : Letter) → typeOf (before (d .field) text) ≡ l → (2 < length text) × (2 + find breaks (drop 2 text) ≡ find breaks text)
-    by-type Unknown e = never-both (isNext s (typeIn d (before cr text)) (numberIn d (before cr text))) next (untyped d text ends s e)
+    by-type Unknown e = never-both (comes d s (before cr text)) next (untyped d text ends s e)
     by-type (Known k) e =
         let plain = ordinary-plain (d .field) o in
         (three-bytes d text ends plain k e, two-passed d text ends plain k e o)

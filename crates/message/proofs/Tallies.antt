@@ -15,7 +15,8 @@ use Rattle.memory.proofs.Table.{values, entry}
 use Rattle.kinds.specs.Kinds.{mayFollow, isTerminator}
 use Rattle.kinds.specs.Inner.Rows.{rowOf, kindAt, letterRow}
 use Rattle.sequence.specs.Numbers.{countOf, counted}
-use Rattle.faults.specs.Message.{typeIn, numberIn, isNext, nextCounts}
+use Rattle.faults.specs.Message.{isNext}
+use Rattle.faults.specs.Inner.Next.{comes, countsBehind}
 use Rattle.message.specs.Inner.Rest.{countsOf, Tally, Held, LedTo}
 use Rattle.kinds.specs.declared.Delimiters.{Delimiters}
 use Rattle.sequence.specs.declared.Counts.{Counts}
@@ -110,29 +111,29 @@ module _ (other : ℕ) (ns : List ℕ) (n : ℕ) (tally : Tally other ns) (unend
 
 -- row 8 holds that a record may not come next, and another row with an array the counts behind it
 module _ (d : Delimiters) (s : Counts) (r : List ℕ) (other : ℕ) (ns : List ℕ) where
-  pub led-none : isNext s (typeIn d r) (numberIn d r) ≡ false → other ≡ 8 → LedTo d s r other ns
+  pub led-none : comes d s r ≡ false → other ≡ 8 → LedTo d s r other ns
   led-none e q = rw e q
 
-  pub led-some : isNext s (typeIn d r) (numberIn d r) ≡ true → countsOf other ns ≡ nextCounts s (typeIn d r) (numberIn d r) → Tally other ns → LedTo d s r other ns
+  pub led-some : comes d s r ≡ true → countsOf other ns ≡ countsBehind d s r → Tally other ns → LedTo d s r other ns
   led-some e q tally = rw e (sym q, tally)
 
-  pub none-led : LedTo d s r other ns → other ≡ 8 → isNext s (typeIn d r) (numberIn d r) ≡ false
-  none-led held e = by-next (isNext s (typeIn d r) (numberIn d r)) held
+  pub none-led : LedTo d s r other ns → other ≡ 8 → comes d s r ≡ false
+  none-led held e = by-next (comes d s r) held
     where
-      by-next : (b : Bool) → Held b (nextCounts s (typeIn d r) (numberIn d r)) other ns → b ≡ false
+      by-next : (b : Bool) → Held b (countsBehind d s r) other ns → b ≡ false
       by-next true h = absurd (omega (arith, h .1 .0))
       by-next false h = refl
 
   -- what it comes to that a record led to a row
   pub record Led : Type 0 where
-    pub next : isNext s (typeIn d r) (numberIn d r) ≡ true
-    pub counts : nextCounts s (typeIn d r) (numberIn d r) ≡ countsOf other ns
+    pub next : comes d s r ≡ true
+    pub counts : countsBehind d s r ≡ countsOf other ns
     pub tally : Tally other ns
 
   pub some-led : LedTo d s r other ns → (other ≡ 8 → ⊥) → Led
-  some-led held n = by-next (isNext s (typeIn d r) (numberIn d r)) refl held
+  some-led held n = by-next (comes d s r) refl held
     where
-      by-next : (b : Bool) → isNext s (typeIn d r) (numberIn d r) ≡ b → Held b (nextCounts s (typeIn d r) (numberIn d r)) other ns → Led
+      by-next : (b : Bool) → comes d s r ≡ b → Held b (countsBehind d s r) other ns → Led
       by-next true e h = record { next = e; counts = h .0; tally = h .1 }
       by-next false e h = absurd (n h)
 

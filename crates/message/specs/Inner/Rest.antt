@@ -10,7 +10,8 @@ use Rattle.characters.specs.Allowed.{allowed, ordinary}
 use Rattle.kinds.specs.Kinds.{mayFollow}
 use Rattle.kinds.specs.Inner.Rows.{kindAt}
 use Rattle.records.specs.Records.{records}
-use Rattle.faults.specs.Message.{typeIn, numberIn, isNext, nextCounts, areNext}
+use Rattle.faults.specs.Message.{areNext}
+use Rattle.faults.specs.Inner.Next.{comes, countsBehind}
 use Rattle.kinds.specs.declared.Delimiters.{Delimiters}
 use Rattle.sequence.specs.declared.Counts.{Counts}
 
@@ -37,7 +38,7 @@ Held false s other ns = other ≡ 8
 Held true s other ns = (s ≡ countsOf other ns) × Tally other ns
 
 abbrev pub LedTo : Delimiters → Counts → List ℕ → ℕ → List ℕ → Type 0
-LedTo d s r other ns = Held (isNext s (typeIn d r) (numberIn d r)) (nextCounts s (typeIn d r) (numberIn d r)) other ns
+LedTo d s r other ns = Held (comes d s r) (countsBehind d s r) other ns
 
 -- each entry of a table of followers is its rule's
 abbrev pub Follows : List (List Bool) → Type 0
