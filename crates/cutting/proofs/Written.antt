@@ -17,7 +17,7 @@ use Rattle.framing.specs.Writing.{frameOf, putIn, FramePut}
 use Rattle.frame.specs.declared.End.{End}
 use Rattle.framing.specs.declared.Written.{Written}
 use Rattle.framing.proofs.Put.{length-collected}
-use Rattle.faults.specs.Faults.{isMessage}
+use Rattle.faults.specs.Message.{isMessage}
 use Rattle.records.proofs.Scans.{tailAt, rest-part}
 use Rattle.cutting.specs.Pieces.{Piece, piecesOf}
 use Rattle.cutting.specs.Inner.Wholes.{bytesOf}

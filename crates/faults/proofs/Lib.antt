@@ -1,4 +1,5 @@
 pub mod Messages
+pub mod NoFault
 pub mod Chain
 pub mod Head
 pub mod FirstRecord

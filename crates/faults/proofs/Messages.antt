@@ -1,176 +1,150 @@
--- What is known of a message: its length, its bytes, its last byte, and that exactly its last record begins with L.
+-- What is known of a message: its length, its bytes, its last byte, how many records it has, and that exactly its last record begins with L.
 -- Assumes nothing.
 use mathlib.Core.Path.{_≡_, refl, ap, sym, _∙_}
-use mathlib.Core.Bool.{Bool, true, false, cond, _&&_}
+use mathlib.Core.Bool.{true, false, _&&_}
 use mathlib.Core.List.{List, [], _∷_, _++_}
-use Prim.Native.Nat.{ℕ, _+_, _<_, _≤_}
+use Prim.Native.Nat.{ℕ, _+_, _*_, _<_, _≤_}
 use native.Mathlib.Omega.{arith}
+use native.Mathlib.Decide.{decLt}
 use lib.Dec.{leb, eqb}
-use lib.ListN.{length, getD}
-use borrow.Author.Tests.{leb-true, eqb-true, eqb-false}
-use Rattle.memory.specs.Sizes.{messageLimit}
-use Rattle.memory.specs.Tests.{unless, all}
-use Rattle.memory.proofs.Tests.{and-left, and-right}
+use lib.ListN.{length, getD, length-append, length-drop}
+use borrow.Author.Tests.{leb-true, eqb-true}
+use Rattle.memory.specs.Sizes.{messageLimit, recordsLimit}
+use Rattle.memory.specs.Tests.{is, find, all}
+use Rattle.memory.proofs.Tests.{clash, and-left, and-right, never-both, find-le}
+use Rattle.characters.specs.Control.{cr}
 use Rattle.characters.specs.Allowed.{allowed}
-use Rattle.kinds.specs.Kinds.{letterOf, kindOf, typeOf, mayFollow, isTerminator}
+use Rattle.kinds.specs.Kinds.{letterOf, kindOf, mayFollow, isTerminator}
 use Rattle.kinds.specs.Header.{isHeader}
-use Rattle.records.specs.Fields.{before, fieldOf}
+use Rattle.kinds.specs.Delimiters.{standard}
+use Rattle.records.specs.Fields.{before, behind}
 use Rattle.records.specs.Records.{records, joined, none, isNotCr, endsWithCr, beginsWithL, endsWithL}
 use Rattle.sequence.specs.Numbers.{numberOf, started, countOf, counted}
-use Rattle.faults.specs.Faults.{placed, kindStep, recordStep, headerStep, after, restFault, recordsFault, fault, isFaultless, isMessageBy}
+use Rattle.faults.specs.Message.{typeIn, numberIn, isNext, areNext, areRecords, isMessageBy, isMessage}
+use Rattle.faults.specs.Inner.Next.{comes, countsBehind}
 use Rattle.kinds.specs.declared.Delimiters.{Delimiters}
 use Rattle.sequence.specs.declared.Counts.{Counts}
 use Rattle.kinds.specs.declared.Kind.{Kind}
 use Rattle.kinds.specs.declared.Kind.the-variants.{Header, Patient, Order, Result, Query, Terminator, Comment, Manufacturer}
 use Rattle.kinds.specs.declared.Letter.{Letter}
 use Rattle.kinds.specs.declared.Letter.the-variants.{Known, Unknown}
-use Rattle.faults.specs.declared.Step.{Step}
-use Rattle.faults.specs.declared.Step.the-variants.{Fine, Wrong}
-use Rattle.faults.specs.declared.Fault.{Fault}
-use Rattle.faults.specs.declared.Fault.the-variants.{NoHeader, Misplaced, WrongNumber}
-use Rattle.faults.specs.declared.Checked.{Checked}
-use Rattle.faults.specs.declared.Checked.the-variants.{NotText, Faulty}
+use Rattle.kinds.proofs.Following.{h-first, not-behind-l}
 use Rattle.kinds.proofs.Naming.{letter, l-names}
+use Rattle.sequence.proofs.Decimal.{number-none}
 use Rattle.records.proofs.Scans.{before-length, before-first}
 use Rattle.records.proofs.Joined.{every-at, no-cr, joined-records, joined-begins}
 
--- what the four tests of a message passed
+-- what the tests of a message passed
 pub record Sound (d : Delimiters) (m : List ℕ) : Type 0 where
+  pub some : 0 < length m
   pub short : length m ≤ messageLimit
   pub clean : all allowed m ≡ true
-  pub some : 0 < length m
   pub ended : endsWithCr m ≡ true
-  pub right : isFaultless (recordsFault d (records m)) ≡ true
-
-tests : (a b e : Bool) (f g : Fault) (n k : ℕ) (x : Checked) → isFaultless (unless a NotText (cond b (Faulty f n) (unless e (Faulty g k) x))) ≡ true
-    → (a ≡ true) × (b ≡ false) × (e ≡ true) × (isFaultless x ≡ true)
-tests true true e f g n k x h = let z : _≡_ {A = ℕ} 0 1 = cc in absurd (omega arith)
-tests true false true f g n k x h = (refl, refl, refl, h)
-tests true false false f g n k x h = let z : _≡_ {A = ℕ} 0 1 = cc in absurd (omega arith)
-tests false b e f g n k x h = let z : _≡_ {A = ℕ} 0 1 = cc in absurd (omega arith)
+  pub right : areRecords d (records m) ≡ true
 
 pub sound : (d : Delimiters) (m : List ℕ) → isMessageBy d m ≡ true → Sound d m
-unfolding fault
+unfolding isMessageBy
 sound d m h =
-    let (text, some, ended, right) =
-    tests (leb (length m) messageLimit && all allowed m) (eqb (length m) 0) (endsWithCr m) _ _ _ _ (recordsFault d (records m)) h in
-    let long : length m ≡ 0 → ⊥ = eqb-false (length m) 0 some in
+    let within = leb 1 (length m) && leb (length m) messageLimit in
+    let ended = and-left (within && all allowed m && endsWithCr m) (areRecords d (records m)) h in
+    let clean = and-left (within && all allowed m) (endsWithCr m) ended in
+    let sized = and-left within (all allowed m) clean in
+    let some : 1 ≤ length m = leb-true 1 (length m) (and-left (leb 1 (length m)) (leb (length m) messageLimit) sized) in
     record {
-      short = leb-true (length m) messageLimit (and-left (leb (length m) messageLimit) (all allowed m) text);
-      clean = and-right (leb (length m) messageLimit) (all allowed m) text;
       some = omega arith;
-      ended = ended;
-      right = right;
+      short = leb-true (length m) messageLimit (and-right (leb 1 (length m)) (leb (length m) messageLimit) sized);
+      clean = and-right within (all allowed m) clean;
+      ended = and-right (within && all allowed m) (endsWithCr m) ended;
+      right = and-right (within && all allowed m && endsWithCr m) (areRecords d (records m)) h;
     }
 
--- a record that passed: what its step left, and what comes behind it passed too
-pub record Passed (st : Step) (go : Counts → Checked) : Type 0 where
-  pub next : Counts
-  pub fine : st ≡ Fine next
-  pub rest : isFaultless (go next) ≡ true
-
-pub passed : (st : Step) (place : ℕ) (go : Counts → Checked) → isFaultless (after st place go) ≡ true → Passed st go
-passed (Fine t) place go h = record { next = t; fine = refl; rest = h }
-passed (Wrong f) place go h = let z : _≡_ {A = ℕ} 0 1 = cc in absurd (omega arith)
-
--- a record behind the first that passed: its type, by its first byte, and what it followed
-pub record Typed (s t : Counts) (last : Bool) (r : List ℕ) : Type 0 where
+-- a record that may come next: its type, by its first byte, what it followed, and its least length, a letter, a delimiter and a digit
+pub record Typed (d : Delimiters) (s : Counts) (r : List ℕ) : Type 0 where
   pub kind : Kind
   pub first : kindOf (getD r 0 0) ≡ Known kind
   pub follows : mayFollow (s .other) kind ≡ true
-  pub place : placed last kind ≡ true
-  pub number : ℕ
-  pub counts : t ≡ counted s kind number
+  pub counts : countsBehind d s r ≡ counted s kind (numberIn d r)
+  pub long : 3 ≤ length r
 
-known : (s t : Counts) (last : Bool) (k : Kind) (n : ℕ) → kindStep s last (Known k) n ≡ Fine t
-    → (mayFollow (s .other) k ≡ true) × (placed last k ≡ true) × (t ≡ counted s k n)
-unfolding kindStep
-known s t last k n h = by-tests (mayFollow (s .other) k) (placed last k) (eqb n (countOf s k + 1)) h
-  where
-    by-tests : (a b e : Bool) → unless (a && b) (Wrong Misplaced) (unless e (Wrong WrongNumber) (Fine (counted s k n))) ≡ Fine t
-        → (a ≡ true) × (b ≡ true) × (t ≡ counted s k n)
-    by-tests true true true g = (refl, refl, cc)
-    by-tests true true false g = let z : _≡_ {A = ℕ} 0 1 = cc in absurd (omega arith)
-    by-tests true false e g = let z : _≡_ {A = ℕ} 0 1 = cc in absurd (omega arith)
-    by-tests false b e g = let z : _≡_ {A = ℕ} 0 1 = cc in absurd (omega arith)
+-- a number is not empty, so something stands behind the letter and the delimiter
+numbered : (b : ℕ) (r : List ℕ) (n : ℕ) → find (is b) r ≡ 1 → numberOf (before b (behind b r)) ≡ n + 1 → 3 ≤ length r
+numbered b r n one e =
+    elim (decLt 2 (length r)) [
+      | yes long ↦ omega arith
+      | no short ↦
+          let left : length (behind b r) ≡ 0 = length-drop (find (is b) r + 1) r ∙ omega (arith, one, short) in
+          let none : length (before b (behind b r)) ≡ 0 = omega (arith, left, before-length b (behind b r), find-le (is b) (behind b r)) in
+          absurd (omega (arith, number-none (before b (behind b r)) none, e))
+    ]
 
-pub typed : (d : Delimiters) (s t : Counts) (last : Bool) (r : List ℕ) → recordStep d s last r ≡ Fine t → Typed s t last r
-unfolding recordStep kindStep
-typed d s t last r h = by-type (typeOf (before (d .field) r)) refl h
+pub typed : (d : Delimiters) (s : Counts) (r : List ℕ) → comes d s r ≡ true → Typed d s r
+typed d s r h = by-type (typeIn d r) refl h
   where
-    by-type : (l : Letter) → typeOf (before (d .field) r) ≡ l → kindStep s last l (numberOf (fieldOf (d .field) 2 r)) ≡ Fine t → Typed s t last r
-    by-type Unknown e g = let z : _≡_ {A = ℕ} 0 1 = cc in absurd (omega arith)
+    by-type : (l : Letter) → typeIn d r ≡ l → isNext s l (numberIn d r) ≡ true → Typed d s r
+    by-type Unknown e g = never-both false g refl
     by-type (Known k) e g =
-        let (one, named) = letter (before (d .field) r) k e in
-        let (follows, place, counts) = known s t last k (numberOf (fieldOf (d .field) 2 r)) g in
+        let b = d .field in
+        let (one, named) = letter (before b r) k e in
+        let at-one : find (is b) r ≡ 1 = sym (before-length b r) ∙ one in
         record {
           kind = k;
-          first = sym (ap kindOf (before-first (d .field) r (sym (before-length (d .field) r) ∙ one))) ∙ named;
-          follows = follows;
-          place = place;
-          number = numberOf (fieldOf (d .field) 2 r);
-          counts = counts;
+          first = sym (ap kindOf (before-first b r at-one)) ∙ named;
+          follows = and-left (mayFollow (s .other) k) (eqb (numberIn d r) (countOf s k + 1)) g;
+          counts = rw e;
+          long = numbered b r (countOf s k) at-one (eqb-true (numberIn d r) (countOf s k + 1) (and-right (mayFollow (s .other) k) (eqb (numberIn d r) (countOf s k + 1)) g));
         }
 
--- nothing follows L
-nothing-after : (s t : Counts) (k : Kind) (n : ℕ) (q : Kind) → t ≡ counted s k n → mayFollow (t .other) q ≡ true → isTerminator k ≡ false
-unfolding mayFollow
-nothing-after s t Terminator n q h f =
-    let l : t .other ≡ Terminator = ap (λ (u : Counts). u .other) h in
-    let no = rw l at f in
-    let z : _≡_ {A = ℕ} 0 1 = cc in
-    absurd (omega arith)
-nothing-after s t Header n q h f = refl
-nothing-after s t Patient n q h f = refl
-nothing-after s t Order n q h f = refl
-nothing-after s t Result n q h f = refl
-nothing-after s t Query n q h f = refl
-nothing-after s t Comment n q h f = refl
-nothing-after s t Manufacturer n q h f = refl
+-- behind a record of type k that may follow, the last other record is L exactly if k is
+pub l-behind : (s : Counts) (k : Kind) (n : ℕ) → mayFollow (s .other) k ≡ true → isTerminator ((counted s k n) .other) ≡ isTerminator k
+l-behind s Header n h = never-both (mayFollow (s .other) Header) h (h-first (s .other))
+l-behind s Patient n h = refl
+l-behind s Order n h = refl
+l-behind s Result n h = refl
+l-behind s Query n h = refl
+l-behind s Terminator n h = refl
+l-behind s Comment n h = not-behind-l (s .other) Comment h
+l-behind s Manufacturer n h = not-behind-l (s .other) Manufacturer h
 
--- among records that passed, one begins with L exactly if none comes behind it
-rest-last : (d : Delimiters) (s : Counts) (place : ℕ) (rs : List (List ℕ)) (r : List ℕ) (ss : List (List ℕ))
-    → isFaultless (restFault d s place (rs ++ r ∷ ss)) ≡ true → beginsWithL r ≡ none ss
-rest-last d s place [] r [] h =
-    let p = passed (recordStep d s true r) place (λ t. restFault d t (place + 1) []) h in
-    let t = typed d s (p .next) true r (p .fine) in
-    l-names (getD r 0 0) (t .kind) (t .first) ∙ t .place
-rest-last d s place [] r (q ∷ ss) h =
-    let p = passed (recordStep d s false r) place (λ t. restFault d t (place + 1) (q ∷ ss)) h in
-    let t = typed d s (p .next) false r (p .fine) in
-    let p₂ = passed (recordStep d (p .next) (none ss) q) (place + 1) (λ t. restFault d t (place + 1 + 1) ss) (p .rest) in
-    let t₂ = typed d (p .next) (p₂ .next) (none ss) q (p₂ .fine) in
-    l-names (getD r 0 0) (t .kind) (t .first) ∙ nothing-after s (p .next) (t .kind) (t .number) (t₂ .kind) (t .counts) (t₂ .follows)
-rest-last d s place (x ∷ rs) r ss h =
-    let p = passed (recordStep d s (none (rs ++ r ∷ ss)) x) place (λ t. restFault d t (place + 1) (rs ++ r ∷ ss)) h in
-    rest-last d (p .next) (place + 1) rs r ss (p .rest)
+begins-as-other : (d : Delimiters) (s : Counts) (r : List ℕ) → comes d s r ≡ true
+    → beginsWithL r ≡ isTerminator ((countsBehind d s r) .other)
+begins-as-other d s r h =
+    let t = typed d s r h in
+    l-names (getD r 0 0) (t .kind) (t .first) ∙ sym (l-behind s (t .kind) (numberIn d r) (t .follows)) ∙ sym (ap (λ (u : Counts). isTerminator (u .other)) (t .counts))
 
--- the first record that passed
-pub header : (d : Delimiters) (r : List ℕ) → isHeader d r ≡ true → getD r 0 0 ≡ letterOf Header
+-- among records of which each may come next, one begins with L exactly if none comes behind it
+rest-last : (d : Delimiters) (s : Counts) (rs : List (List ℕ)) (r : List ℕ) (ss : List (List ℕ)) → areNext d s (rs ++ r ∷ ss) ≡ true → beginsWithL r ≡ none ss
+rest-last d s [] r [] h = begins-as-other d s r (and-left _ _ h) ∙ and-right (comes d s r) _ h
+rest-last d s [] r (q ∷ ss) h =
+    let t = typed d (countsBehind d s r) q (and-left _ _ (and-right (comes d s r) _ h)) in
+    begins-as-other d s r (and-left _ _ h) ∙ not-behind-l ((countsBehind d s r) .other) (t .kind) (t .follows)
+rest-last d s (x ∷ rs) r ss h = rest-last d (countsBehind d s x) rs r ss (and-right (comes d s x) _ h)
+
+-- a header begins with H, and with the four delimiters has five bytes
+pub header : (d : Delimiters) (r : List ℕ) → isHeader d r ≡ true → (5 ≤ length r) × (getD r 0 0 ≡ letterOf Header)
 unfolding isHeader
 header d r h =
-    eqb-true (getD r 0 0) (letterOf Header)
-    (and-right (leb 5 (length r)) _ (and-left _ _ (and-left _ _ (and-left _ _ (and-left _ _ h)))))
+    let two = and-left _ _ (and-left _ _ (and-left _ _ (and-left _ _ h))) in
+    (leb-true 5 (length r) (and-left (leb 5 (length r)) _ two), eqb-true (getD r 0 0) (letterOf Header) (and-right (leb 5 (length r)) _ two))
 
-pub headed : (d : Delimiters) (last : Bool) (r : List ℕ) (t : Counts) → headerStep d last r ≡ Fine t → (isHeader d r ≡ true) × (last ≡ false) × (t ≡ started)
-unfolding headerStep
-headed d last r t h = by-tests (isHeader d r) last h
-  where
-    by-tests : (a b : Bool) → unless a (Wrong NoHeader) (cond b (Wrong Misplaced) (Fine started)) ≡ Fine t → (a ≡ true) × (b ≡ false) × (t ≡ started)
-    by-tests true true g = let z : _≡_ {A = ℕ} 0 1 = cc in absurd (omega arith)
-    by-tests true false g = (refl, refl, cc)
-    by-tests false b g = let z : _≡_ {A = ℕ} 0 1 = cc in absurd (omega arith)
+all-last : (d : Delimiters) (rs : List (List ℕ)) (r : List ℕ) (ss : List (List ℕ)) → areRecords d (rs ++ r ∷ ss) ≡ true → beginsWithL r ≡ none ss
+all-last d [] r [] h = never-both false (and-right (isHeader d r) false h) refl
+all-last d [] r (q ∷ ss) h = rw (header d r (and-left (isHeader d r) _ h) .1)
+all-last d (x ∷ rs) r ss h = rest-last d started rs r ss (and-right (isHeader d x) _ h)
 
-all-last : (d : Delimiters) (rs : List (List ℕ)) (r : List ℕ) (ss : List (List ℕ))
-    → isFaultless (recordsFault d (rs ++ r ∷ ss)) ≡ true → beginsWithL r ≡ none ss
-unfolding recordsFault
-all-last d [] r ss h =
-    let p = passed (headerStep d (none ss) r) 1 (λ t. restFault d t 2 ss) h in
-    let (is-header, not-last, begun) = headed d (none ss) r (p .next) (p .fine) in
-    rw (header d r is-header) (sym not-last)
-all-last d (x ∷ rs) r ss h =
-    let p = passed (headerStep d (none (rs ++ r ∷ ss)) x) 1 (λ t. restFault d t 2 (rs ++ r ∷ ss)) h in
-    rest-last d (p .next) 2 rs r ss (p .rest)
+-- how many there can be
+rest-few : (d : Delimiters) (s : Counts) (rs : List (List ℕ)) → areNext d s rs ≡ true → length rs * 4 ≤ length (joined rs)
+rest-few d s [] h = omega arith
+rest-few d s (r ∷ rs) h =
+    let long : 3 ≤ length r = typed d s r (and-left _ _ h) .long in
+    let rest = rest-few d (countsBehind d s r) rs (and-right (comes d s r) _ h) in
+    rw (length-append r (cr ∷ joined rs)) (omega (arith, long, rest))
+
+all-few : (d : Delimiters) (rs : List (List ℕ)) → areRecords d rs ≡ true → length (joined rs) ≤ messageLimit → length rs ≤ recordsLimit
+all-few d [] h le = omega arith
+all-few d (r ∷ rs) h le =
+    let long : 5 ≤ length r = header d r (and-left (isHeader d r) _ h) .0 in
+    let rest = rest-few d started rs (and-right (isHeader d r) _ h) in
+    omega (arith, long, rest, rw (length-append r (cr ∷ joined rs)) at le)
 
 -- a list that is not empty ends with its last element
 record Ending (rs : List (List ℕ)) : Type 0 where
@@ -218,11 +192,17 @@ module _ (d : Delimiters) (m : List ℕ) (h : isMessageBy d m ≡ true) where
 
   -- the whole message is decided: its last record begins with L
   pub message-decided : endsWithL m ≡ true
-  unfolding recordsFault
   message-decided = by-records (records m) refl
     where
       by-records : (rs : List (List ℕ)) → records m ≡ rs → endsWithL m ≡ true
-      by-records [] e = let no = rw e at (sound d m h .right) in let z : _≡_ {A = ℕ} 0 1 = cc in absurd (omega arith)
+      by-records [] e = let no : false ≡ true = rw e at (sound d m h .right) in clash cc
       by-records (x ∷ rs) e =
           let l = ending x rs in
           ap endsWithL (sym message-joined ∙ ap joined (e ∙ l .whole)) ∙ cut-decided (l .front) (l .last) [] (e ∙ l .whole)
+
+  -- it has not more records than the limit allows
+  few-records : length (records m) ≤ recordsLimit
+  few-records = all-few d (records m) (sound d m h .right) (rw message-joined message-short)
+
+pub message-records : (text : List ℕ) → isMessage text ≡ true → length (records text) ≤ recordsLimit
+message-records text h = few-records standard text h

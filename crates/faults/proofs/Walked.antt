@@ -18,7 +18,7 @@ use Rattle.characters.specs.Allowed.{allowed}
 use Rattle.records.specs.Fields.{before}
 use Rattle.records.specs.Records.{records, none, endsWithCr}
 use Rattle.faults.specs.Faults.{after, headerStep, recordStep, restFault, recordsFault, fault}
-use Rattle.faults.specs.Progress.{reached, further, endedAs}
+use Rattle.faults.specs.Inner.Progress.{reached, further, endedAs}
 use Rattle.kinds.specs.declared.Delimiters.{Delimiters}
 use Rattle.faults.specs.declared.Step.{Step}
 use Rattle.faults.specs.declared.Step.the-variants.{Fine, Wrong}

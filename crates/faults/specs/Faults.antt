@@ -1,4 +1,4 @@
--- When a text is a message, and the first fault of one that is not: its kind, and its record's place, counted from 1.
+-- The first fault of a text that is no message: its kind, and its record's place, counted from 1 (document 02, request [1]).
 -- Assumes nothing.
 use Prim.Native.Nat.{ℕ, _+_}
 use mathlib.Core.List.{List, [], _∷_}
@@ -8,12 +8,12 @@ use lib.ListN.{length}
 use Rattle.memory.specs.Sizes.{messageLimit}
 use Rattle.memory.specs.Tests.{unless, all}
 use Rattle.characters.specs.Allowed.{allowed}
-use Rattle.kinds.specs.Kinds.{typeOf, mayFollow, isTerminator}
+use Rattle.kinds.specs.Kinds.{mayFollow, isTerminator}
 use Rattle.kinds.specs.Header.{isHeader}
 use Rattle.kinds.specs.Delimiters.{standard}
-use Rattle.records.specs.Fields.{fieldOf}
 use Rattle.records.specs.Records.{records, none, endsWithCr}
-use Rattle.sequence.specs.Numbers.{numberOf, started, countOf, counted}
+use Rattle.sequence.specs.Numbers.{started, countOf, counted}
+use Rattle.faults.specs.Message.{typeIn, numberIn}
 use Rattle.kinds.specs.declared.Kind.{Kind}
 use Rattle.kinds.specs.declared.Letter.{Letter}
 use Rattle.kinds.specs.declared.Letter.the-variants.{Known, Unknown}
@@ -39,7 +39,7 @@ kindStep s last (Known k) n =
     (unless (eqb n (countOf s k + 1)) (Wrong WrongNumber) (Fine (counted s k n)))
 
 unfoldable pub recordStep : Delimiters → Counts → Bool → List ℕ → Step
-recordStep d s last r = kindStep s last (typeOf (fieldOf (d .field) 1 r)) (numberOf (fieldOf (d .field) 2 r))
+recordStep d s last r = kindStep s last (typeIn d r) (numberIn d r)
 
 -- the first record: a header and, as it is no L, not the last
 unfoldable pub headerStep : Delimiters → Bool → List ℕ → Step
@@ -67,23 +67,15 @@ fault d text =
     (cond (eqb (length text) 0) (Faulty NoHeader 1)
     (unless (endsWithCr text) (Faulty Unended (length (records text))) (recordsFault d (records text))))
 
--- no fault
+-- there is none: the text is a message (the law `no-fault`)
 abbrev pub isFaultless : Checked → Bool
 isFaultless Message = true
 isFaultless NotText = false
 isFaultless (Faulty f place) = false
 
--- a text is a message by these delimiters
-abbrev pub isMessageBy : Delimiters → List ℕ → Bool
-isMessageBy d text = isFaultless (fault d text)
-
 -- what is wrong with a text first, read by the delimiters in force: today the standard ones
 abbrev pub faultOf : List ℕ → Checked
 faultOf text = fault standard text
-
--- a text is a message: no fault by the delimiters in force
-abbrev pub isMessage : List ℕ → Bool
-isMessage text = isMessageBy standard text
 
 -- the number of a fault's kind in document 02, request [1]
 abbrev pub faultNumber : Fault → ℕ

@@ -1,2 +1,3 @@
+pub mod Message
 pub mod Faults
-pub mod Progress
+pub mod Inner

@@ -5,7 +5,7 @@ ghost use Rattle.memory.specs.Tests.{is, find, all};
 ghost use Rattle.characters.specs.Control.{cr};
 ghost use Rattle.characters.specs.Allowed.{allowed};
 ghost use Rattle.records.specs.Fields.{before};
-ghost use Rattle.faults.specs.Progress.{reached, further, endedAs};
+ghost use Rattle.faults.specs.Inner.Progress.{reached, further, endedAs};
 use crate::Checked;
 use crate::Fault;
 use crate::Progress;

@@ -3,7 +3,7 @@
 use mathlib.Core.Path.{_≡_, refl}
 use Prim.Native.Nat.{_<_}
 use lib.Dec.{lit<}
-use Rattle.kinds.specs.Kinds.{rowOf, kindAt}
+use Rattle.kinds.specs.Inner.Rows.{rowOf, kindAt}
 use Rattle.kinds.specs.declared.Kind.{Kind}
 use Rattle.kinds.specs.declared.Kind.the-variants.{Header, Patient, Order, Result, Query, Terminator, Comment, Manufacturer}
 

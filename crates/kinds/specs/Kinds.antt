@@ -58,26 +58,7 @@ among k (x ∷ xs) = eqb (letterOf k) (letterOf x) || among k xs
 unfoldable pub mayFollow : Kind → Kind → Bool
 mayFollow other k = among k (followersOf other)
 
--- the row of a type in the table of followers
-abbrev pub rowOf : Kind → ℕ
-rowOf Header = 0
-rowOf Patient = 1
-rowOf Order = 2
-rowOf Result = 3
-rowOf Query = 4
-rowOf Terminator = 5
-rowOf Comment = 6
-rowOf Manufacturer = 7
-
--- and the type of a row
-abbrev pub kindAt : ℕ → Kind
-kindAt i = getD (Header ∷ Patient ∷ Order ∷ Result ∷ Query ∷ Terminator ∷ Comment ∷ Manufacturer ∷ []) i Header
-
--- the row of what a letter names; 8 where it names no type
-abbrev pub letterRow : Letter → ℕ
-letterRow (Known k) = rowOf k
-letterRow Unknown = 8
-
+-- the type is L
 abbrev pub isTerminator : Kind → Bool
 isTerminator Header = false
 isTerminator Patient = false

@@ -1,3 +1,4 @@
 pub mod Delimiters
 pub mod Kinds
 pub mod Header
+pub mod Inner

@@ -1,8 +1,9 @@
 // The delimiters of a message, the types of its records, and what may follow what.
 ghost use mathlib.Core.Path.{_≡_};
 ghost use Rattle.kinds.specs.Delimiters.{standard};
-ghost use Rattle.kinds.specs.Kinds.{kindOf, mayFollow, rowOf};
+ghost use Rattle.kinds.specs.Kinds.{kindOf, mayFollow};
 ghost use Rattle.kinds.specs.Header.{isHeader};
+ghost use Rattle.kinds.specs.Inner.Rows.{rowOf};
 
 // The delimiters of a message: between fields, between repeats, between components, and around an escape.
 pub struct Delimiters {

@@ -15,7 +15,7 @@ use Rattle.characters.specs.Control.{cr}
 use Rattle.characters.specs.Allowed.{allowed, ordinary}
 use Rattle.records.specs.Fields.{before}
 use Rattle.records.specs.Records.{endsWithCr}
-use Rattle.message.specs.Rest.{breaks}
+use Rattle.message.specs.Inner.Rest.{breaks}
 use Rattle.records.proofs.Scans.{find-upto}
 
 -- CR breaks a record off; a byte that does not is allowed and no CR

@@ -5,7 +5,7 @@ use mathlib.Core.Bool.{Bool}
 use mathlib.Core.List.{List}
 use Prim.Native.Nat.{ℕ}
 use Rattle.kinds.specs.declared.Delimiters.{Delimiters}
-use Rattle.faults.specs.Faults.{isMessage, isMessageBy}
+use Rattle.faults.specs.Message.{isMessage, isMessageBy}
 
 -- `is_message_by` and, at the standard delimiters, `is_message`
 pub message-once : (d : Delimiters) (text : List ℕ) {r q : Bool} → r ≡ isMessageBy d text → q ≡ isMessageBy d text → r ≡ q

@@ -1,7 +1,7 @@
 -- What the bytes at the start of a text that ends with CR tell of its first record, before the end of that is known.
 -- Assumes nothing.
 use mathlib.Core.Path.{_≡_, refl, ap, sym, _∙_}
-use mathlib.Core.Bool.{Bool, true, false, not, cond, _&&_}
+use mathlib.Core.Bool.{Bool, true, false, not, cond}
 use mathlib.Core.List.{List, [], _∷_}
 use Prim.Native.Nat.{ℕ, suc, _+_, _<_, _≤_, min}
 use native.Mathlib.Omega.{arith}
@@ -10,25 +10,23 @@ use lib.Dec.{eqb}
 use lib.ListN.{length, getD, take, drop, drop-of-length-le}
 use lib.Seq.{take-take, getD-take}
 use borrow.Author.Tests.{eqb-true, ne-eqb}
-use Rattle.memory.specs.Tests.{unless, is, find}
-use Rattle.memory.proofs.Tests.{find-le, find-next, never-both}
+use Rattle.memory.specs.Tests.{is, find}
+use Rattle.memory.proofs.Tests.{and-not-right, find-le, find-next, never-both}
 use Rattle.characters.specs.Control.{cr}
 use Rattle.characters.specs.Allowed.{allowed, ordinary}
 use Rattle.kinds.specs.Kinds.{letterOf, kindOf, typeOf, mayFollow}
 use Rattle.records.specs.Fields.{before, behind}
 use Rattle.records.specs.Records.{endsWithCr}
-use Rattle.sequence.specs.Numbers.{numberOf, countOf, counted}
-use Rattle.faults.specs.Faults.{kindStep, recordStep}
-use Rattle.message.specs.Rest.{breaks}
+use Rattle.sequence.specs.Numbers.{numberOf, countOf}
+use Rattle.faults.specs.Message.{typeIn, numberIn, isNext}
+use Rattle.faults.specs.Inner.Next.{comes}
+use Rattle.message.specs.Inner.Rest.{breaks}
 use Rattle.kinds.specs.declared.Delimiters.{Delimiters}
 use Rattle.sequence.specs.declared.Counts.{Counts}
 use Rattle.kinds.specs.declared.Kind.{Kind}
 use Rattle.kinds.specs.declared.Kind.the-variants.{Header, Patient, Order, Result, Query, Terminator, Comment, Manufacturer}
 use Rattle.kinds.specs.declared.Letter.{Letter}
 use Rattle.kinds.specs.declared.Letter.the-variants.{Known, Unknown}
-use Rattle.faults.specs.declared.Step.the-variants.{Fine, Wrong}
-use Rattle.faults.specs.declared.Fault.{Fault}
-use Rattle.faults.specs.declared.Fault.the-variants.{UnknownType, Misplaced, WrongNumber}
 use Rattle.sequence.proofs.Decimal.{number-none}
 use Rattle.records.proofs.Scans.{find-hit, find-upto, before-length, before-first}
 use Rattle.kinds.proofs.Naming.{letter}
@@ -157,18 +155,10 @@ no-second b s le =
     let k : length (before cr s) ≤ find (is b) (before cr s) + 1 = omega (arith, before-length cr s) in
     drop-of-length-le (before cr s) k
 
--- a record without a number is wrong
-numberless : (s : Counts) (l : Letter) → (f : Fault) × (kindStep s false l 0 ≡ Wrong f)
-unfolding kindStep
-numberless s Unknown = (UnknownType, refl)
-numberless s (Known k) = by-follower (mayFollow (s .other) k)
-  where
-    uncounted : eqb 0 (countOf s k + 1) ≡ false
-    uncounted = ne-eqb 0 (countOf s k + 1) (λ e. omega arith)
-
-    by-follower : (a : Bool) → (f : Fault) × (unless (a && true) (Wrong Misplaced) (unless (eqb 0 (countOf s k + 1)) (Wrong WrongNumber) (Fine (counted s k 0))) ≡ Wrong f)
-    by-follower true = (WrongNumber, rw uncounted)
-    by-follower false = (Misplaced, refl)
+-- a record without a number may not come next
+numberless : (s : Counts) (l : Letter) → isNext s l 0 ≡ false
+numberless s Unknown = refl
+numberless s (Known k) = and-not-right (mayFollow (s .other) k) (eqb 0 (countOf s k + 1)) (ne-eqb 0 (countOf s k + 1) (λ e. omega arith))
 
 two-behind : (p : ℕ → Bool) (s : List ℕ) → 1 < find p s → drop 2 (take (find p s) s) ≡ take (find p (drop 2 s)) (drop 2 s)
 two-behind p [] h = absurd (omega arith)
@@ -180,14 +170,13 @@ two-behind p (x ∷ y ∷ t) h = by-first (p x) (p y) h
     by-first false true k = absurd (omega arith)
     by-first false false k = refl
 
--- the first record's step, by what stands before the first b of the text
+-- the first record's type and number, by what stands before the first b of the text
 module _ (d : Delimiters) (text : List ℕ) (ends : endsWithCr text ≡ true) where
-  pub untyped : (s : Counts) → typeOf (before (d .field) text) ≡ Unknown → (f : Fault) × (recordStep d s false (before cr text) ≡ Wrong f)
-  unfolding recordStep kindStep
+  pub untyped : (s : Counts) → typeOf (before (d .field) text) ≡ Unknown → comes d s (before cr text) ≡ false
   untyped s h =
       let b = d .field in
       elim (decLt (find (is b) text) (find (is cr) text)) [
-        | yes lt ↦ (UnknownType, rw (first-field b text lt, h))
+        | yes lt ↦ rw (first-field b text lt, h)
         | no ge ↦
             let le : find (is cr) text ≤ find (is b) text = omega arith in
             let none : 0 ≡ numberOf (before b (behind b (before cr text))) = rw (no-second b text le) (number-none [] refl) in
@@ -236,21 +225,22 @@ module _ (d : Delimiters) (text : List ℕ) (ends : endsWithCr text ≡ true) wh
         let second : breaks (getD text 1 0) ≡ false = ap breaks (second-is (omega (arith, three-bytes))) ∙ ap not o in
         find-next breaks text 1 (omega (arith, three-bytes)) second (find-next breaks text 0 (omega (arith, three-bytes)) first (omega arith))
 
-    pub typed-step : (s : Counts) → recordStep d s false (before cr text) ≡ kindStep s false (Known k) (numberOf (fieldAt (d .field) (drop 2 text)))
-    unfolding recordStep
-    typed-step s =
-        let b = d .field in
-        let lt : find (is b) text < find (is cr) text = omega (arith, at-one, cr-later) in
-        let known : typeOf (before b (before cr text)) ≡ Known k = rw (first-field b text lt) h in
-        rw (known, known-second b (before cr text) k known, two-behind (is cr) text cr-later)
+    pub type-is : typeIn d (before cr text) ≡ Known k
+    type-is =
+        let lt : find (is (d .field)) text < find (is cr) text = omega (arith, at-one, cr-later) in
+        ap typeOf (first-field (d .field) text lt) ∙ h
 
--- so a record without a fault is broken off behind them
-pub fine-passes : (d : Delimiters) (text : List ℕ) → endsWithCr text ≡ true → ordinary (d .field) ≡ true → (s t : Counts) → recordStep d s false (before cr text) ≡ Fine t
+    pub number-is : numberIn d (before cr text) ≡ numberOf (fieldAt (d .field) (drop 2 text))
+    number-is = ap numberOf (known-second (d .field) (before cr text) k type-is) ∙ ap (λ (f : List ℕ). numberOf (before (d .field) f)) (two-behind (is cr) text cr-later)
+
+-- so a record that may come next is broken off behind them
+pub next-passes : (d : Delimiters) (text : List ℕ) → endsWithCr text ≡ true → ordinary (d .field) ≡ true
+    → (s : Counts) → comes d s (before cr text) ≡ true
     → (2 < length text) × (2 + find breaks (drop 2 text) ≡ find breaks text)
-fine-passes d text ends o s t fine = by-type (typeOf (before (d .field) text)) refl
+next-passes d text ends o s next = by-type (typeOf (before (d .field) text)) refl
   where
     by-type : (l : Letter) → typeOf (before (d .field) text) ≡ l → (2 < length text) × (2 + find breaks (drop 2 text) ≡ find breaks text)
-    by-type Unknown e = let (f, wrong) = untyped d text ends s e in let z : _≡_ {A = ℕ} 0 1 = cc in absurd (omega arith)
+    by-type Unknown e = never-both (comes d s (before cr text)) next (untyped d text ends s e)
     by-type (Known k) e =
         let plain = ordinary-plain (d .field) o in
         (three-bytes d text ends plain k e, two-passed d text ends plain k e o)

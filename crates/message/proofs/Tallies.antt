@@ -1,7 +1,7 @@
 -- What the last other record's row and an array of counts hold: the next number of a type, and the counts behind a record.
 -- Assumes nothing.
-use mathlib.Core.Path.{_≡_, refl, ap, sym, _∙_}
-use mathlib.Core.Bool.{true, false}
+use mathlib.Core.Path.{_≡_, refl, sym, _∙_}
+use mathlib.Core.Bool.{Bool, true, false}
 use mathlib.Core.List.{List}
 use Prim.Native.Nat.{ℕ, _+_, _<_, _≤_}
 use native.Mathlib.Omega.{arith}
@@ -10,21 +10,20 @@ use lib.Dec.{eqb}
 use lib.ListN.{length, getD, set}
 use lib.Seq.{ext-getD}
 use borrow.Author.Tests.{eq-eqb, ne-eqb}
-use Rattle.memory.proofs.Tests.{never-both}
+use Rattle.memory.proofs.Tests.{and-not-right, never-both}
 use Rattle.memory.proofs.Table.{values, entry}
-use Rattle.kinds.specs.Kinds.{mayFollow, rowOf, kindAt, letterRow, isTerminator}
+use Rattle.kinds.specs.Kinds.{mayFollow, isTerminator}
+use Rattle.kinds.specs.Inner.Rows.{rowOf, kindAt, letterRow}
 use Rattle.sequence.specs.Numbers.{countOf, counted}
-use Rattle.faults.specs.Faults.{kindStep}
-use Rattle.message.specs.Rest.{countsOf, Tally, LedTo}
+use Rattle.faults.specs.Message.{isNext}
+use Rattle.faults.specs.Inner.Next.{comes, countsBehind}
+use Rattle.message.specs.Inner.Rest.{countsOf, Tally, Held, LedTo}
+use Rattle.kinds.specs.declared.Delimiters.{Delimiters}
 use Rattle.sequence.specs.declared.Counts.{Counts}
 use Rattle.kinds.specs.declared.Kind.{Kind}
 use Rattle.kinds.specs.declared.Kind.the-variants.{Header, Patient, Order, Result, Query, Terminator, Comment, Manufacturer}
 use Rattle.kinds.specs.declared.Letter.{Letter}
 use Rattle.kinds.specs.declared.Letter.the-variants.{Known, Unknown}
-use Rattle.faults.specs.declared.Step.{Step}
-use Rattle.faults.specs.declared.Step.the-variants.{Fine, Wrong}
-use Rattle.faults.specs.declared.Fault.{Fault}
-use Rattle.faults.specs.declared.Fault.the-variants.{Misplaced, WrongNumber}
 use Rattle.kinds.proofs.Rows.{row-lt}
 use Rattle.kinds.proofs.Following.{l-last, h-first}
 
@@ -69,19 +68,16 @@ row-some other Terminator f = omega arith
 row-some other Comment f = omega arith
 row-some other Manufacturer f = omega arith
 
--- the step of a record of type k with number n: it may not follow, its number is not the next, or it is counted
+-- a record of type k with number n: it may not follow, its number is not the next, or it may come next
 module _ (s : Counts) (k : Kind) (n : ℕ) where
-  pub step-misplaced : mayFollow (s .other) k ≡ false → kindStep s false (Known k) n ≡ Wrong Misplaced
-  unfolding kindStep
-  step-misplaced f = rw f
+  pub misplaced : mayFollow (s .other) k ≡ false → isNext s (Known k) n ≡ false
+  misplaced f = rw f
 
-  pub step-miscounted : mayFollow (s .other) k ≡ true → (n ≡ countOf s k + 1 → ⊥) → kindStep s false (Known k) n ≡ Wrong WrongNumber
-  unfolding kindStep
-  step-miscounted f e = rw (f, ne-eqb n (countOf s k + 1) e)
+  pub miscounted : (n ≡ countOf s k + 1 → ⊥) → isNext s (Known k) n ≡ false
+  miscounted e = and-not-right (mayFollow (s .other) k) (eqb n (countOf s k + 1)) (ne-eqb n (countOf s k + 1) e)
 
-  pub step-fine : mayFollow (s .other) k ≡ true → n ≡ countOf s k + 1 → kindStep s false (Known k) n ≡ Fine (counted s k n)
-  unfolding kindStep
-  step-fine f e = rw (f, eq-eqb n (countOf s k + 1) e)
+  pub may-come : mayFollow (s .other) k ≡ true → n ≡ countOf s k + 1 → isNext s (Known k) n ≡ true
+  may-come f e = rw (f, eq-eqb n (countOf s k + 1) e)
 
 -- the counts behind a record of a row with number n, as another row and array hold them
 abbrev Counting : ℕ → List ℕ → ℕ → ℕ → ℕ → List ℕ → Type 0
@@ -113,20 +109,33 @@ module _ (other : ℕ) (ns : List ℕ) (n : ℕ) (tally : Tally other ns) (unend
             ]
       ]
 
--- a step held by row 8, or by a row and an array that hold its counts
-pub led-wrong : {st : Step} (ns : List ℕ) → (f : Fault) × (st ≡ Wrong f) → LedTo st 8 ns
-led-wrong ns w = rw (w .1)
+-- row 8 holds that a record may not come next, and another row with an array the counts behind it
+module _ (d : Delimiters) (s : Counts) (r : List ℕ) (other : ℕ) (ns : List ℕ) where
+  pub led-none : comes d s r ≡ false → other ≡ 8 → LedTo d s r other ns
+  led-none e q = rw e q
 
-pub led-fine : {st : Step} {t : Counts} (other : ℕ) (ns : List ℕ) → st ≡ Fine t → countsOf other ns ≡ t → Tally other ns → LedTo st other ns
-led-fine other ns e q tally = rw e (sym q, tally)
+  pub led-some : comes d s r ≡ true → countsOf other ns ≡ countsBehind d s r → Tally other ns → LedTo d s r other ns
+  led-some e q tally = rw e (sym q, tally)
 
-pub led-none : (st : Step) (other : ℕ) (ns : List ℕ) → LedTo st other ns → other ≡ 8 → (f : Fault) × (st ≡ Wrong f)
-led-none (Fine s) other ns led e = absurd (omega (arith, led .1 .0))
-led-none (Wrong f) other ns led e = (f, refl)
+  pub none-led : LedTo d s r other ns → other ≡ 8 → comes d s r ≡ false
+  none-led held e = by-next (comes d s r) held
+    where
+      by-next : (b : Bool) → Held b (countsBehind d s r) other ns → b ≡ false
+      by-next true h = absurd (omega (arith, h .1 .0))
+      by-next false h = refl
 
-pub led-some : (st : Step) (other : ℕ) (ns : List ℕ) → LedTo st other ns → (other ≡ 8 → ⊥) → (st ≡ Fine (countsOf other ns)) × Tally other ns
-led-some (Fine s) other ns led n = (ap Fine (led .0), led .1)
-led-some (Wrong f) other ns led n = absurd (n led)
+  -- what it comes to that a record led to a row
+  pub record Led : Type 0 where
+    pub next : comes d s r ≡ true
+    pub counts : countsBehind d s r ≡ countsOf other ns
+    pub tally : Tally other ns
+
+  pub some-led : LedTo d s r other ns → (other ≡ 8 → ⊥) → Led
+  some-led held n = by-next (comes d s r) refl held
+    where
+      by-next : (b : Bool) → comes d s r ≡ b → Held b (countsBehind d s r) other ns → Led
+      by-next true e h = record { next = e; counts = h .0; tally = h .1 }
+      by-next false e h = absurd (n h)
 
 -- row 5 is L's
 pub l-row : (other : ℕ) → other < 8 → eqb other 5 ≡ isTerminator (kindAt other)

@@ -1,6 +1,6 @@
 // Whether a text is a message, in one walk that asks for no fault and no place.
 ghost use mathlib.Core.Path.{_≡_};
-ghost use Rattle.faults.specs.Faults.{isMessage, isMessageBy};
+ghost use Rattle.faults.specs.Message.{isMessage, isMessageBy};
 use characters::CR;
 use kinds::Delimiters;
 

@@ -6,12 +6,12 @@ ghost use lib.ListN.{length};
 ghost use Rattle.memory.specs.Tests.{find};
 ghost use Rattle.characters.specs.Control.{cr};
 ghost use Rattle.characters.specs.Allowed.{ordinary, classTable};
-ghost use Rattle.kinds.specs.Kinds.{kindOf, typeOf, kindAt, letterRow};
+ghost use Rattle.kinds.specs.Kinds.{kindOf, typeOf};
+ghost use Rattle.kinds.specs.Inner.Rows.{kindAt, letterRow};
 ghost use Rattle.records.specs.Fields.{before};
 ghost use Rattle.records.specs.Records.{endsWithCr};
 ghost use Rattle.sequence.specs.Numbers.{numberOf, started, counted};
-ghost use Rattle.faults.specs.Faults.{recordStep};
-ghost use Rattle.message.specs.Rest.{breaks, rightRest, countsOf, Tally, LedTo, Follows};
+ghost use Rattle.message.specs.Inner.Rest.{breaks, rightRest, countsOf, Tally, LedTo, Follows};
 use kinds::Delimiters;
 
 // The rows of the table of followers; and what stands for none, and for a fault.
@@ -146,7 +146,7 @@ fn lead(
     text: &[u8],
 ) -> usize
     requires { ⌜ (d .field ≡ cr → ⊥) × Follows (now followers) × Tally other (now counts) × (endsWithCr (now text) ≡ true) ⌝ }
-    ensures { λ r. ⌜ LedTo (recordStep d (countsOf other (now (counts .entry))) false (before cr (now (text .entry)))) r (now (counts .exit)) ⌝ }
+    ensures { λ r. ⌜ LedTo d (countsOf other (now (counts .entry))) (before cr (now (text .entry))) r (now (counts .exit)) ⌝ }
 {
     let row = row_at(d.field, text);
     if row == NO_ROW {

@@ -2,7 +2,7 @@
 // A host keeps the state in plain numbers in its own memory, and lends it to each call; nothing is kept between calls.
 ghost use mathlib.Core.Path.{_≡_};
 ghost use Rattle.looking.specs.declared.Kind.the-variants.{Byte, Seconds};
-ghost use Rattle.faults.specs.Faults.{isMessage};
+ghost use Rattle.faults.specs.Message.{isMessage};
 ghost use Rattle.layout.specs.Layout.{layout, Fresh};
 ghost use Rattle.calls.specs.Calls.{Calling, Taken};
 ghost use Rattle.texts.specs.Texts.{CutFrames, Escaped, Unescaped, RecordsRead};

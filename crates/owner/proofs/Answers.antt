@@ -15,7 +15,7 @@ use Rattle.memory.proofs.Tests.{and-left, and-right}
 use Rattle.memory.proofs.Parts.{sets-splice}
 use Rattle.characters.specs.Control.{cr}
 use Rattle.records.specs.Records.{onto, records}
-use Rattle.faults.specs.Faults.{isMessageBy}
+use Rattle.faults.specs.Message.{isMessageBy}
 use Rattle.kinds.specs.declared.Delimiters.{Delimiters}
 use Rattle.owner.specs.declared.Reading.the-variants.{Read, Malformed, NotFitting}
 use Rattle.owner.specs.Nearest.{nearestOwners}

@@ -14,7 +14,7 @@ use lib.Seq.{getD-drop, drop-drop}
 use Rattle.characters.specs.Control.{cr}
 use Rattle.kinds.specs.Kinds.{letterOf, kindOf, mayFollow}
 use Rattle.records.specs.Records.{records}
-use Rattle.faults.specs.Faults.{isMessageBy}
+use Rattle.faults.specs.Message.{isMessageBy}
 use Rattle.kinds.specs.declared.Delimiters.{Delimiters}
 use Rattle.kinds.specs.declared.Letter.{Letter}
 use Rattle.kinds.specs.declared.Letter.the-variants.{Known}

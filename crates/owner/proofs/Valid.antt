@@ -9,7 +9,7 @@ use lib.ListN.{length, getD}
 use Rattle.characters.specs.Control.{cr}
 use Rattle.kinds.specs.Kinds.{letterOf, kindOf, mayFollow}
 use Rattle.records.specs.Records.{records}
-use Rattle.faults.specs.Faults.{isMessageBy}
+use Rattle.faults.specs.Message.{isMessageBy}
 use Rattle.kinds.specs.declared.Delimiters.{Delimiters}
 use Rattle.kinds.specs.declared.Letter.the-variants.{Known}
 use Rattle.kinds.specs.declared.Kind.{Kind}

@@ -9,7 +9,7 @@ use lib.ListN.{length}
 use Rattle.memory.specs.Tests.{unless}
 use Rattle.memory.specs.Parts.{splice}
 use Rattle.records.specs.Records.{records}
-use Rattle.faults.specs.Faults.{isMessageBy}
+use Rattle.faults.specs.Message.{isMessageBy}
 use Rattle.kinds.specs.declared.Delimiters.{Delimiters}
 use Rattle.owner.specs.Owners.{typesOf, ownersOf}
 use Rattle.owner.specs.declared.Reading.{Reading}

@@ -8,7 +8,7 @@ use lib.Dec.{eqb}
 use lib.ListN.{length}
 use Rattle.memory.specs.Sizes.{lines}
 use Rattle.memory.proofs.Tests.{clash}
-use Rattle.faults.specs.Faults.{isMessage}
+use Rattle.faults.specs.Message.{isMessage}
 use Rattle.faults.proofs.Messages.{message-some, message-short}
 use Rattle.room.specs.Room.{todaysShares}
 use Rattle.journal_laws.specs.Runs.{State as Store}

@@ -20,7 +20,7 @@ use Rattle.frame.specs.Shape.{aroundText}
 use Rattle.framing.specs.Writing.{frameOf}
 use Rattle.frame.specs.declared.End.{End}
 use Rattle.framing.proofs.ReadBack.{early, long}
-use Rattle.faults.specs.Faults.{isMessage}
+use Rattle.faults.specs.Message.{isMessage}
 use Rattle.faults.proofs.Messages.{message-short, message-allowed}
 use Rattle.line.specs.Line.{acceptedLine}
 use Rattle.line.specs.Turn.{isLast}

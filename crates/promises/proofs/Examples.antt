@@ -8,7 +8,7 @@ use Rattle.digits.specs.Check.{total, checkOf, hexDigit, digitsOf}
 use Rattle.digits.specs.Number.{nextNumber}
 use Rattle.framing.specs.Writing.{bodyOf, tailOf, collectedOf, frameOf}
 use Rattle.kinds.specs.Header.{isHeader}
-use Rattle.faults.specs.Faults.{kindStep, recordStep, headerStep, recordsFault, fault}
+use Rattle.faults.specs.Message.{isMessageBy}
 use Rattle.kinds.specs.Kinds.{kindOf, typeOf, mayFollow}
 use Rattle.sequence.specs.Numbers.{numberOf}
 use Rattle.cutting.specs.Frames.{cutOf}
@@ -22,5 +22,5 @@ pub thirteen : length examples ≡ 13
 thirteen = refl
 
 pub shown : map (λ (x : Example). x .gives) examples ≡ map (λ (x : Example). x .says) examples
-unfolding allowed total checkOf hexDigit digitsOf nextNumber bodyOf tailOf collectedOf frameOf kindStep recordStep isHeader headerStep recordsFault fault kindOf typeOf mayFollow numberOf cutOf piecesOf headSize claims grown
+unfolding allowed total checkOf hexDigit digitsOf nextNumber bodyOf tailOf collectedOf frameOf isMessageBy isHeader kindOf typeOf mayFollow numberOf cutOf piecesOf headSize claims grown
 shown = refl

@@ -12,7 +12,7 @@ use Rattle.memory.specs.Sizes.{frameLimit, journalSize, unfinishedSize, framesS
 use Rattle.digits.specs.Check.{checkOf, hexDigit, digitsOf, total}
 use Rattle.digits.specs.Number.{nextNumber}
 use Rattle.framing.specs.Writing.{bodyOf, tailOf, collectedOf, frameOf}
-use Rattle.faults.specs.Faults.{isMessage}
+use Rattle.faults.specs.Message.{isMessage}
 use Rattle.cutting.specs.Frames.{cutOf}
 use Rattle.cutting.specs.Pieces.{piecesOf}
 use Rattle.header.specs.Header.{headSize}

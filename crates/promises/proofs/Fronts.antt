@@ -7,7 +7,7 @@ use Prim.Native.Nat.{ℕ}
 use Rattle.memory.specs.Tests.{all}
 use Rattle.memory.proofs.Tests.{and-left, and-right}
 use Rattle.characters.specs.Control.{cr}
-use Rattle.faults.specs.Faults.{isMessageBy}
+use Rattle.faults.specs.Message.{isMessageBy}
 use Rattle.records.specs.Records.{records, joined, none, isNotCr, endsWithCr, endsWithL}
 use Rattle.kinds.specs.declared.Delimiters.{Delimiters}
 use Rattle.records.proofs.Joined.{every, no-cr, records-first, joined-records}

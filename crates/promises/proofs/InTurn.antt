@@ -9,7 +9,7 @@ use borrow.Author.Tests.{eq-eqb}
 use lib.ListN.{length, getD}
 use Rattle.memory.specs.Sizes.{lines, frameLimit}
 use Rattle.memory.specs.Parts.{splice}
-use Rattle.faults.specs.Faults.{isMessage}
+use Rattle.faults.specs.Message.{isMessage}
 use Rattle.header.specs.Entry.{Entry}
 use Rattle.journal.specs.Entries.{from}
 use Rattle.room.specs.Room.{todaysShares}

@@ -10,7 +10,7 @@ use lib.Seq.{getD-append-add}
 use Rattle.memory.specs.Tests.{is}
 use Rattle.characters.specs.Control.{cr}
 use Rattle.frame.specs.declared.End.the-variants.{Etb, Etx}
-use Rattle.faults.specs.Faults.{isMessage}
+use Rattle.faults.specs.Message.{isMessage}
 use Rattle.records.specs.Records.{records, none, onto, endsWithCr}
 use Rattle.faults.proofs.Messages.{message-ends, message-decided}
 use Rattle.cutting.specs.Pieces.{endAfter}

@@ -9,7 +9,7 @@ use native.Mathlib.Omega.{arith}
 use lib.Dec.{eqb}
 use lib.ListN.{length}
 use Rattle.memory.specs.Sizes.{lines}
-use Rattle.faults.specs.Faults.{isMessage}
+use Rattle.faults.specs.Message.{isMessage}
 use Rattle.faults.proofs.Messages.{message-some, message-short}
 use Rattle.journal.specs.Answers.{isFits}
 use Rattle.room.specs.Room.{todaysShares}

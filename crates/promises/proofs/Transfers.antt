@@ -11,7 +11,7 @@ use Rattle.memory.specs.Sizes.{lines, frameLimit}
 use Rattle.memory.proofs.Parts.{part-start}
 use Rattle.digits.specs.Number.{nextNumber}
 use Rattle.framing.specs.Writing.{frameOf}
-use Rattle.faults.specs.Faults.{isMessage}
+use Rattle.faults.specs.Message.{isMessage}
 use Rattle.faults.proofs.Messages.{message-some, message-short}
 use Rattle.cutting.specs.Pieces.{Piece, piecesOf}
 use Rattle.cutting.specs.Frames.{firstNumber, framesFrom, cutOf}

@@ -14,7 +14,7 @@ use Rattle.frame.specs.Shape.{aroundText}
 use Rattle.framing.specs.Writing.{frameOf}
 use Rattle.frame.specs.declared.End.{End}
 use Rattle.framing.proofs.ReadBack.{early, long}
-use Rattle.faults.specs.Faults.{isMessage}
+use Rattle.faults.specs.Message.{isMessage}
 use Rattle.cutting.specs.Pieces.{Piece, piece, pieceSize, piecesOf, endAfter, throughCr}
 use Rattle.cutting.specs.Frames.{framesFrom}
 use Rattle.cutting.proofs.Steps.{turn, firstPiece}

@@ -7,7 +7,7 @@ use lib.ListN.{length, getD, replicate, set}
 use Rattle.memory.specs.Sizes.{lines, frameLimit}
 use Rattle.characters.specs.Control.{etb, etx}
 use Rattle.digits.specs.Check.{checkOf, digitsOf}
-use Rattle.faults.specs.Faults.{isMessage}
+use Rattle.faults.specs.Message.{isMessage}
 use Rattle.cutting.specs.Frames.{cutOf}
 use Rattle.header.specs.Header.{entrySize}
 use Rattle.room.specs.Room.{todaysShares, fits}

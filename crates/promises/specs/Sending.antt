@@ -10,7 +10,7 @@ use lib.ListN.{length, getD, replicate}
 use Rattle.memory.specs.Sizes.{lines, frameLimit, journalSize, unfinishedSize, framesSize}
 use Rattle.memory.specs.Parts.{splice}
 use Rattle.frame.specs.Shape.{aroundText, leastCollected}
-use Rattle.faults.specs.Faults.{isMessage}
+use Rattle.faults.specs.Message.{isMessage}
 use Rattle.cutting.specs.Pieces.{Piece, piecesOf}
 use Rattle.cutting.specs.Frames.{firstNumber, framesFrom, cutOf}
 use Rattle.line.specs.Line.{freshLine, withinLimits}

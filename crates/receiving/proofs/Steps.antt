@@ -11,7 +11,7 @@ use lib.Dec.{ltb, leb}
 use Rattle.memory.specs.Sizes.{lines, messageLimit}
 use Rattle.memory.specs.Tests.{unless}
 use Rattle.memory.proofs.Tests.{and-left, and-right}
-use Rattle.faults.specs.Faults.{isMessage}
+use Rattle.faults.specs.Message.{isMessage}
 use Rattle.room.specs.Room.{todaysShares}
 use Rattle.journal.specs.Verdicts.{judgeOf}
 use Rattle.journal.specs.declared.Ledger.{Ledger}

@@ -14,7 +14,8 @@ use borrow.Author.Tests.{ne-eqb}
 use Rattle.memory.specs.Tests.{all}
 use Rattle.memory.proofs.Tests.{and-not-right, all-append, is-false}
 use Rattle.characters.specs.Control.{cr}
-use Rattle.records.specs.Records.{isNotCr, behindLastCr, lastStart, beginsWithL}
+use Rattle.records.specs.Records.{isNotCr, behindLastCr, beginsWithL}
+use Rattle.records.specs.Inner.Starts.{lastStart}
 
 -- a text with no CR is all behind it
 pub lacks-behind : (s : List ℕ) → all isNotCr s ≡ true → behindLastCr s ≡ s

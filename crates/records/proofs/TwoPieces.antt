@@ -11,7 +11,8 @@ use lib.Seq.{drop-cons, take-append-add, getD-append-add}
 use borrow.Author.Tests.{ne-eqb}
 use Rattle.memory.specs.Tests.{all}
 use Rattle.characters.specs.Control.{cr}
-use Rattle.records.specs.Records.{isNotCr, behindLastCr, lastStart, lastRecord, beginsWithL, endsWithL, endingOf}
+use Rattle.records.specs.Records.{isNotCr, behindLastCr, lastRecord, beginsWithL, endsWithL, endingOf}
+use Rattle.records.specs.Inner.Starts.{lastStart}
 use Rattle.records.specs.declared.Ending.the-variants.{WithoutCr, WithL, WithOther}
 use Rattle.records.proofs.LastRecord.{behind-drop, behind-join-has, behind-join-lacks, lacks-behind, start-has, start-lacks, first-byte}
 

@@ -41,10 +41,6 @@ abbrev pub behindLastCr : List ℕ → List ℕ
 behindLastCr [] = []
 behindLastCr (b ∷ bs) = cond (isNotCr b && all isNotCr bs) (b ∷ bs) (behindLastCr bs)
 
--- where they start
-abbrev pub lastStart : List ℕ → ℕ
-lastStart text = length text - length (behindLastCr text)
-
 -- of a text that ends with CR: what stands between the last CR but one, or the start, and the last CR
 unfoldable pub lastRecord : List ℕ → List ℕ
 lastRecord text = behindLastCr (take (length text - 1) text)

@@ -4,7 +4,8 @@ ghost use mathlib.Core.List.{_++_};
 ghost use Prim.Native.Nat.{_-_, _<_};
 ghost use lib.ListN.{length, getD};
 ghost use Rattle.characters.specs.Control.{cr};
-ghost use Rattle.records.specs.Records.{lastStart, endsWithL, endingOf};
+ghost use Rattle.records.specs.Records.{endsWithL, endingOf};
+ghost use Rattle.records.specs.Inner.Starts.{lastStart};
 use super::Ending;
 use characters::CR;
 

@@ -7,7 +7,7 @@ use borrow.Author.Needs.{needs}
 use borrow.Author.Tests.{not-true, not-false}
 use denote.Ref.{now}
 use lib.ListN.{length}
-use Rattle.faults.specs.Faults.{isMessage}
+use Rattle.faults.specs.Message.{isMessage}
 use Rattle.faults.proofs.Messages.{message-short, message-ends}
 use Rattle.cutting.specs.Frames.{isCuttable, cutOf}
 use Rattle.cutting.proofs.Written.{no-message, no-room, cut-written, limit-small, by-message}

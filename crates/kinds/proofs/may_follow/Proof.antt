@@ -5,7 +5,8 @@ use native.Mathlib.Omega.{arith}
 use mathlib.Core.Path.{_∙_}
 use mathlib.Core.Bool.{false}
 use Rattle.memory.proofs.Table.{entry-of-row}
-use Rattle.kinds.specs.Kinds.{mayFollow, rowOf, kindAt}
+use Rattle.kinds.specs.Kinds.{mayFollow}
+use Rattle.kinds.specs.Inner.Rows.{rowOf, kindAt}
 use Rattle.kinds.proofs.Rows.{kind-at, row-lt}
 use Rattle.kinds.proofs.may_follow.Statement.{statement}
 use Rattle.kinds.proofs.may_follow.Tie as tie

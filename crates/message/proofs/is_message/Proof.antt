@@ -2,7 +2,7 @@
 -- Assumes nothing.
 use mathlib.Core.Path.{_∙_, ap}
 use borrow.Author.Needs.{needs}
-use Rattle.faults.specs.Faults.{isMessageBy}
+use Rattle.faults.specs.Message.{isMessageBy}
 use Rattle.kinds.specs.declared.Delimiters.{Delimiters}
 use Rattle.message.proofs.is_message.Statement.{statement}
 use Rattle.message.proofs.is_message.Tie as tie

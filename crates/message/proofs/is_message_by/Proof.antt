@@ -3,6 +3,7 @@
 use borrow.Author.Needs.{needs}
 use mathlib.Core.Path.{_≡_, sym, ap, _∙_}
 use mathlib.Core.Bool.{true, false}
+use mathlib.Core.List.{List}
 use Prim.Native.Nat.{ℕ, _+_, _<_}
 use native.Mathlib.Omega.{arith}
 use lib.ListN.{length, getD, take, drop, length-drop}
@@ -16,8 +17,9 @@ use Rattle.records.specs.Fields.{before}
 use Rattle.records.specs.Records.{endsWithCr}
 use Rattle.sequence.specs.Numbers.{started}
 use Rattle.kinds.specs.Header.{isHeader}
-use Rattle.faults.specs.Faults.{isMessageBy}
-use Rattle.message.specs.Rest.{breaks, rightRest}
+use Rattle.faults.specs.Message.{isMessageBy}
+use Rattle.kinds.specs.declared.Delimiters.{Delimiters}
+use Rattle.message.specs.Inner.Rest.{breaks, rightRest}
 use Rattle.records.proofs.Scans.{rest-part}
 use Rattle.faults.proofs.Messages.{sound}
 use Rattle.message.proofs.Breaks.{cr-some, break-within, ends-behind, broken-by-cr, broken-by-other}
@@ -25,26 +27,43 @@ use Rattle.message.proofs.Remaining.{header-ordinary, headless, header-
 use Rattle.message.proofs.is_message_by.Statement.{statement}
 use Rattle.message.proofs.is_message_by.Tie as tie
 
+-- the places: the start, the text ends with CR, its first record's end is known, that is a CR, the record was looked at
+abbrev start : tie.Else3 → tie.Start
+start c = c .before .before .before .before .before
+
+abbrev closed : tie.After-end-of → tie.Else3
+closed c = c .before .before .before
+
+abbrev broken-off : tie.Else4 → tie.After-end-of
+broken-off c = c .before .before
+
+abbrev ended-by-cr : tie.After-is-header → tie.Else4
+ended-by-cr c = c .before .before
+
+-- the text, behind each of them
+abbrev text : tie.After-end-of → List ℕ
+text c = start (closed c) .args .text .now
+
+abbrev marks : tie.After-end-of → Delimiters
+marks c = start (closed c) .args .d
+
 -- the text ends with CR
-ended : (c : tie.Else3) → endsWithCr (c .before .before .before .before .before .args .text .now) ≡ true
+ended : (c : tie.Else3) → endsWithCr (start c .args .text .now) ≡ true
 ended c = eq-eqb _ _ (c .if3 .left)
 
 -- its first record is broken off within it
-within : (c : tie.After-end-of) → c .end-of .result < length (c .before .before .before .before .before .before .before .before .args .text .now)
-within c =
-    let o = c .before .before .before in
-    rw (c .end-of .ensures) (break-within (o .before .before .before .before .before .args .text .now) (ended o))
+within : (e : tie.After-end-of) → e .end-of .result < length (text e)
+within e =
+    let found : e .end-of .result ≡ find breaks (text e) = e .end-of .ensures in
+    let lt : find breaks (text e) < length (text e) = break-within (text e) (ended (closed e)) in
+    omega (arith, found, lt)
 
 -- and where that is by CR, it ends there and is of allowed bytes
-first : (c : tie.Else4)
-    → let text = c .before .before .before .before .before .before .before .before .before .before .args .text .now in
-    (c .before .before .end-of .result ≡ find (is cr) text) × (all allowed (before cr text) ≡ true)
-first c =
-    let e = c .before .before in
-    let o = e .before .before .before in
-    let text = o .before .before .before .before .before .args .text .now in
-    let by-cr : is cr (getD text (find breaks text) 0) ≡ true = rw (← e .end-of .ensures) (eq-eqb _ _ (c .if4 .left)) in
-    let (same, clean) = broken-by-cr text (break-within text (ended o)) by-cr in
+first : (f : tie.Else4) → let e = broken-off f in (e .end-of .result ≡ find (is cr) (text e)) × (all allowed (before cr (text e)) ≡ true)
+first f =
+    let e = broken-off f in
+    let by-cr : is cr (getD (text e) (find breaks (text e)) 0) ≡ true = rw (← e .end-of .ensures) (eq-eqb _ _ (f .if4 .left)) in
+    let (same, clean) = broken-by-cr (text e) (break-within (text e) (ended (closed e))) by-cr in
     (e .end-of .ensures ∙ same, clean)
 
 returns : tie.Need-returns
@@ -80,50 +99,40 @@ shared-slice-read-if4 c = within (c .before)
 returns-4 : tie.Need-returns-4
 returns-4 c =
     let e = c .before .before in
-    let o = e .before .before .before in
-    let a = o .before .before .before .before .before .args in
-    let text = a .text .now in
-    let other : is cr (getD text (find breaks text) 0) ≡ false = rw (← e .end-of .ensures) (ne-eqb _ _ (c .if4 .taken)) in
-    sym (is-false (isMessageBy (a .d) text) (λ t. never-both (all allowed text) (sound (a .d) text t .clean) (broken-by-other text (break-within text (ended o)) other)))
+    let other : is cr (getD (text e) (find breaks (text e)) 0) ≡ false = rw (← e .end-of .ensures) (ne-eqb _ _ (c .if4 .taken)) in
+    let bad = broken-by-other (text e) (break-within (text e) (ended (closed e))) other in
+    sym (is-false (isMessageBy (marks e) (text e)) (λ t. never-both (all allowed (text e)) (sound (marks e) (text e) t .clean) bad))
 
 slice-aggregate-is-header : tie.Need-slice-aggregate-is-header
-slice-aggregate-is-header c =
-    let e = c .before .before .before in
-    sym (length-take-le (e .end-of .result) (e .before .before .before .before .before .before .before .before .args .text .now) (omega (arith, within e)))
+slice-aggregate-is-header c = let e = broken-off (c .before) in sym (length-take-le (e .end-of .result) (text e) (omega (arith, within e)))
 
 is-header-requires : tie.Need-is-header-requires
 is-header-requires c κs = search needs
 
 -- the header that the code lends is the first record
-header-is : (c : tie.After-is-header)
-    → let a = c .before .before .before .before .before .before .before .before .before .before .before .before .args in
-    c .is-header .result ≡ isHeader (a .d) (before cr (a .text .now))
+header-is : (c : tie.After-is-header) → let e = broken-off (ended-by-cr c) in c .is-header .result ≡ isHeader (marks e) (before cr (text e))
 header-is c =
-    let f = c .before .before in
-    let a = f .before .before .before .before .before .before .before .before .before .before .args in
-    c .is-header .ensures ∙ ap (λ (n : ℕ). isHeader (a .d) (take n (a .text .now))) (first f .0)
+    let f = ended-by-cr c in
+    let e = broken-off f in
+    c .is-header .ensures ∙ ap (λ (n : ℕ). isHeader (marks e) (take n (text e))) (first f .0)
 
 returns-5 : tie.Need-returns-5
 returns-5 c =
-    let o = c .before .before .before .before .before .before .before .before in
-    let a = o .before .before .before .before .before .args in
-    sym (headless (a .d) (a .text .now) (omega arith) (cr-some (a .text .now) (ended o)) (ended o) (sym (header-is (c .before)) ∙ not-true _ (c .if5 .taken)))
+    let e = broken-off (ended-by-cr (c .before)) in
+    let ends = ended (closed e) in
+    sym (headless (marks e) (text e) (omega arith) (cr-some (text e) ends) ends (sym (header-is (c .before)) ∙ not-true _ (c .if5 .taken)))
 
-proper : (c : tie.Else5)
-    → let a = c .before .before .before .before .before .before .before .before .before .before .before .before .before .args in
-    isHeader (a .d) (before cr (a .text .now)) ≡ true
+proper : (c : tie.Else5) → let e = broken-off (ended-by-cr (c .before)) in isHeader (marks e) (before cr (text e)) ≡ true
 proper c = sym (header-is (c .before)) ∙ not-false _ (c .if5 .left)
 
 add-is-right : tie.Need-add-is-right
-add-is-right c =
-    let e = c .before .before .before .before .before .before in
-    omega (arith, within e, e .before .before .before .before .before .before .before .before .good)
+add-is-right c = let e = broken-off (ended-by-cr (c .before .before)) in omega (arith, within e, start (closed e) .good)
 
 sub-is-right : tie.Need-sub-is-right
-sub-is-right c = omega (arith, within (c .before .before .before .before .before .before))
+sub-is-right c = omega (arith, within (broken-off (ended-by-cr (c .before .before))))
 
 part-is-right-start : tie.Need-part-is-right-start
-part-is-right-start c = omega (arith, within (c .before .before .before .before .before .before))
+part-is-right-start c = omega (arith, within (broken-off (ended-by-cr (c .before .before))))
 
 part-is-right-end : tie.Need-part-is-right-end
 part-is-right-end c = search needs
@@ -131,29 +140,26 @@ part-is-right-end c = search needs
 is-right-requires : tie.Need-is-right-requires
 is-right-requires c κs =
     let h = c .before .before in
-    let f = h .before .before .before in
-    let e = f .before .before in
-    let o = e .before .before .before in
-    let a = o .before .before .before .before .before .args in
+    let f = ended-by-cr (h .before) in
+    let e = broken-off f in
     let at = e .end-of .result + 1 in (
-      header-ordinary (a .d) (a .text .now) (proper h) (sym (e .end-of .ensures) ∙ first f .0),
+      header-ordinary (marks e) (text e) (proper h) (sym (e .end-of .ensures) ∙ first f .0),
       e .before .before .classes .ensures,
       λ some.
-          let left : 0 < length (drop at (a .text .now)) = rw (rest-part (a .text .now) at) at some in
-          rw (rest-part (a .text .now) at) (ends-behind (a .text .now) (ended o) at (omega (arith, left, length-drop at (a .text .now)))),
+          let left : 0 < length (drop at (text e)) = rw (rest-part (text e) at) at some in
+          rw (rest-part (text e) at) (ends-behind (text e) (ended (closed e)) at (omega (arith, left, length-drop at (text e)))),
     )
 
 returns-6 : tie.Need-returns-6
 returns-6 c =
     let h = c .before .before .before in
-    let f = h .before .before .before in
-    let e = f .before .before in
-    let o = e .before .before .before in
-    let a = o .before .before .before .before .before .args in
+    let f = ended-by-cr (h .before) in
+    let e = broken-off f in
+    let ends = ended (closed e) in
     let (same, clean) = first f in
     c .is-right .ensures
-    ∙ ap (rightRest (a .d) started) (rest-part (a .text .now) (e .end-of .result + 1) ∙ ap (λ (n : ℕ). drop (n + 1) (a .text .now)) same)
-    ∙ header-passed (a .d) (a .text .now) (omega arith) (cr-some (a .text .now) (ended o)) (ended o) (proper h) clean
+    ∙ ap (rightRest (marks e) started) (rest-part (text e) (e .end-of .result + 1) ∙ ap (λ (n : ℕ). drop (n + 1) (text e)) same)
+    ∙ header-passed (marks e) (text e) (omega arith) (cr-some (text e) ends) ends (proper h) clean
 
 pub is-message-by-spec : {M : Type 1} → statement M
 is-message-by-spec =

@@ -9,7 +9,7 @@ use lib.Seq.{length-take-le}
 use borrow.Author.Tests.{not-true, not-false}
 use Rattle.memory.specs.Sizes.{messageLimit}
 use Rattle.records.specs.Records.{records}
-use Rattle.faults.specs.Faults.{isMessageBy}
+use Rattle.faults.specs.Message.{isMessageBy}
 use Rattle.faults.proofs.Messages.{message-short}
 use Rattle.owner.specs.Reading.{roomFor}
 use Rattle.owner.proofs.Answers.{records-few, room-all, read-none, read-short, read-done}

@@ -6,7 +6,7 @@ use mathlib.Core.Bool.{true, false}
 use mathlib.Core.List.{List}
 use mathlib.Core.Option.{none, some}
 use lib.ListN.{length}
-use Rattle.faults.specs.Faults.{isMessage}
+use Rattle.faults.specs.Message.{isMessage}
 use Rattle.journal.specs.Storage.{grown, appended}
 use Rattle.journal_laws.specs.Runs.{State as Store}
 use Rattle.answers.specs.Paper.{numberOf}

@@ -13,11 +13,25 @@ use Rattle.sequence.proofs.Decimal.{decimal-more, tenfold, six-digits, 
 use Rattle.sequence.proofs.number.Statement.{statement}
 use Rattle.sequence.proofs.number.Tie as tie
 
+-- the reader stands at i: what was passed are digits, and n is their decimal
+record Reading (f : List ℕ) (n i : ℕ) : Type 0 where
+  within : i ≤ length f
+  small : n < 10 ^ i
+  value : decimal n (drop i f) ≡ decimal 0 f
+  digits : all isDigit (drop i f) ≡ all isDigit f
+
 abbrev Inv-loop : tie.InvT-loop
-Inv-loop f n₀ i₀ n i = (i ≤ length f) × (n < 10 ^ i) × (decimal n (drop i f) ≡ decimal 0 f) × (all isDigit (drop i f) ≡ all isDigit f)
+Inv-loop f n₀ i₀ n i = Reading f n i
 
 abbrev μ-loop : tie.MeasureT-loop
 μ-loop f n₀ i₀ n i = length f - i
+
+-- the places: the start, and the first digit tested
+abbrev start : tie.Else3 Inv-loop μ-loop → tie.Start Inv-loop μ-loop
+start c = c .before .before .before .before .before
+
+abbrev field : tie.At-loop Inv-loop μ-loop → List ℕ
+field l = start (l .before) .args .f .now
 
 returns : tie.Need-returns Inv-loop μ-loop
 returns c = number-none _ (c .if1 .taken)
@@ -32,25 +46,25 @@ returns-3 : tie.Need-returns-3 Inv-loop μ-loop
 returns-3 c = number-zero (c .before .before .before .before .before .args .f .now) (c .if3 .taken)
 
 loop-holds : tie.Need-loop-holds Inv-loop μ-loop
-loop-holds c = (search needs, omega arith, refl, refl)
+loop-holds c = record { within = omega arith; small = omega arith; value = refl; digits = refl }
 
 shared-slice-read-b : tie.Need-shared-slice-read-b Inv-loop μ-loop
 shared-slice-read-b c = search needs
 
 returns-4 : tie.Need-returns-4 Inv-loop μ-loop
-returns-4 c = let l = c .before .before .before in let f : List ℕ = l .before .before .before .before .before .before .args .f .now in number-bad f (all-stop isDigit f (l .loop .i) (search needs) (between-low 0x30 0x39 (getD f (l .loop .i) 0) (c .if4 .taken)) (l .loop .inv .3))
+returns-4 c = let l = c .before .before .before in let f = field l in number-bad f (all-stop isDigit f (l .loop .i) (search needs) (between-low 0x30 0x39 (getD f (l .loop .i) 0) (c .if4 .taken)) (l .loop .inv .digits))
 
 returns-5 : tie.Need-returns-5 Inv-loop μ-loop
-returns-5 c = let l = c .before .before .before .before in let f : List ℕ = l .before .before .before .before .before .before .args .f .now in number-bad f (all-stop isDigit f (l .loop .i) (search needs) (between-high 0x30 0x39 (getD f (l .loop .i) 0) (c .if5 .taken)) (l .loop .inv .3))
+returns-5 c = let l = c .before .before .before .before in let f = field l in number-bad f (all-stop isDigit f (l .loop .i) (search needs) (between-high 0x30 0x39 (getD f (l .loop .i) 0) (c .if5 .taken)) (l .loop .inv .digits))
 
 mul-n : tie.Need-mul-n Inv-loop μ-loop
-mul-n c = omega (arith, six-digits _ _ (c .before .before .before .before .loop .inv .1) (omega arith))
+mul-n c = omega (arith, six-digits _ _ (c .before .before .before .before .loop .inv .small) (omega arith))
 
 wide-requires : tie.Need-wide-requires Inv-loop μ-loop
 wide-requires c κs = search needs
 
 add-n : tie.Need-add-n Inv-loop μ-loop
-add-n c = omega (arith, six-digits _ _ (c .before .before .before .before .before .loop .inv .1) (omega arith))
+add-n c = omega (arith, six-digits _ _ (c .before .before .before .before .before .loop .inv .small) (omega arith))
 
 add-i : tie.Need-add-i Inv-loop μ-loop
 add-i c = search needs
@@ -60,17 +74,22 @@ loop-less c = search needs
 
 loop-again : tie.Need-loop-again Inv-loop μ-loop
 loop-again c = let l = c .before .before .before .before .before in
-    let f : List ℕ = l .before .before .before .before .before .before .args .f .now in
+    let f = field l in
     let w : c .wide .result ≡ getD f (l .loop .i) 0 - 48 = c .wide .ensures in
     let lt : l .loop .i < length f = omega arith in
-    (search needs, tenfold _ _ _ (l .loop .inv .1) (omega arith), rw w (sym (decimal-more (l .loop .n) f (l .loop .i) lt) ∙ l .loop .inv .2), all-next isDigit f (l .loop .i) lt (between-yes 0x30 0x39 (getD f (l .loop .i) 0) (omega arith) (omega arith)) (l .loop .inv .3))
+    record {
+      within = omega arith;
+      small = tenfold _ _ _ (l .loop .inv .small) (omega arith);
+      value = rw w (sym (decimal-more (l .loop .n) f (l .loop .i) lt) ∙ l .loop .inv .value);
+      digits = all-next isDigit f (l .loop .i) lt (between-yes 0x30 0x39 (getD f (l .loop .i) 0) (omega arith) (omega arith)) (l .loop .inv .digits);
+    }
 
 returns-6 : tie.Need-returns-6 Inv-loop μ-loop
 returns-6 c = let l = c .before in
-    let f : List ℕ = l .before .before .before .before .before .before .args .f .now in
+    let f = field l in
     let le : length f ≤ l .loop .i = omega arith in
-    let v : l .loop .n ≡ decimal 0 f = rw (drop-of-length-le f) at (l .loop .inv .2) in
-    v ∙ number-is f (omega arith) (omega arith) (l .before .if3 .left) (all-done isDigit f (l .loop .i) le (l .loop .inv .3))
+    let v : l .loop .n ≡ decimal 0 f = rw (drop-of-length-le f) at (l .loop .inv .value) in
+    v ∙ number-is f (omega arith) (omega arith) (l .before .if3 .left) (all-done isDigit f (l .loop .i) le (l .loop .inv .digits))
 
 pub number-spec : {M : Type 1} → statement M
 number-spec =

@@ -12,11 +12,17 @@ use borrow.Author.Needs.{needs}
 use Rattle.faults.proofs.judging.check_kind.Statement.{statement}
 use Rattle.faults.proofs.judging.check_kind.Tie as tie
 
--- behind the first test, and behind the second
-follows : (c : tie.Else1) → mayFollow (c .before .before .args .s .other) (c .before .before .args .k) ≡ true
+-- the places: the start, behind the first test, behind the second
+abbrev start : tie.Else1 → tie.Start
+start c = c .before .before
+
+abbrev first : tie.Else2 → tie.Else1
+first c = c .before .before
+
+follows : (c : tie.Else1) → mayFollow (start c .args .s .other) (start c .args .k) ≡ true
 follows c = sym (c .before .may-follow .ensures) ∙ not-false _ (c .if1 .left)
 
-stands : (c : tie.Else2) → placed (c .before .before .before .before .args .last) (c .before .before .before .before .args .k) ≡ true
+stands : (c : tie.Else2) → placed (start (first c) .args .last) (start (first c) .args .k) ≡ true
 stands c = sym (c .before .is-placed .ensures) ∙ not-false _ (c .if2 .left)
 
 may-follow-requires : tie.Need-may-follow-requires
@@ -35,8 +41,10 @@ returns-2 c = simp (follows (c .before .before), sym (c .before .is-placed .ensu
 
 returns-3 : tie.Need-returns-3
 unfolding kindStep
-returns-3 c = let a = c .before .before .before .before .before .args in
-    simp (follows (c .before .before .before), stands (c .before), ne-eqb (a .n) (countOf (a .s) (a .k) + 1) (λ e. omega arith))
+returns-3 c =
+    let e = c .before in
+    let a = start (first e) .args in
+    simp (follows (first e), stands e, ne-eqb (a .n) (countOf (a .s) (a .k) + 1) (λ e. omega arith))
 
 sub-if4 : tie.Need-sub-if4
 sub-if4 c = search needs
@@ -46,16 +54,20 @@ count-of-requires c κs = search needs
 
 returns-4 : tie.Need-returns-4
 unfolding kindStep
-returns-4 c = let a = c .before .before .before .before .before .before .before .args in
-    simp (follows (c .before .before .before .before .before), stands (c .before .before .before), ne-eqb (a .n) (countOf (a .s) (a .k) + 1) (λ e. c .if4 .taken (omega arith)))
+returns-4 c =
+    let e = c .before .before .before in
+    let a = start (first e) .args in
+    simp (follows (first e), stands e, ne-eqb (a .n) (countOf (a .s) (a .k) + 1) (λ e. c .if4 .taken (omega arith)))
 
 count-on-requires : tie.Need-count-on-requires
 count-on-requires c κs = search needs
 
 returns-5 : tie.Need-returns-5
 unfolding kindStep
-returns-5 c = let a = c .before .before .before .before .before .before .before .before .args in
-    simp (follows (c .before .before .before .before .before .before), stands (c .before .before .before .before), eq-eqb (a .n) (countOf (a .s) (a .k) + 1) (omega arith), c .count-on .ensures)
+returns-5 c =
+    let e = c .before .before .before .before in
+    let a = start (first e) .args in
+    simp (follows (first e), stands e, eq-eqb (a .n) (countOf (a .s) (a .k) + 1) (omega arith), c .count-on .ensures)
 
 pub check-kind-spec : {M : Type 1} → statement M
 check-kind-spec =

@@ -17,6 +17,10 @@ use borrow.Author.Needs.{needs}
 use Rattle.faults.proofs.judging.sequence_of.Statement.{statement}
 use Rattle.faults.proofs.judging.sequence_of.Tie as tie
 
+-- the start, from where the field's end is known
+abbrev start : tie.After-index-within → tie.Start
+start c = c .before .before .before .before
+
 returns : tie.Need-returns
 returns c =
     let r = c .before .before .args .rec .now in
@@ -37,7 +41,7 @@ index-within-requires c κs = search needs
 
 slice-aggregate-number : tie.Need-slice-aggregate-number
 slice-aggregate-number c =
-    let a = c .before .before .before .before .before .args in
+    let a = start (c .before) .args in
     let s = tailAt (a .rec .now) 2 in
     let le : c .before .index-within .result ≤ length s = omega (arith, c .before .index-within .ensures, find-window (is (a .b)) 7 s, find-le (is (a .b)) s) in
     sym (length-take-le (c .before .index-within .result) s le)
@@ -47,8 +51,9 @@ number-requires c κs = search needs
 
 returns-2 : tie.Need-returns-2
 returns-2 c =
-    let a = c .before .before .before .before .before .before .args in
-    c .number .ensures ∙ head-number (a .b) (tailAt (a .rec .now) 2) (c .before .before .index-within .result) (c .before .before .index-within .ensures)
+    let i = c .before .before in
+    let a = start i .args in
+    c .number .ensures ∙ head-number (a .b) (tailAt (a .rec .now) 2) (i .index-within .result) (i .index-within .ensures)
     ∙ ap (λ (l : List ℕ). numberOf (before (a .b) l)) (rest-part (a .rec .now) 2)
 
 pub sequence-of-spec : {M : Type 1} → statement M

@@ -2,7 +2,8 @@
 -- Assumes nothing.
 use borrow.Author.Needs.{needs}
 use mathlib.Core.Path.{_≡_, refl, sym, _∙_}
-use Prim.Native.Nat.{_+_, _-_, _≤_}
+use mathlib.Core.List.{List}
+use Prim.Native.Nat.{ℕ, _+_, _-_, _≤_}
 use native.Mathlib.Omega.{arith}
 use lib.ListN.{length, drop}
 use borrow.Author.Tests.{eq-eqb, ne-eqb, not-true, not-false}
@@ -15,15 +16,30 @@ use Rattle.faults.proofs.FirstRecord.{scan-stop, scan-bad, scan-next, s
 use Rattle.faults.proofs.walk.scan.Statement.{statement}
 use Rattle.faults.proofs.walk.scan.Tie as tie
 
+-- the scan stands at i: no CR was passed, and each byte that was is allowed
+record Scanning (text : List ℕ) (i : ℕ) : Type 0 where
+  within : i ≤ length text
+  no-end : i + find (is cr) (drop i text) ≡ find (is cr) text
+  clean : all allowed (before cr (drop i text)) ≡ all allowed (before cr text)
+
 abbrev Inv-loop : tie.InvT-loop
-Inv-loop text table i₀ i =
-    (i ≤ length text) × (i + find (is cr) (drop i text) ≡ find (is cr) text) × (all allowed (before cr (drop i text)) ≡ all allowed (before cr text))
+Inv-loop text table i₀ i = Scanning text i
 
 abbrev μ-loop : tie.MeasureT-loop
 μ-loop text table i₀ i = length text - i
 
+-- the places: the start, the loop's head, a byte that is no CR, and that was looked up
+abbrev start : tie.At-loop Inv-loop μ-loop → tie.Start Inv-loop μ-loop
+start l = l .before .before .before
+
+abbrev head : tie.Else1 Inv-loop μ-loop → tie.At-loop Inv-loop μ-loop
+head c = c .before .before .before
+
+abbrev no-cr : tie.After-is-marked Inv-loop μ-loop → tie.Else1 Inv-loop μ-loop
+no-cr c = c .before .before
+
 loop-holds : tie.Need-loop-holds Inv-loop μ-loop
-loop-holds c = (search needs, omega arith, refl)
+loop-holds c = record { within = omega arith; no-end = omega arith; clean = refl }
 
 shared-slice-read-b : tie.Need-shared-slice-read-b Inv-loop μ-loop
 shared-slice-read-b c = search needs
@@ -31,16 +47,16 @@ shared-slice-read-b c = search needs
 returns : tie.Need-returns Inv-loop μ-loop
 returns c =
     let l = c .before .before .before in
-    scan-stop (l .before .before .before .args .text .now) (l .loop .i) (search needs) (eq-eqb _ _ (c .if1 .taken)) (l .loop .inv .1) (l .loop .inv .2)
+    scan-stop (start l .args .text .now) (l .loop .i) (search needs) (eq-eqb _ _ (c .if1 .taken)) (l .loop .inv .no-end) (l .loop .inv .clean)
 
 is-marked-requires : tie.Need-is-marked-requires Inv-loop μ-loop
 is-marked-requires c κs = search needs
 
 returns-2 : tie.Need-returns-2 Inv-loop μ-loop
 returns-2 c =
-    let l = c .before .before .before .before .before .before in
-    scan-bad (l .before .before .before .args .text .now) (l .loop .i) (search needs) (ne-eqb _ _ (c .before .before .before .if1 .left))
-    (sym (c .before .is-marked .ensures .1 (l .before .classes .ensures)) ∙ not-true _ (c .if2 .taken)) (l .loop .inv .2)
+    let l = head (no-cr (c .before)) in
+    scan-bad (start l .args .text .now) (l .loop .i) (search needs) (ne-eqb _ _ (no-cr (c .before) .if1 .left))
+    (sym (c .before .is-marked .ensures .1 (l .before .classes .ensures)) ∙ not-true _ (c .if2 .taken)) (l .loop .inv .clean)
 
 add-i : tie.Need-add-i Inv-loop μ-loop
 add-i c = search needs
@@ -50,18 +66,20 @@ loop-less c = search needs
 
 loop-again : tie.Need-loop-again Inv-loop μ-loop
 loop-again c =
-    let l = c .before .before .before .before .before .before in
-    let s = l .before .before .before .args .text .now in (
-      search needs,
-      find-next (is cr) s (l .loop .i) (search needs) (ne-eqb _ _ (c .before .before .before .if1 .left)) (l .loop .inv .1),
-      scan-next s (l .loop .i) (search needs) (ne-eqb _ _ (c .before .before .before .if1 .left))
-          (sym (c .before .is-marked .ensures .1 (l .before .classes .ensures)) ∙ not-false _ (c .if2 .left)) (l .loop .inv .2),
-    )
+    let l = head (no-cr (c .before)) in
+    let s = start l .args .text .now in
+    let other = ne-eqb _ _ (no-cr (c .before) .if1 .left) in
+    let ok = sym (c .before .is-marked .ensures .1 (l .before .classes .ensures)) ∙ not-false _ (c .if2 .left) in
+    record {
+      within = omega arith;
+      no-end = find-next (is cr) s (l .loop .i) (search needs) other (l .loop .inv .no-end);
+      clean = scan-next s (l .loop .i) (search needs) other ok (l .loop .inv .clean);
+    }
 
 returns-3 : tie.Need-returns-3 Inv-loop μ-loop
 returns-3 c =
     let l = c .before in
-    scan-done (l .before .before .before .args .text .now) (l .loop .i) (search needs) (l .loop .inv .1) (l .loop .inv .2)
+    scan-done (start l .args .text .now) (l .loop .i) (search needs) (l .loop .inv .no-end) (l .loop .inv .clean)
 
 pub scan-spec : {M : Type 1} → statement M
 scan-spec =

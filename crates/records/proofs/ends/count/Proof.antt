@@ -1,7 +1,8 @@
 -- `records::ends::count` meets its contract: the CRs of the blocks that are counted, with those still to come, are all.
 -- Assumes nothing.
 use borrow.Author.Needs.{needs}
-use Prim.Native.Nat.{_+_, _-_, _≤_}
+use mathlib.Core.List.{List}
+use Prim.Native.Nat.{ℕ, _+_, _-_, _≤_}
 use mathlib.Core.Path.{_≡_}
 use native.Mathlib.Omega.{arith}
 use lib.ListN.{length, drop, length-take, length-drop}
@@ -12,8 +13,13 @@ use Rattle.records.proofs.RecordCount.{count-le, count-part}
 use Rattle.records.proofs.ends.count.Statement.{statement}
 use Rattle.records.proofs.ends.count.Tie as tie
 
+-- the walk stands at `at`, and n CRs were passed
+record Counting (text : List ℕ) (at n : ℕ) : Type 0 where
+  within : at ≤ length text
+  counted : n + count (is cr) (drop at text) ≡ count (is cr) text
+
 abbrev Inv-loop : tie.InvT-loop
-Inv-loop text at₀ n₀ at n = (at ≤ length text) × (n + count (is cr) (drop at text) ≡ count (is cr) text)
+Inv-loop text at₀ n₀ at n = Counting text at n
 
 abbrev μ-loop : tie.MeasureT-loop
 μ-loop text at₀ n₀ at n = length text - at
@@ -22,15 +28,15 @@ abbrev μ-loop : tie.MeasureT-loop
 one-more : (c : tie.After-count-block Inv-loop μ-loop) → let l = c .before .before .before in let text = l .before .before .args .text .now in l .loop .n + c .count-block .result + count (is cr) (drop (l .loop .at + 128) text) ≡ count (is cr) text
 one-more c = let l = c .before .before .before in
     let z = count-part (is cr) (l .before .before .args .text .now) (l .loop .at) (l .loop .at + 128) (omega arith) in
-    omega (arith, z, c .count-block .ensures, l .loop .inv .1)
+    omega (arith, z, c .count-block .ensures, l .loop .inv .counted)
 
 rest : (c : tie.After-count-block2 Inv-loop μ-loop) → let l = c .before .before .before in l .loop .n + c .count-block2 .result ≡ count (is cr) (l .before .before .args .text .now)
 rest c = let l = c .before .before .before in
     let z = rw (rest-part (l .before .before .args .text .now) (l .loop .at)) at (c .count-block2 .ensures) in
-    omega (arith, z, l .loop .inv .1)
+    omega (arith, z, l .loop .inv .counted)
 
 loop-holds : tie.Need-loop-holds Inv-loop μ-loop
-loop-holds c = (search needs, omega arith)
+loop-holds c = record { within = omega arith; counted = omega arith }
 
 sub-loop : tie.Need-sub-loop Inv-loop μ-loop
 sub-loop c = search needs
@@ -60,7 +66,7 @@ loop-less : tie.Need-loop-less Inv-loop μ-loop
 loop-less c = search needs
 
 loop-again : tie.Need-loop-again Inv-loop μ-loop
-loop-again c = (search needs, one-more c)
+loop-again c = record { within = omega arith; counted = one-more c }
 
 sub-count-block-2 : tie.Need-sub-count-block-2 Inv-loop μ-loop
 sub-count-block-2 c = search needs

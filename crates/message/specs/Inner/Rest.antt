@@ -2,34 +2,26 @@
 -- Assumes nothing.
 use Prim.Native.Nat.{ℕ, _<_}
 use mathlib.Core.Path.{_≡_}
-use mathlib.Core.List.{List, [], _∷_}
-use mathlib.Core.Bool.{Bool, false, not, _&&_}
+use mathlib.Core.List.{List, []}
+use mathlib.Core.Bool.{Bool, false, true, not, _&&_}
 use lib.ListN.{length, getD}
 use Rattle.memory.specs.Tests.{all}
 use Rattle.characters.specs.Allowed.{allowed, ordinary}
-use Rattle.kinds.specs.Kinds.{mayFollow, kindAt, isTerminator}
+use Rattle.kinds.specs.Kinds.{mayFollow}
+use Rattle.kinds.specs.Inner.Rows.{kindAt}
 use Rattle.records.specs.Records.{records}
-use Rattle.faults.specs.Faults.{recordStep}
+use Rattle.faults.specs.Message.{areNext}
+use Rattle.faults.specs.Inner.Next.{comes, countsBehind}
 use Rattle.kinds.specs.declared.Delimiters.{Delimiters}
 use Rattle.sequence.specs.declared.Counts.{Counts}
-use Rattle.faults.specs.declared.Step.{Step}
-use Rattle.faults.specs.declared.Step.the-variants.{Fine, Wrong}
 
 -- a byte that breaks a record off: CR, or one that is not allowed
 abbrev pub breaks : ℕ → Bool
 breaks b = not (ordinary b)
 
-abbrev pub fineAnd : Step → (Counts → Bool) → Bool
-fineAnd (Fine s) go = go s
-fineAnd (Wrong f) go = false
-
--- records without a fault, each of them as if another followed; behind the last of them the last other record is L
-abbrev pub goOn : Delimiters → Counts → List (List ℕ) → Bool
-goOn d s [] = isTerminator (s .other)
-goOn d s (r ∷ rs) = fineAnd (recordStep d s false r) (λ t. goOn d t rs)
-
+-- a message's rest, by the counts of the records in front of it
 unfoldable pub rightRest : Delimiters → Counts → List ℕ → Bool
-rightRest d s text = all allowed text && goOn d s (records text)
+rightRest d s text = all allowed text && areNext d s (records text)
 
 -- the counts that the last other record's row and an array hold, a count for each row
 abbrev pub countsOf : ℕ → List ℕ → Counts
@@ -40,10 +32,13 @@ countsOf other ns =
 abbrev pub Tally : ℕ → List ℕ → Type 0
 Tally other ns = (other < 8) × (length ns ≡ 8) × ((other ≡ 5 → ⊥) → getD ns 5 0 ≡ 0)
 
--- a record's step as a row and an array hold it: row 8 where it is wrong
-abbrev pub LedTo : Step → ℕ → List ℕ → Type 0
-LedTo (Wrong f) other ns = other ≡ 8
-LedTo (Fine s) other ns = (s ≡ countsOf other ns) × Tally other ns
+-- what a row and an array hold behind a record: the counts if it may come next, and else row 8
+abbrev pub Held : Bool → Counts → ℕ → List ℕ → Type 0
+Held false s other ns = other ≡ 8
+Held true s other ns = (s ≡ countsOf other ns) × Tally other ns
+
+abbrev pub LedTo : Delimiters → Counts → List ℕ → ℕ → List ℕ → Type 0
+LedTo d s r other ns = Held (comes d s r) (countsBehind d s r) other ns
 
 -- each entry of a table of followers is its rule's
 abbrev pub Follows : List (List Bool) → Type 0
