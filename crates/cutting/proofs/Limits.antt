@@ -13,18 +13,11 @@ use Rattle.characters.specs.Control.{cr}
 use Rattle.frame.specs.declared.End.{End}
 use Rattle.records.specs.Records.{records, joined, isNotCr, endsWithCr}
 use Rattle.records.proofs.Joined.{every, no-cr, joined-records}
+use Rattle.faults.specs.Message.{isMessage}
+use Rattle.faults.proofs.Messages.{OthersLong, RecordsLong, message-short, message-ends, message-long}
 use Rattle.cutting.specs.Pieces.{pieceSize, recordsWithCr, chunksWithin, chunks, ended, endAfter, cutRecord, cutAll, piecesOf}
 use Rattle.cutting.specs.Frames.{cutOf}
 use Rattle.cutting.proofs.Laws.{with-cr-first, cut-long}
-
--- the least lengths of a message's records, without their CRs: H and four delimiters; a letter, a delimiter and a digit
-abbrev pub OthersLong : List (List ℕ) → Type 0
-OthersLong [] = Unit {0}
-OthersLong (r ∷ rs) = (3 ≤ length r) × OthersLong rs
-
-abbrev pub RecordsLong : List (List ℕ) → Type 0
-RecordsLong [] = ⊥
-RecordsLong (r ∷ rs) = (5 ≤ length r) × OthersLong rs
 
 -- a text of so many bytes has not more chunks than this: all but the last are full
 abbrev size : ℕ
@@ -91,8 +84,12 @@ frames-few (r ∷ rs) h l =
     omega arith
 
 -- the frames of a text whose records are as long as a message's
-pub cut-within : (m : List ℕ) → endsWithCr m ≡ true → RecordsLong (records m) → length m ≤ messageLimit → length (cutOf frameLimit m) ≤ cutLimit
+cut-within : (m : List ℕ) → endsWithCr m ≡ true → RecordsLong (records m) → length m ≤ messageLimit → length (cutOf frameLimit m) ≤ cutLimit
 unfolding piecesOf
 cut-within m e l short =
     let few : 4 * length (cutAll size (recordsWithCr m)) + 2 ≤ length m = rw (joined-records m e) at (frames-few (records m) (no-cr m) l) in
     omega (arith, few, cut-long frameLimit m (omega arith))
+
+-- and so of every message
+pub message-cut : (m : List ℕ) → isMessage m ≡ true → length (cutOf frameLimit m) ≤ cutLimit
+message-cut m h = cut-within m (message-ends _ m h) (message-long _ m h) (message-short _ m h)

@@ -131,20 +131,35 @@ all-last d [] r [] h = never-both false (and-right (isHeader d r) false h) refl
 all-last d [] r (q ∷ ss) h = rw (header d r (and-left (isHeader d r) _ h) .1)
 all-last d (x ∷ rs) r ss h = rest-last d started rs r ss (and-right (isHeader d x) _ h)
 
--- how many there can be
-rest-few : (d : Delimiters) (s : Counts) (rs : List (List ℕ)) → areNext d s rs ≡ true → length rs * 4 ≤ length (joined rs)
-rest-few d s [] h = omega arith
-rest-few d s (r ∷ rs) h =
-    let long : 3 ≤ length r = typed d s r (and-left _ _ h) .long in
-    let rest = rest-few d (countsBehind d s r) rs (and-right (comes d s r) _ h) in
-    rw (length-append r (cr ∷ joined rs)) (omega (arith, long, rest))
+-- the least lengths of a message's records, without their CRs: H and four delimiters; a letter, a delimiter and a digit
+abbrev pub OthersLong : List (List ℕ) → Type 0
+OthersLong [] = Unit {0}
+OthersLong (r ∷ rs) = (3 ≤ length r) × OthersLong rs
 
-all-few : (d : Delimiters) (rs : List (List ℕ)) → areRecords d rs ≡ true → length (joined rs) ≤ messageLimit → length rs ≤ recordsLimit
-all-few d [] h le = omega arith
-all-few d (r ∷ rs) h le =
-    let long : 5 ≤ length r = header d r (and-left (isHeader d r) _ h) .0 in
-    let rest = rest-few d started rs (and-right (isHeader d r) _ h) in
-    omega (arith, long, rest, rw (length-append r (cr ∷ joined rs)) at le)
+abbrev pub RecordsLong : List (List ℕ) → Type 0
+RecordsLong [] = ⊥
+RecordsLong (r ∷ rs) = (5 ≤ length r) × OthersLong rs
+
+rest-long : (d : Delimiters) (s : Counts) (rs : List (List ℕ)) → areNext d s rs ≡ true → OthersLong rs
+rest-long d s [] h = tt
+rest-long d s (r ∷ rs) h =
+    (typed d s r (and-left _ _ h) .long, rest-long d (countsBehind d s r) rs (and-right (comes d s r) _ h))
+
+all-long : (d : Delimiters) (rs : List (List ℕ)) → areRecords d rs ≡ true → RecordsLong rs
+all-long d [] h = never-both false h refl
+all-long d (r ∷ rs) h = (header d r (and-left (isHeader d r) _ h) .0, rest-long d started rs (and-right (isHeader d r) _ h))
+
+-- how many there can be
+rest-few : (rs : List (List ℕ)) → OthersLong rs → length rs * 4 ≤ length (joined rs)
+rest-few [] l = omega arith
+rest-few (r ∷ rs) l = let long = l .0 in let rest = rest-few rs (l .1) in rw (length-append r (cr ∷ joined rs)) (omega arith)
+
+all-few : (rs : List (List ℕ)) → RecordsLong rs → length (joined rs) ≤ messageLimit → length rs ≤ recordsLimit
+all-few [] l le = omega arith
+all-few (r ∷ rs) l le =
+    let long = l .0 in
+    let rest = rest-few rs (l .1) in
+    omega (arith, rw (length-append r (cr ∷ joined rs)) at le)
 
 -- a list that is not empty ends with its last element
 record Ending (rs : List (List ℕ)) : Type 0 where
@@ -200,9 +215,12 @@ module _ (d : Delimiters) (m : List ℕ) (h : isMessageBy d m ≡ true) where
           let l = ending x rs in
           ap endsWithL (sym message-joined ∙ ap joined (e ∙ l .whole)) ∙ cut-decided (l .front) (l .last) [] (e ∙ l .whole)
 
-  -- it has not more records than the limit allows
+  -- how long its records are, and that it has not more than the limit allows
+  pub message-long : RecordsLong (records m)
+  message-long = all-long d (records m) (sound d m h .right)
+
   few-records : length (records m) ≤ recordsLimit
-  few-records = all-few d (records m) (sound d m h .right) (rw message-joined message-short)
+  few-records = all-few (records m) message-long (rw message-joined message-short)
 
 pub message-records : (text : List ℕ) → isMessage text ≡ true → length (records text) ≤ recordsLimit
 message-records text h = few-records standard text h

@@ -12,7 +12,7 @@ use Rattle.room.specs.Room.{todaysShares}
 use Rattle.answers.specs.Paper.{numberOf, valuesOf}
 use Rattle.answers.specs.declared.Answer.{Answer}
 use Rattle.answers.proofs.Paper.{every-answer}
-use Rattle.faults.specs.Faults.{isMessage}
+use Rattle.faults.specs.Message.{isMessage}
 use Rattle.journal.specs.Chain.{chain}
 use Rattle.journal_laws.specs.Held.{Held}
 use Rattle.journal_laws.specs.Runs.{Numbered, numbered, waiting}

@@ -10,7 +10,7 @@ use borrow.Author.Tests.{le-leb}
 use lib.ListN.{length}
 use Rattle.memory.specs.Sizes.{lines, frameLimit}
 use Rattle.kinds.specs.Delimiters.{standard}
-use Rattle.faults.specs.Faults.{isMessage}
+use Rattle.faults.specs.Message.{isMessage}
 use Rattle.cutting.specs.Frames.{cutOf, isCuttable, cutAnswer, cutIn}
 use Rattle.owner.specs.Reading.{readingOf}
 use Rattle.owner.specs.declared.Reading.{Reading}

@@ -11,7 +11,7 @@ use mathlib.Core.List.{List}
 use mathlib.Core.Option.{some}
 use lib.ListN.{length}
 use Rattle.memory.specs.Sizes.{lines}
-use Rattle.faults.specs.Faults.{isMessage}
+use Rattle.faults.specs.Message.{isMessage}
 use Rattle.header.specs.Header.{entrySize}
 use Rattle.room.specs.Room.{share}
 use Rattle.journal_laws.specs.Runs.{waiting}

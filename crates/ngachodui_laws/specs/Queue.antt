@@ -8,7 +8,7 @@ use mathlib.Core.Option.{some}
 use lib.Dec.{eqb}
 use lib.ListN.{take}
 use Rattle.memory.specs.Sizes.{lines}
-use Rattle.faults.specs.Faults.{isMessage}
+use Rattle.faults.specs.Message.{isMessage}
 use Rattle.header.specs.Entry.{Entry}
 use Rattle.journal.specs.Chain.{chain}
 use Rattle.journal_laws.specs.Runs.{Numbered, numbered, waiting}

@@ -9,7 +9,7 @@ use lib.ListN.{length, replicate}
 use Rattle.memory.specs.Sizes.{lines, frameLimit}
 use Rattle.memory.specs.Parts.{splice}
 use Rattle.frame.specs.Shape.{leastCollected}
-use Rattle.faults.specs.Faults.{isMessage}
+use Rattle.faults.specs.Message.{isMessage}
 use Rattle.cutting.specs.Pieces.{Piece, piecesOf}
 use Rattle.header.specs.Entry.{Entry}
 use Rattle.answers.specs.Paper.{ack}

@@ -12,7 +12,7 @@ use Rattle.memory.specs.Sizes.{lines}
 use Rattle.memory.specs.Tests.{unless}
 use Rattle.memory.proofs.Tests.{clash, and-right}
 use Rattle.records.specs.Records.{records}
-use Rattle.faults.specs.Faults.{isMessage}
+use Rattle.faults.specs.Message.{isMessage}
 use Rattle.owner.specs.Reading.{roomFor, readingOf}
 use Rattle.owner.specs.declared.Reading.the-variants.{Read, Malformed, NotFitting}
 use Rattle.header.specs.Entry.{Entry}

@@ -11,7 +11,7 @@ use lib.ListN.{length}
 use Rattle.memory.specs.Sizes.{lines}
 use Rattle.kinds.specs.Delimiters.{standard}
 use Rattle.records.specs.Records.{records}
-use Rattle.faults.specs.Faults.{isMessage}
+use Rattle.faults.specs.Message.{isMessage}
 use Rattle.owner.specs.Reading.{roomFor, readingOf}
 use Rattle.owner.specs.declared.Reading.the-variants.{Read, Malformed}
 use Rattle.header.specs.Entry.{Entry}
