@@ -10,7 +10,8 @@ use lib.Dec.{eqb}
 use lib.ListN.{getD}
 use Rattle.memory.specs.Tests.{between}
 use Rattle.memory.proofs.Tests.{clash, and-left, and-right}
-use Rattle.answers.specs.Paper.{numberOf, valuesOf, nak, replyOf, isObjection}
+use Rattle.answers.specs.Paper.{numberOf, valuesOf, nak, replyOf}
+use Rattle.answers.specs.Inner.Objections.{isObjection}
 use Rattle.answers.specs.declared.Answer.{Answer}
 use Rattle.answers.specs.declared.Reply.the-variants.{Byte}
 use Rattle.answers.specs.declared.Answer.the-variants.{Nothing, Opened, Accepted, Repeated, Stored, Ended, Dropped, TimedOut, Taken, Busy, Unended, Torn, WrongCheck, BadText, BadNumber, Refusing, OutOfTurn, TooLong, NoCr, NoMessage, NoRoom, NoLine, WrongSize, BeyondLimits, Broken, NothingWaiting, BufferShort, Malformed, NotFitting}

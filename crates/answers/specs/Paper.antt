@@ -1,9 +1,9 @@
 -- The numbers of document 01's table, the values that an answer carries, and the reply.
 -- Assumes nothing.
 use Prim.Native.Nat.{ℕ}
-use mathlib.Core.Bool.{Bool, cond}
+use mathlib.Core.Bool.{cond}
 use mathlib.Core.List.{List, [], _∷_}
-use lib.Dec.{leb, ltb, eqb}
+use lib.Dec.{leb, ltb}
 use Rattle.answers.specs.declared.Answer.{Answer}
 use Rattle.answers.specs.declared.Answer.the-variants.{Nothing, Opened, Accepted, Repeated, Stored, Ended, Dropped, TimedOut, Taken, Busy, Unended, Torn, WrongCheck, BadText, BadNumber, Refusing, OutOfTurn, TooLong, NoCr, NoMessage, NoRoom, NoLine, WrongSize, BeyondLimits, Broken, NothingWaiting, BufferShort, Malformed, NotFitting}
 use Rattle.answers.specs.declared.Reply.{Reply}
@@ -83,7 +83,3 @@ nak = 0x15
 -- 1 to 4 are acknowledged, 20 to 31 are not, and the others get no reply
 unfoldable pub replyOf : ℕ → Reply
 replyOf n = cond (ltb n 1) Silence (cond (leb n 4) (Byte ack) (cond (ltb n 20) Silence (cond (leb n 31) (Byte nak) Silence)))
-
--- an answer that a complete text gets because it is no message: 30
-abbrev pub isObjection : ℕ → Bool
-isObjection n = eqb n 30

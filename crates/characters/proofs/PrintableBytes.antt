@@ -14,7 +14,7 @@ use Rattle.memory.specs.Tests.{between, all}
 use Rattle.memory.proofs.Tests.{and-left, and-right, and-both, all-append}
 use Rattle.characters.specs.Control.{cr}
 use Rattle.characters.specs.Allowed.{allowed}
-use Rattle.characters.specs.Printable.{printable}
+use Rattle.characters.specs.Inner.Printable.{printable}
 
 -- a byte other than CR, by how far it lies past the space
 pub printable-past : (b : ℕ) → b < 256 → (b ≡ cr → ⊥) → leb ((b + 0xe0) % 256) 0x5e ≡ printable b

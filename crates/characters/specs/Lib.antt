@@ -1,3 +1,3 @@
 pub mod Control
 pub mod Allowed
-pub mod Printable
+pub mod Inner

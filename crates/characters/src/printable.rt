@@ -3,7 +3,7 @@ ghost use mathlib.Core.Path.{_≡_};
 ghost use Prim.Native.Nat.{max};
 ghost use lib.Dec.{leb};
 ghost use Rattle.memory.specs.Tests.{all};
-ghost use Rattle.characters.specs.Printable.{printable};
+ghost use Rattle.characters.specs.Inner.Printable.{printable};
 use super::CR;
 
 // How far a printable byte can lie past the space: '~' does.

@@ -12,7 +12,7 @@ use Rattle.packed.specs.Fields.{width, pack, unpack, octets, longestField}
 use Rattle.memory.proofs.Parts.{part-append-left}
 use Rattle.packed.proofs.Packing.{pack-below, unpack-pack, pack-unpack, length-unpack}
 use Rattle.header.specs.Header.{headWidths, serialCount, leastHead, headSize, headNumber, header, fieldsOf, headOf}
-use Rattle.header.specs.Entry.{Bytes}
+use Rattle.header.specs.Inner.Entry.{Bytes}
 
 pub head-size-low : (n : ℕ) → leastHead ≤ headSize n
 unfolding headSize

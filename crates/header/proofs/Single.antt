@@ -15,7 +15,8 @@ use Rattle.packed.specs.Fields.{longestField, FieldWritten}
 use Rattle.memory.proofs.Parts.{length-part, part-append-left, part-append-right, part-start}
 use Rattle.packed.proofs.Octets.{written-fits}
 use Rattle.header.specs.Header.{serialCount, leastHead, headSize, entrySize, headNumber, header, headOf}
-use Rattle.header.specs.Entry.{Entry, encode, size, starts, first, firstHead, Bytes}
+use Rattle.header.specs.Entry.{Entry, encode, size, starts, first, firstHead}
+use Rattle.header.specs.Inner.Entry.{Bytes}
 use Rattle.header.proofs.Heads.{head-size-low, head-size-high, head-number-below, head-header, head-append, length-header, line-below, serial-below, respelt}
 use Rattle.header.proofs.Starts.{Starts, starts-facts, starts-of}
 

@@ -15,7 +15,8 @@ use Rattle.packed.specs.declared.Field.the-variants.{Value, Outside}
 use Rattle.memory.proofs.Tests.{and-left, and-right, is-false}
 use Rattle.packed.proofs.Octets.{field-value, field-outside}
 use Rattle.header.specs.Header.{leastHead, entrySize, headWidths, fieldsOf, headOf}
-use Rattle.header.specs.Entry.{isText, isHead, starts, noHeader, wholeHead, firstHead}
+use Rattle.header.specs.Entry.{isText, isHead, starts, noHeader, firstHead}
+use Rattle.header.specs.Inner.Entry.{wholeHead}
 use Rattle.header.specs.declared.Header.{Header}
 
 pub text-facts : (n : ℕ) → isText n ≡ true → (1 ≤ n) × (n ≤ messageLimit)

@@ -1,7 +1,7 @@
 -- One entry: its bytes, and whether bytes start with one.
 -- Assumes nothing.
-use Prim.Native.Nat.{ℕ, _<_}
-use mathlib.Core.List.{List, [], _∷_, _++_}
+use Prim.Native.Nat.{ℕ}
+use mathlib.Core.List.{List, _++_}
 use mathlib.Core.Bool.{Bool, cond, _&&_}
 use lib.ListN.{length}
 use lib.Dec.{leb, eqb}
@@ -43,13 +43,5 @@ first bs = record { line = headOf bs .line; serial = headOf bs .serial; text = p
 abbrev pub noHeader : Header
 noHeader = record { line = 0; spare = 0; count = 0; serial = 0 }
 
-unfoldable pub wholeHead : Header → ℕ → Header
-wholeHead h n = cond (isHead h n) h noHeader
-
 unfoldable pub firstHead : List ℕ → Header
 firstHead bs = cond (starts bs) (headOf bs) noHeader
-
--- numbers that are bytes
-abbrev pub Bytes : List ℕ → Type 0
-Bytes [] = Unit {0}
-Bytes (b ∷ bs) = (b < 256) × Bytes bs

@@ -4,7 +4,8 @@ ghost use mathlib.Core.Path.{_≡_};
 ghost use Prim.Native.Nat.{_+_, _≤_, _<_};
 ghost use Rattle.packed.specs.Fields.{unpack, longestField};
 ghost use Rattle.header.specs.Header.{headWidths, serialCount, headSize, entrySize, headNumber, fieldsOf};
-ghost use Rattle.header.specs.Entry.{wholeHead, firstHead};
+ghost use Rattle.header.specs.Inner.Entry.{wholeHead};
+ghost use Rattle.header.specs.Entry.{firstHead};
 
 pub struct Header {
     pub line: usize,

@@ -8,8 +8,10 @@ use Prim.Native.Nat.{ℕ, zero, suc, _≤_}
 use native.Mathlib.Omega.{arith}
 use lib.ListN.{length, take, drop, take-append-drop, drop-of-length-le}
 use lib.Seq.{drop-append-le, length-take-le, take-add}
-use Rattle.header.specs.Entry.{Entry, encode, size, starts, first, Bytes}
-use Rattle.journal.specs.Entries.{sizes, behind, entries, flatten}
+use Rattle.header.specs.Entry.{Entry, encode, size, starts, first}
+use Rattle.header.specs.Inner.Entry.{Bytes}
+use Rattle.journal.specs.Entries.{sizes, behind, entries}
+use Rattle.journal.specs.Inner.Entries.{flatten}
 use Rattle.header.proofs.Starts.{Starts, starts-facts, starts-of}
 use Rattle.header.proofs.Single.{Sound, starts-append, first-append, starts-cut, first-cut, encode-long, encode-starts, encode-first, spelt-first}
 use Rattle.journal.proofs.Chains.{entries-nil, entries-go, prepend, prepend-nil}

@@ -16,7 +16,8 @@ use Rattle.header.specs.Header.{serialCount, headSize, entrySize, headNumber, h
 use Rattle.header.specs.Entry.{encode}
 use Rattle.journal.specs.Answers.{isFits}
 use Rattle.journal.specs.Verdicts.{judgeOf}
-use Rattle.journal.specs.Storage.{written, grown, appended, afterStoring, storeOf, Stored, Ready, Appended}
+use Rattle.journal.specs.Inner.Storage.{written, Ready, Appended}
+use Rattle.journal.specs.Storage.{grown, appended, afterStoring, storeOf, Stored}
 use Rattle.journal.specs.declared.Ledger.{Ledger}
 use Rattle.journal.specs.declared.Verdict.{Verdict}
 use Rattle.header.proofs.Heads.{length-header}

@@ -19,7 +19,8 @@ use Rattle.header.specs.Header.{headSize, entrySize, headOf}
 use Rattle.header.specs.Entry.{Entry, size, first, firstHead}
 use Rattle.journal.specs.Entries.{sizes, entries, before, from}
 use Rattle.journal.specs.Chain.{chain, isSome}
-use Rattle.journal.specs.Removal.{shrunkBy, shrunk, without, takeAt, takeOf, rest, Stands, TakenOut, TakenAt, TakenFrom}
+use Rattle.journal.specs.Removal.{shrunkBy, shrunk, without, takeAt, takeOf, TakenFrom}
+use Rattle.journal.specs.Inner.Removal.{rest, Stands, TakenOut, TakenAt}
 use Rattle.header.specs.declared.Header.{Header}
 use Rattle.journal.specs.declared.Ledger.{Ledger}
 use Rattle.journal.specs.declared.Taking.{Taking}

@@ -15,7 +15,8 @@ use Rattle.memory.specs.Sizes.{lines}
 use Rattle.memory.proofs.Tests.{and-left, and-right}
 use Rattle.header.specs.Entry.{Entry}
 use Rattle.journal.specs.Entries.{entries, sizes, total}
-use Rattle.journal.specs.Chain.{every, agree, counted, chain, isSome, Walked, Seen}
+use Rattle.journal.specs.Chain.{every, agree, counted, chain, isSome}
+use Rattle.journal.specs.Inner.Walks.{Walked, Seen}
 use Rattle.journal.specs.declared.Ledger.{Ledger}
 use Rattle.journal.proofs.Chains.{some-inj, no-some, total-le}
 use Rattle.journal.proofs.Inside.{All, all-sound, sizes-length}

@@ -1,7 +1,6 @@
 -- The journal that a ledger tells of: whole, or broken (answer 43).
 -- Assumes nothing.
-use Prim.Native.Nat.{ℕ, zero, suc, _<_}
-use mathlib.Core.Path.{_≡_}
+use Prim.Native.Nat.{ℕ, zero, suc}
 use mathlib.Core.List.{List}
 use mathlib.Core.Bool.{Bool, true, false, cond, _&&_}
 use mathlib.Core.Option.{Option, none, some}
@@ -9,7 +8,7 @@ use lib.ListN.{length, take, getD, replicate}
 use lib.Dec.{leb, eqb}
 use Rattle.memory.specs.Sizes.{lines}
 use Rattle.header.specs.Entry.{Entry}
-use Rattle.journal.specs.Entries.{entries, sizes, total, before}
+use Rattle.journal.specs.Entries.{entries, total}
 use Rattle.journal.specs.declared.Ledger.{Ledger}
 
 -- no entries, and every line's next serial is 0
@@ -36,14 +35,3 @@ chain d j = cond (leb (d .in_use) (length j)) (counted (d .used) (entries (take 
 abbrev pub isSome : {A : Type 0} → Option A → Bool
 isSome none = false
 isSome (some a) = true
-
--- what one walk over bytes finds: whether they are a whole chain; and then each line's sum, and where the oldest entry of line l stands
-pub record Walked (bs : List ℕ) (l : ℕ) (whole : Bool) (sums : List ℕ) (oldest : ℕ) : Type 0 where
-  pub is-whole : whole ≡ isSome (entries bs)
-  pub summed : (es : List Entry) → entries bs ≡ some es → (k : ℕ) → k < lines → getD sums k 0 ≡ total k es
-  pub stands : (es : List Entry) → entries bs ≡ some es → oldest ≡ sizes (before l es)
-
--- what a look at the journal finds: whether it is whole; and then where the oldest entry of line l stands
-pub record Seen (d : Ledger) (l : ℕ) (j : List ℕ) (whole : Bool) (oldest : ℕ) : Type 0 where
-  pub is-whole : whole ≡ isSome (chain d j)
-  pub stands : (es : List Entry) → chain d j ≡ some es → oldest ≡ sizes (before l es)

@@ -1,12 +1,12 @@
 -- Bytes as a chain of entries, one behind the other in the order of storing.
 -- Assumes nothing.
 use Prim.Native.Nat.{ℕ, zero, suc, _+_}
-use mathlib.Core.List.{List, [], _∷_, _++_}
+use mathlib.Core.List.{List, [], _∷_}
 use mathlib.Core.Bool.{Bool, true, false, cond}
 use mathlib.Core.Option.{Option, none, some}
 use lib.ListN.{length, drop}
 use lib.Dec.{eqb}
-use Rattle.header.specs.Entry.{Entry, encode, size, starts, first}
+use Rattle.header.specs.Entry.{Entry, size, starts, first}
 
 -- an entry in front of a chain, if that is one
 abbrev pub behind : Entry → Option (List Entry) → Option (List Entry)
@@ -25,11 +25,6 @@ chainIn (suc n) bs = cond (isEmpty bs) (some []) (cond (starts bs) (behind (firs
 -- the entries that bytes are a whole chain of; none where they are not. No entry is empty, so there are no more entries than bytes.
 unfoldable pub entries : List ℕ → Option (List Entry)
 entries bs = chainIn (length bs) bs
-
--- the bytes of a chain
-abbrev pub flatten : List Entry → List ℕ
-flatten [] = []
-flatten (e ∷ es) = encode e ++ flatten es
 
 -- the room of all entries, and of a line's
 abbrev pub sizes : List Entry → ℕ

@@ -4,3 +4,4 @@ pub mod Answers
 pub mod Verdicts
 pub mod Storage
 pub mod Removal
+pub mod Inner

@@ -1,11 +1,10 @@
 -- What a storing does to the ledger and the journal, and what it answers.
 -- Assumes nothing.
-use Prim.Native.Nat.{ℕ, _+_, _%_, _≤_, _<_}
+use Prim.Native.Nat.{ℕ, _+_, _%_}
 use mathlib.Core.Path.{_≡_}
 use mathlib.Core.Bool.{cond}
 use mathlib.Core.List.{List}
 use lib.ListN.{length, getD, set}
-use Rattle.memory.specs.Sizes.{lines, messageLimit, journalSize}
 use Rattle.memory.specs.Parts.{splice}
 use Rattle.header.specs.Header.{serialCount, entrySize}
 use Rattle.header.specs.Entry.{Entry, encode}
@@ -32,10 +31,6 @@ grownBy d l size = record {
 unfoldable pub grown : Ledger → ℕ → ℕ → Ledger
 grown d l n = grownBy d l (entrySize n)
 
--- an entry at a place of the journal: every other byte keeps its value
-abbrev pub written : ℕ → ℕ → ℕ → List ℕ → List ℕ → List ℕ
-written l serial at t j = splice j at (encode (record { line = l; serial = serial; text = t }))
-
 -- the journal after it: the entry stands behind the bytes in use
 unfoldable pub appended : Ledger → ℕ → List ℕ → List ℕ → List ℕ
 appended d l t j = splice j (d .in_use) (encode (newEntry d l t))
@@ -58,16 +53,3 @@ storeOf d shares l t j = storeBy (judgeOf d shares l (length t) j) d l t j
 pub record Stored (d : Ledger) (shares : List ℕ) (l : ℕ) (t j : List ℕ) (r : Storing) (j′ : List ℕ) : Type 0 where
   pub result : r ≡ storeOf d shares l t j .storing
   pub after : j′ ≡ storeOf d shares l t j .journal
-
--- what the writing of an entry asks: all that its sums and its places need
-pub record Ready (d : Ledger) (l : ℕ) (t j : List ℕ) : Type 0 where
-  pub line : l < lines
-  pub most : length t ≤ messageLimit
-  pub long : length j ≡ journalSize
-  pub room : d .in_use + entrySize (length t) ≤ length j
-  pub counted : getD (d .used) l 0 ≤ d .in_use
-
--- and what it says
-pub record Appended (d : Ledger) (l : ℕ) (t j : List ℕ) (r : Ledger) (j′ : List ℕ) : Type 0 where
-  pub result : r ≡ grown d l (length t)
-  pub after : j′ ≡ appended d l t j

@@ -4,7 +4,8 @@ ghost use Prim.Native.Nat.{_≤_, _<_};
 ghost use lib.ListN.{length, getD};
 ghost use lib.Dec.{eqb};
 ghost use Rattle.memory.specs.Sizes.{lines, journalSize};
-ghost use Rattle.journal.specs.Chain.{every, Walked, Seen};
+ghost use Rattle.journal.specs.Chain.{every};
+ghost use Rattle.journal.specs.Inner.Walks.{Walked, Seen};
 
 // Whether bytes are a whole chain of entries; and if so, the room of each line's entries, and where a line's oldest entry stands.
 struct Sums {

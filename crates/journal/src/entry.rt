@@ -4,8 +4,10 @@ ghost use mathlib.Core.Path.{_≡_};
 ghost use lib.ListN.{length, getD};
 ghost use Rattle.memory.specs.Sizes.{lines, messageLimit, journalSize};
 ghost use Rattle.header.specs.Header.{entrySize};
-ghost use Rattle.journal.specs.Storage.{Ready, written, grownBy, Appended};
-ghost use Rattle.journal.specs.Removal.{Stands, TakenOut, shrunkBy, TakenAt};
+ghost use Rattle.journal.specs.Inner.Storage.{Ready, written, Appended};
+ghost use Rattle.journal.specs.Storage.{grownBy};
+ghost use Rattle.journal.specs.Inner.Removal.{Stands, TakenOut, TakenAt};
+ghost use Rattle.journal.specs.Removal.{shrunkBy};
 
 // Writes the entry behind the bytes in use.
 pub fn append(ledger: crate::Ledger, line: usize, text: &[u8], journal: &mut [u8]) -> crate::Ledger

@@ -11,7 +11,8 @@ use Rattle.answers.proofs.Paper.{every-answer}
 use Rattle.gateway_laws.specs.Classes.{classOf}
 use Rattle.journal_laws.specs.Runs.{State as Store}
 use Rattle.looking.specs.declared.Kind.{Kind}
-use Rattle.serial.specs.Serial.{event, taking, serialize, count, OrderOf, Lined, NothingElse, GoesAlike}
+use Rattle.serial.specs.Serial.{event, taking, serialize, count, OrderOf, GoesAlike}
+use Rattle.serial.specs.Inner.Machine.{Lined, NothingElse}
 use Rattle.serial.specs.Kept.{Rearranged}
 use Rattle.serial.proofs.Demand as serial
 use Rattle.promises.specs.Machine.{State, Response, response, GatewayItem, isDecision, decides as decidesThere, Parts, partsOf, storeOf, Sound, May}

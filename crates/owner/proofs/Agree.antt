@@ -17,8 +17,8 @@ use Rattle.kinds.specs.declared.Letter.the-variants.{Known, Unknown}
 use Rattle.kinds.specs.declared.Kind.{Kind}
 use Rattle.kinds.specs.declared.Kind.the-variants.{Header, Patient, Order, Result, Query, Terminator, Comment, Manufacturer}
 use Rattle.faults.proofs.Chain.{otherOf}
-use Rattle.owner.specs.Levels.{depthBy, depthOf}
-use Rattle.owner.specs.Nearest.{nearest, nearestOwner, nearestFrom}
+use Rattle.owner.specs.Inner.Depths.{depthBy, depthOf}
+use Rattle.owner.specs.Inner.Nearest.{nearest, nearestOwner, nearestFrom}
 use Rattle.owner.specs.Owners.{Seen, ownerBy, seenBy, ownersBy}
 
 -- each of these types may follow, t being the last other type before them

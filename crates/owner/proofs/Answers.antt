@@ -18,7 +18,7 @@ use Rattle.records.specs.Records.{onto, records}
 use Rattle.faults.specs.Message.{isMessageBy}
 use Rattle.kinds.specs.declared.Delimiters.{Delimiters}
 use Rattle.owner.specs.declared.Reading.the-variants.{Read, Malformed, NotFitting}
-use Rattle.owner.specs.Nearest.{nearestOwners}
+use Rattle.owner.specs.Inner.Nearest.{nearestOwners}
 use Rattle.owner.specs.Owners.{typesOf, ownersOf}
 use Rattle.owner.specs.Reading.{offsetsOf, lengthsOf, roomFor, readingOf, ReadAs}
 use Rattle.owner.proofs.Whole.{length-owners}

@@ -9,7 +9,7 @@ use native.Mathlib.Decide.{decLt}
 use lib.ListN.{length, getD, set}
 use lib.Seq.{getD-set-same, getD-set-other}
 use borrow.Author.Tests.{lt-ltb, le-ltb}
-use Rattle.owner.specs.Nearest.{depthAt, nearest, nearestOwner, Ready, Ran}
+use Rattle.owner.specs.Inner.Nearest.{depthAt, nearest, nearestOwner, Ready, Ran}
 
 -- records that do not stand less deep than l are passed over
 near-skip : (ts : List ℕ) (l n m : ℕ) → n ≤ m → ((k : ℕ) → n ≤ k → k < m → l ≤ depthAt ts k) → nearest ts m l ≡ nearest ts n l

@@ -15,8 +15,8 @@ use Rattle.kinds.specs.declared.Letter.the-variants.{Known}
 use Rattle.kinds.specs.declared.Kind.{Kind}
 use Rattle.kinds.specs.declared.Kind.the-variants.{Header, Patient, Order, Result, Query, Terminator, Comment, Manufacturer}
 use Rattle.faults.proofs.Chain.{otherOf, Chain, message-chained}
-use Rattle.owner.specs.Levels.{depthBy, depthOf}
-use Rattle.owner.specs.Nearest.{nearest, nearestOwner, nearestFrom, nearestOwners}
+use Rattle.owner.specs.Inner.Depths.{depthBy, depthOf}
+use Rattle.owner.specs.Inner.Nearest.{nearest, nearestOwner, nearestFrom, nearestOwners}
 use Rattle.owner.specs.Owners.{typesOf, ownerBy, seenBy, ownersBy, ownersOf, unseen}
 use Rattle.owner.proofs.Agree.{Follow, owners-agree}
 

@@ -11,8 +11,8 @@ use lib.Seq.{sets, sets-eq, length-sets, ext-getD, getD-append-add, getD-drop}
 use Rattle.kinds.specs.Kinds.{kindOf}
 use Rattle.kinds.specs.declared.Letter.{Letter}
 use Rattle.kinds.specs.declared.Letter.the-variants.{Known, Unknown}
-use Rattle.owner.specs.Levels.{depthBy, depthOf}
-use Rattle.owner.specs.Nearest.{nearestOwner, nearestFrom, nearestOwners, Ran}
+use Rattle.owner.specs.Inner.Depths.{depthBy, depthOf}
+use Rattle.owner.specs.Inner.Nearest.{nearestOwner, nearestFrom, nearestOwners, Ran}
 
 by-some : (x : Letter) → 1 ≤ depthBy x
 by-some (Known k) = omega arith

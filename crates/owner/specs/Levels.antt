@@ -61,12 +61,3 @@ Below levelOfNumber (Known Terminator) level owner = owner ≡ 0
 Below levelOfNumber (Known Comment) level owner = level ≡ suc (levelOfNumber owner)
 Below levelOfNumber (Known Manufacturer) level owner = level ≡ suc (levelOfNumber owner)
 Below levelOfNumber Unknown level owner = ⊥
-
--- how deep the readers take a record of a type to stand, counted from 1. A C or M owns nothing, so it may stand below every other type:
--- its owner is then still the last other record.
-abbrev pub depthBy : Letter → ℕ
-depthBy (Known k) = suc (levelOf (levelOf 0 Result) k)
-depthBy Unknown = 5
-
-unfoldable pub depthOf : ℕ → ℕ
-depthOf b = depthBy (kindOf b)

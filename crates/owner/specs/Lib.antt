@@ -1,4 +1,4 @@
 pub mod Levels
-pub mod Nearest
 pub mod Owners
 pub mod Reading
+pub mod Inner

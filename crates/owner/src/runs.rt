@@ -3,8 +3,8 @@ ghost use mathlib.Core.Path.{_≡_};
 ghost use Prim.Native.Nat.{_+_, _<_, _≤_};
 ghost use lib.ListN.{length};
 ghost use lib.Seq.{sets};
-ghost use Rattle.owner.specs.Levels.{depthOf};
-ghost use Rattle.owner.specs.Nearest.{depthAt, nearest, Ready, Ran, nearestOwners};
+ghost use Rattle.owner.specs.Inner.Depths.{depthOf};
+ghost use Rattle.owner.specs.Inner.Nearest.{depthAt, nearest, Ready, Ran, nearestOwners};
 
 // How deep a record of a type stands: H and L 1, P and Q 2, O 3, R 4, and C and M below them all.
 fn depth(b: u8) -> u8

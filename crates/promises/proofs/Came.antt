@@ -15,7 +15,8 @@ use Rattle.journal_laws.specs.Runs.{State as Store}
 use Rattle.journal.specs.declared.Verdict.the-variants.{Fits, NoRoom as Full}
 use Rattle.journal.specs.Chain.{isSome}
 use Rattle.journal.proofs.Judged.{judged-room}
-use Rattle.answers.specs.Paper.{numberOf, isObjection}
+use Rattle.answers.specs.Paper.{numberOf}
+use Rattle.answers.specs.Inner.Objections.{isObjection}
 use Rattle.line.specs.declared.Line.{Line}
 use Rattle.answers.specs.declared.Answer.{Answer}
 use Rattle.answers.specs.declared.Answer.the-variants.{NoRoom}

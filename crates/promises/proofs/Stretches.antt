@@ -11,7 +11,8 @@ use Rattle.memory.proofs.Tests.{never-both}
 use Rattle.receiving.specs.Steps.{Memory}
 use Rattle.gateway.specs.Events.{noRecord, takeOf}
 use Rattle.looking.specs.declared.Kind.{Kind}
-use Rattle.serial.specs.Serial.{taking, annotate, serialize, count, Every, OrderOf, Lined, NothingElse, GoesAlike}
+use Rattle.serial.specs.Serial.{taking, annotate, serialize, count, Every, OrderOf, GoesAlike}
+use Rattle.serial.specs.Inner.Machine.{Lined, NothingElse}
 use Rattle.serial.specs.Kept.{Rearranged}
 use Rattle.serial.proofs.Demand as serial
 use Rattle.promises.specs.Machine.{State, Response, GatewayItem, came, step, decides, Parts, partsOf, storeOf, Sound, May}

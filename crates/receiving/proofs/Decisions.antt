@@ -12,7 +12,8 @@ use Rattle.journal.specs.Storage.{storeBy, storeOf, Stored}
 use Rattle.journal.specs.declared.Ledger.{Ledger}
 use Rattle.journal.specs.declared.Storing.{Storing}
 use Rattle.journal.specs.declared.Verdict.{Verdict as Judgement}
-use Rattle.answers.specs.Paper.{numberOf, isObjection}
+use Rattle.answers.specs.Paper.{numberOf}
+use Rattle.answers.specs.Inner.Objections.{isObjection}
 use Rattle.answers.specs.declared.Answer.{Answer}
 use Rattle.receiving.specs.Verdicts.{objectionTo, roomVerdict, decisionOf}
 use Rattle.receiving.specs.Settled.{ledgerAfter, journalAfter}

@@ -8,7 +8,8 @@ use mathlib.Core.List.{List, [], _∷_, _++_}
 use Prim.Native.Nat.{ℕ, suc, _≤_}
 use native.Mathlib.Omega.{arith}
 use native.Mathlib.Decide.{ℕ-discrete, decLt}
-use Rattle.serial.specs.Serial.{Item, event, taking, upd, annotate, final, Every, times, OrderOf, stretch, out, left, rests, serial, serialize, Lined, Same}
+use Rattle.serial.specs.Serial.{Item, event, taking, upd, annotate, final, Every, times, OrderOf, stretch, out, left, rests, serial, serialize}
+use Rattle.serial.specs.Inner.Machine.{Lined, Same}
 use Rattle.serial.proofs.Updates.{upd-all, stretch-append, times-own, times-other}
 use Rattle.serial.proofs.Runs.{Runs, runs-append}
 

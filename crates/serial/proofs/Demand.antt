@@ -5,8 +5,10 @@ use mathlib.Core.Path.{_≡_}
 use mathlib.Core.Bool.{Bool}
 use mathlib.Core.List.{List, [], _∷_}
 use Prim.Native.Nat.{ℕ}
-use Rattle.serial.specs.Serial.{Item, event, taking, annotate, items, Every, GoesAlike, OrderOf, count, serialize, Lined, NothingElse}
-use Rattle.serial.specs.Kept.{OnLine, Rearranged}
+use Rattle.serial.specs.Serial.{Item, event, taking, annotate, items, Every, GoesAlike, OrderOf, count, serialize}
+use Rattle.serial.specs.Inner.Machine.{Lined, NothingElse}
+use Rattle.serial.specs.Inner.Machine.{OnLine}
+use Rattle.serial.specs.Kept.{Rearranged}
 use Rattle.serial.proofs.Runs.{items-annotate}
 use Rattle.serial.proofs.Theorem.{serial-alike}
 use Rattle.serial.proofs.Kept.{count-kept, rearranged}

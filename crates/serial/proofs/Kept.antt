@@ -9,7 +9,8 @@ use native.Mathlib.Omega.{arith}
 use native.Mathlib.Decide.{ℕ-discrete}
 use borrow.Author.Tests.{eq-eqb, ne-eqb}
 use Rattle.serial.specs.Serial.{Item, event, taking, items, Every, count, OrderOf, upd, stretch, out, left, rests, serial, serialize}
-use Rattle.serial.specs.Kept.{only, OnLine, isOf, isEnd, Part, finished, took, Undecided, Proper, itemsOf, Whole, Rearranged}
+use Rattle.serial.specs.Kept.{only, isOf, isEnd, Part, finished, took, Undecided, Proper, itemsOf, Whole, Rearranged}
+use Rattle.serial.specs.Inner.Machine.{OnLine}
 use Rattle.serial.proofs.Updates.{upd-all, upd-own, upd-other, stretch-append}
 use Rattle.serial.proofs.Lists.{only-append, count-append, mine, own-stretch, other-stretch, rests-own, rests-count}
 

@@ -6,8 +6,10 @@ use mathlib.Core.List.{List}
 use Prim.Native.Nat.{ℕ, zero, suc, _+_, _≤_, _<_}
 use native.Mathlib.Omega.{arith}
 use native.Mathlib.Decide.{ℕ-discrete}
-use Rattle.serial.specs.Serial.{Item, annotate, final, items, Every, count, times, OrderOf, countUp, upTo, serialize, Lined, NothingElse}
-use Rattle.serial.specs.Kept.{only, OnLine, isOf}
+use Rattle.serial.specs.Serial.{Item, annotate, final, items, Every, count, times, OrderOf, countUp, upTo, serialize}
+use Rattle.serial.specs.Inner.Machine.{Lined, NothingElse}
+use Rattle.serial.specs.Kept.{only, isOf}
+use Rattle.serial.specs.Inner.Machine.{OnLine}
 use Rattle.serial.proofs.Updates.{times-own, times-other}
 use Rattle.serial.proofs.Theorem.{serial-final}
 use Rattle.serial.proofs.Kept.{line-kept, count-kept}

@@ -4,7 +4,8 @@ use mathlib.Core.Path.{_≡_, _∙_}
 use mathlib.Core.Bool.{Bool}
 use mathlib.Core.List.{List}
 use Prim.Native.Nat.{ℕ}
-use Rattle.serial.specs.Serial.{Item, annotate, final, items, Every, GoesAlike, OrderOf, serialize, Lined, NothingElse}
+use Rattle.serial.specs.Serial.{Item, annotate, final, items, Every, GoesAlike, OrderOf, serialize}
+use Rattle.serial.specs.Inner.Machine.{Lined, NothingElse}
 use Rattle.serial.proofs.Runs.{runs-annotate, runs-final}
 use Rattle.serial.proofs.Behind.{Reaches, lags-run, final-sound}
 

@@ -9,7 +9,8 @@ use native.Mathlib.Omega.{arith}
 use native.Mathlib.Decide.{ℕ-discrete, decLt}
 use borrow.Author.Tests.{eq-eqb, ne-eqb}
 use Rattle.serial.specs.Serial.{Item, event, taking, items, Every, times, OrderOf, upd, stretch, out, left, rests, serial, serialize}
-use Rattle.serial.specs.Kept.{only, OnLine, isEnd, Part, finished, took, Undecided, Proper, itemsOf, allItems, Rearranged}
+use Rattle.serial.specs.Kept.{only, isEnd, Part, finished, took, Undecided, Proper, itemsOf, allItems, Rearranged}
+use Rattle.serial.specs.Inner.Machine.{OnLine}
 use Rattle.serial.proofs.Updates.{upd-own, upd-other, stretch-append, times-own}
 use Rattle.serial.proofs.Lists.{clash, only-append, mine, own-stretch, other-stretch, rests-own}
 use Rattle.serial.proofs.Kept.{shift, left-undecided, stretch-passes, rests-passes}

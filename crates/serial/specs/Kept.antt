@@ -13,11 +13,6 @@ abbrev pub only : {X : Type 0} → (X → Bool) → List X → List X
 only p [] = []
 only p (x ∷ xs) = cond (p x) (x ∷ only p xs) (only p xs)
 
--- an event's line is one of the lines
-abbrev pub OnLine : {K N : Type 0} → ℕ → Item K N → Type 0
-OnLine lines (event i k) = i < lines
-OnLine lines (taking i n) = Unit {0}
-
 module _ {K N : Type 0} where
   -- whether an item is an event of line i
   abbrev pub isOf : ℕ → Item K N → Bool

@@ -1,2 +1,3 @@
 pub mod Serial
 pub mod Kept
+pub mod Inner

@@ -4,7 +4,7 @@ use mathlib.Core.Path.{sym, ap, _∙_}
 use borrow.Author.Needs.{needs}
 use denote.Ref.{now}
 use lib.ListN.{length}
-use Rattle.header.specs.Entry.{wholeHead}
+use Rattle.header.specs.Inner.Entry.{wholeHead}
 use Rattle.header.specs.declared.Header.{Header}
 use Rattle.header.proofs.Starts.{first-read, first-unread}
 use Rattle.header.proofs.entry_at.Statement.{statement}

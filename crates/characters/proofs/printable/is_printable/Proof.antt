@@ -9,7 +9,7 @@ use lib.Seq.{take-length}
 use borrow.Author.Needs.{needs}
 use denote.Ref.{now}
 use Rattle.memory.specs.Tests.{all}
-use Rattle.characters.specs.Printable.{printable}
+use Rattle.characters.specs.Inner.Printable.{printable}
 use Rattle.characters.proofs.PrintableBytes.{leb-max, all-more}
 use Rattle.characters.proofs.printable.is_printable.Statement.{statement}
 use Rattle.characters.proofs.printable.is_printable.Tie as tie

@@ -2,7 +2,7 @@
 -- Assumes nothing.
 use mathlib.Core.Path.{sym, ap}
 use borrow.Author.Needs.{needs}
-use Rattle.characters.specs.Printable.{printable}
+use Rattle.characters.specs.Inner.Printable.{printable}
 use Rattle.characters.proofs.PrintableBytes.{printable-past}
 use Rattle.characters.proofs.printable.past_space.Statement.{statement}
 use Rattle.characters.proofs.printable.past_space.Tie as tie

@@ -6,7 +6,7 @@ use mathlib.Core.Path.{_≡_, refl, _∙_}
 use mathlib.Core.List.{List}
 use native.Mathlib.Omega.{arith}
 use lib.ListN.{length, length-set, set}
-use Rattle.owner.specs.Nearest.{depthAt, Ready, Ran}
+use Rattle.owner.specs.Inner.Nearest.{depthAt, Ready, Ran}
 use Rattle.owner.proofs.RunLaws.{inside, ready-child, ready-on, ran-none, ran-on, ran-owner}
 use Prim.Native.Nat.{ℕ, _<_}
 use borrow.Fn.Kinds.{In}

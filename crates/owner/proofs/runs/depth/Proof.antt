@@ -2,7 +2,7 @@
 -- Assumes nothing.
 use borrow.Author.Tests.{ne-eqb}
 use Rattle.kinds.specs.Kinds.{kindOf}
-use Rattle.owner.specs.Levels.{depthOf}
+use Rattle.owner.specs.Inner.Depths.{depthOf}
 use Rattle.owner.proofs.runs.depth.Statement.{statement}
 use Rattle.owner.proofs.runs.depth.Tie as tie
 

@@ -6,7 +6,7 @@ use mathlib.Core.List.{List, [], _∷_}
 use mathlib.Core.Bool.{cond}
 use lib.Dec.{ltb}
 use lib.ListN.{length, getD}
-use Rattle.owner.specs.Levels.{depthOf}
+use Rattle.owner.specs.Inner.Depths.{depthOf}
 
 -- of the records with these types, the one at index k
 abbrev pub depthAt : List ℕ → ℕ → ℕ
