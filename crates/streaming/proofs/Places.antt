@@ -22,7 +22,7 @@ use Rattle.replaying.specs.declared.Progress.{Progress}
 use Rattle.replaying.specs.declared.Stop.{Stop}
 use Rattle.replaying.specs.declared.Stop.the-variants.{Input, Output, NotAnEvent}
 use Rattle.replaying.proofs.InPieces.{in-pieces}
-use Rattle.streaming.specs.Keeping.{isRunning, wants, LiesIn, nothing, closes, Held, holds, grown, finished, fedOf, onward, byStop, handed, moved, behind, saidAt, saidOf}
+use Rattle.streaming.specs.Keeping.{isRunning, wants, LiesIn, begun, nothing, closes, Held, holds, grown, finished, fedOf, onward, byStop, handed, moved, behind, saidAt, saidOf}
 use Rattle.streaming.specs.Streams.{Stream, streamOf, waiting, handedOn, ran, spoken, turned}
 use Rattle.streaming.specs.declared.Kept.{Kept}
 use Rattle.streaming.specs.declared.Stage.{Stage}
@@ -116,3 +116,18 @@ turned-lies s h = by-stage (isRunning (s .kept .stage))
     by-stage : (b : Bool) → LiesIn (cond b (ran s) (spoken s) .kept) (length (cond b (ran s) (spoken s) .input))
     by-stage true = ran-lies s h
     by-stage false = said-lies (s .kept .stage) (s .kept) (s .out) (length (s .input)) h
+
+-- ---- what a caller knows
+
+pub nothing-lies : {r : Kept} (most : ℕ) → r ≡ nothing → LiesIn r most
+nothing-lies most e = subst (λ (x : Kept). LiesIn x most) (sym e) (omega arith, omega arith)
+
+pub begun-lies : {r : Kept} (n most : ℕ) → r ≡ begun n → n ≤ most → LiesIn r most
+begun-lies n most e h = subst (λ (x : Kept). LiesIn x most) (sym e) (omega arith, h)
+
+pub after-feed : (k : Kept) (n : ℕ) (input : List ℕ) {r : Kept} {input′ : List ℕ} → r ≡ fedOf k n input .kept → input′ ≡ fedOf k n input .input
+    → LiesIn k (length input) → LiesIn r (length input′)
+after-feed k n input e i h = rw (e, i) (fed-lies k n input h)
+
+pub after-turn : (s : Stream) {r : Kept} {input out : List ℕ} {d : Desk} → streamOf r input out d ≡ turned s → LiesIn (s .kept) (length (s .input)) → LiesIn r (length input)
+after-turn s e h = subst (λ (x : Stream). LiesIn (x .kept) (length (x .input))) (sym e) (turned-lies s h)

@@ -111,11 +111,11 @@ module _ (k : Kept) (input out : List ℕ) (d : Desk) where
 
 -- ---- a turn
 
-module _ (s : Stream) where
-  pub running : isRunning (s .kept .stage) ≡ true → turned s ≡ ran s
+module _ (s : Stream) {t : Stream} where
+  pub running : isRunning (s .kept .stage) ≡ true → t ≡ ran s → t ≡ turned s
   unfolding turned
-  running e = rw e
+  running e q = rw e q
 
-  pub speaking : isRunning (s .kept .stage) ≡ false → turned s ≡ spoken s
+  pub speaking : isRunning (s .kept .stage) ≡ false → t ≡ spoken s → t ≡ turned s
   unfolding turned
-  speaking e = rw e
+  speaking e q = rw e q

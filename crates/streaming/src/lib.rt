@@ -75,7 +75,7 @@ pub fn is_over(stage: Stage) -> bool
 }
 
 // Nothing is left to do.
-fn over() -> Kept
+pub fn over() -> Kept
     ensures { λ r. ⌜ r ≡ nothing ⌝ }
 {
     Kept {

@@ -1,8 +1,7 @@
 -- `streaming::turn` meets its contract.
 -- Assumes nothing.
 use borrow.Author.Needs.{needs}
-use borrow.Author.Tests.{not-true}
-use mathlib.Core.Path.{_≡_, sym, _∙_}
+use mathlib.Core.Path.{sym, _∙_}
 use denote.Ref.{now}
 use Rattle.replaying.specs.Desk.{Desk}
 use Rattle.replaying.specs.Turns.{deskOf}
@@ -33,7 +32,7 @@ returns c =
     let r = ran c in
     let t = runs r in
     let s = start (t .before .before) in
-    (r .run .ensures .0 ∙ sym (running (stream s) (sym (t .before .runs .ensures) ∙ t .if1 .taken)), r .run .ensures .1)
+    (running (stream s) (sym (t .before .runs .ensures) ∙ t .if1 .taken) (r .run .ensures .0), r .run .ensures .1)
 
 returns-2 : tie.Need-returns-2
 returns-2 c =
@@ -42,7 +41,7 @@ returns-2 c =
     let s = start (l .before .before) in
     let a = s .args in
     let (next, text, within) = e .say .ensures in
-    (is-spoken (a .kept) (now (a .input)) (now (a .out)) (desk s) next text ∙ sym (speaking (stream s) (sym (l .before .runs .ensures) ∙ l .if1 .left)), within)
+    (speaking (stream s) (sym (l .before .runs .ensures) ∙ l .if1 .left) (is-spoken (a .kept) (now (a .input)) (now (a .out)) (desk s) next text), within)
 
 pub turn-spec : {M : Type 1} → statement M
 turn-spec =
