@@ -1,7 +1,7 @@
 // A trace, piece by piece: a turn, a write, and where more is wanted a read. What is done between them is proved in `streaming`.
 ghost use Prim.Native.Nat.{_≤_};
 ghost use lib.ListN.{length};
-ghost use Rattle.streaming.specs.Keeping.{LiesIn};
+ghost use Rattle.streaming.specs.Inner.Places.{LiesIn};
 use crate::writing;
 use streaming::Kept;
 

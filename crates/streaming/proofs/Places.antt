@@ -22,7 +22,8 @@ use Rattle.replaying.specs.declared.Progress.{Progress}
 use Rattle.replaying.specs.declared.Stop.{Stop}
 use Rattle.replaying.specs.declared.Stop.the-variants.{Input, Output, NotAnEvent}
 use Rattle.replaying.proofs.InPieces.{in-pieces}
-use Rattle.streaming.specs.Keeping.{isRunning, wants, LiesIn, begun, nothing, closes, Held, holds, grown, finished, fedOf, onward, byStop, handed, moved, behind, saidAt, saidOf}
+use Rattle.streaming.specs.Keeping.{isRunning, wants, begun, nothing, closes, Held, holds, grown, finished, fedOf, onward, byStop, handed, moved, behind, saidAt, saidOf}
+use Rattle.streaming.specs.Inner.Places.{LiesIn}
 use Rattle.streaming.specs.Streams.{Stream, streamOf, waiting, handedOn, ran, spoken, turned}
 use Rattle.streaming.specs.declared.Kept.{Kept}
 use Rattle.streaming.specs.declared.Stage.{Stage}

@@ -16,13 +16,12 @@ use Rattle.listing.specs.Texts.{endOf, TextWritten}
 use Rattle.listing.specs.declared.Written.{Written}
 use Rattle.listing.specs.declared.Written.the-variants.{To, NotFitting}
 use Rattle.replaying.specs.Desk.{Desk}
-use Rattle.replaying.specs.Turns.{deskOf}
-use Rattle.replaying.specs.Runs.{pieceOf, Ran}
+use Rattle.replaying.specs.Runs.{AfterRun, runLeaves, pieceOf}
 use Rattle.replaying.specs.declared.Progress.{Progress}
 use Rattle.replaying.specs.declared.Stop.{Stop}
 use Rattle.replaying.specs.declared.Stop.the-variants.{Input, Output, NotAnEvent}
 use Rattle.streaming.specs.Keeping.{isRunning, wants, nothing, closes, onward, byStop, handed, moved, Said, behind, silent, saying, saidAt, saidOf}
-use Rattle.streaming.specs.Streams.{Stream, streamOf, waiting, ran, spoken, turned}
+use Rattle.streaming.specs.Streams.{Stream, streamOf, waiting, handedOn, ran, spoken, turned}
 use Rattle.streaming.specs.declared.Kept.{Kept}
 use Rattle.streaming.specs.declared.Stage.{Stage}
 use Rattle.streaming.specs.declared.Stage.the-variants.{Wants, Total, Fault}
@@ -99,12 +98,12 @@ module _ (k : Kept) (input out : List ℕ) (d : Desk) where
   unfolding ran
   past-end h i e = rw (le-leb (k .from) (k .end) h, lt-leb (k .end) (length input) i, e)
 
-  pub is-run : {p : Progress} {r : Kept} {input′ out′ ns us j u f b : List ℕ} → k .from ≤ k .end → k .end ≤ length input
-      → Ran (pieceOf (k .events) (waiting k input) out d) p out′ ns us j u f b → r ≡ handed k p → input′ ≡ moved k p input
-      → streamOf r input′ out′ (deskOf ns us j u f b) ≡ ran (streamOf k input out d)
+  pub is-run : {p : Progress} {r : Kept} {input′ out′ : List ℕ} {d′ : Desk} → k .from ≤ k .end → k .end ≤ length input
+      → runLeaves p out′ d′ ≡ pieceOf (k .events) (waiting k input) out d → r ≡ handed k p → input′ ≡ moved k p input
+      → streamOf r input′ out′ d′ ≡ ran (streamOf k input out d)
   unfolding ran
   is-run h i q e m =
-      rw (le-leb (k .from) (k .end) h, le-leb (k .end) (length input) i, e, m, q .progress, q .out, q .numbers, q .counts, q .journal, q .unfinished, q .frames, q .buffer)
+      rw (le-leb (k .from) (k .end) h, le-leb (k .end) (length input) i, e, m) (ap (λ (x : AfterRun). handedOn (streamOf k input out d) x) q)
 
   pub is-spoken : {r : Kept} {out′ : List ℕ} → r ≡ saidOf k out .kept → out′ ≡ saidOf k out .out → streamOf r input out′ d ≡ spoken (streamOf k input out d)
   is-spoken e o = rw (e, o)

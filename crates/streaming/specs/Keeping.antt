@@ -1,6 +1,6 @@
 -- What is kept of a trace between two calls, and what becomes of it: behind a read, behind a run, behind a line of the listing that is no row.
 -- Assumes nothing.
-use Prim.Native.Nat.{ℕ, _+_, _-_, _≤_}
+use Prim.Native.Nat.{ℕ, _+_, _-_}
 use mathlib.Core.Bool.{Bool, true, false, cond}
 use mathlib.Core.List.{List}
 use lib.ListN.{length, set}
@@ -42,10 +42,6 @@ isOver Wants = false
 isOver Total = false
 isOver Fault = false
 isOver Over = true
-
--- what waits lies in an input of so many bytes
-abbrev pub LiesIn : Kept → ℕ → Type 0
-LiesIn k most = (k .from ≤ k .end) × (k .end ≤ most)
 
 -- n bytes are read, and nothing is run
 abbrev pub begun : ℕ → Kept

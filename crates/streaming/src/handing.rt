@@ -2,7 +2,7 @@
 ghost use Prim.Native.Nat.{_+_, _≤_};
 ghost use mathlib.Core.Path.{_≡_};
 ghost use lib.ListN.{length};
-ghost use Rattle.replaying.specs.Turns.{deskOf};
+ghost use Rattle.replaying.specs.Desk.{deskOf};
 ghost use Rattle.streaming.specs.Keeping.{handed, moved, closes, onward};
 ghost use Rattle.streaming.specs.Streams.{streamOf, ran};
 use super::Kept;

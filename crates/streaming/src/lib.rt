@@ -3,7 +3,7 @@
 ghost use Prim.Native.Nat.{_≤_};
 ghost use mathlib.Core.Path.{_≡_};
 ghost use lib.ListN.{length};
-ghost use Rattle.replaying.specs.Turns.{deskOf};
+ghost use Rattle.replaying.specs.Desk.{deskOf};
 ghost use Rattle.streaming.specs.Keeping.{begun, wants, isOver, nothing, fedOf};
 ghost use Rattle.streaming.specs.Streams.{streamOf, turned};
 

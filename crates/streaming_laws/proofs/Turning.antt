@@ -27,7 +27,8 @@ use Rattle.replaying.specs.declared.Progress.{Progress}
 use Rattle.replaying.specs.declared.Stop.{Stop}
 use Rattle.replaying.specs.declared.Stop.the-variants.{Input, Output, NotAnEvent}
 use Rattle.replaying.proofs.InPieces.{in-pieces}
-use Rattle.streaming.specs.Keeping.{LiesIn, isRunning, wants, closes, onward, byStop, handed, moved, behind, silent, saidAt, saidOf}
+use Rattle.streaming.specs.Keeping.{isRunning, wants, closes, onward, byStop, handed, moved, behind, silent, saidAt, saidOf}
+use Rattle.streaming.specs.Inner.Places.{LiesIn}
 use Rattle.streaming.specs.Streams.{Stream, streamOf, waiting, shown, handedOn, ran, spoken, turned}
 use Rattle.streaming.specs.declared.Kept.{Kept}
 use Rattle.streaming.specs.declared.Stage.{Stage}

@@ -7,10 +7,9 @@ use mathlib.Core.Path.{_≡_, refl, sym, ap, subst, _∙_}
 use denote.Ref.{now}
 use lib.ListN.{length}
 use mathlib.Core.List.{List}
-use Rattle.replaying.specs.Desk.{Desk}
-use Rattle.replaying.specs.Turns.{deskOf}
+use Rattle.replaying.specs.Desk.{Desk, deskOf}
 use Rattle.replaying.specs.Runs.{AfterRun, runOf, pieceOf}
-use Rattle.replaying.proofs.Pieces.{went-on, stopped-at, ran-out, as-piece, read-in, ends-in}
+use Rattle.replaying.proofs.Pieces.{went-on, stopped-at, ran-out, read-in, ends-in}
 use Rattle.replaying.proofs.run.Statement.{statement}
 use Rattle.replaying.proofs.run.Tie as tie
 
@@ -80,7 +79,7 @@ returns c =
     let l = turning t in
     let i = l .loop .inv in
     let stop = stopped-at _ _ _ _ _ (desk l) (counted t .wrapping-add-u64 .ensures) (t .turn .ensures .0) (l .loop .left) (search (needs, counted t .before .loop-test)) (c .before .turn2 .given .1) in
-    (as-piece (i .comes-to) stop, i .read-within, subst (λ (n : ℕ). l .loop .put ≤ n) (sym (out-kept t)) (i .written-within))
+    (stop ∙ sym (i .comes-to), i .read-within, subst (λ (n : ℕ). l .loop .put ≤ n) (sym (out-kept t)) (i .written-within))
 
 loop-again : tie.Need-loop-again Inv-loop μ-loop
 loop-again c =
@@ -106,7 +105,7 @@ returns-2 c =
     let i = l .loop .inv in
     let none : l .loop .left ≡ 0 = omega arith in
     let done = ap (λ (n : ℕ). runOf n (now (start l .args .input)) (l .loop .count) (l .loop .at) (l .loop .put) (l .loop .out) (desk l)) none in
-    (as-piece (i .comes-to ∙ done) (ran-out _ _ _ _ _ _ _ _ _ _ _), i .read-within, i .written-within)
+    (ran-out _ _ _ _ _ _ ∙ sym (i .comes-to ∙ done), i .read-within, i .written-within)
 
 pub run-spec : {M : Type 1} → statement M
 run-spec =

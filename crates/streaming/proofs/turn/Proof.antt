@@ -3,8 +3,7 @@
 use borrow.Author.Needs.{needs}
 use mathlib.Core.Path.{sym, _∙_}
 use denote.Ref.{now}
-use Rattle.replaying.specs.Desk.{Desk}
-use Rattle.replaying.specs.Turns.{deskOf}
+use Rattle.replaying.specs.Desk.{Desk, deskOf}
 use Rattle.streaming.specs.Streams.{Stream, streamOf}
 use Rattle.streaming.proofs.Ways.{is-spoken, running, speaking}
 use Rattle.streaming.proofs.turn.Statement.{statement}

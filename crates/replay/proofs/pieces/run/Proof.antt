@@ -6,7 +6,7 @@ use mathlib.Core.List.{List}
 use Prim.Native.Nat.{ℕ}
 use lib.ListN.{length}
 use Rattle.memory.specs.Sizes.{journalSize, unfinishedSize, framesSize, messageLimit}
-use Rattle.streaming.specs.Keeping.{LiesIn}
+use Rattle.streaming.specs.Inner.Places.{LiesIn}
 use Rattle.streaming.specs.declared.Kept.{Kept}
 use Rattle.streaming.proofs.Places.{begun-lies, after-turn}
 use Rattle.replay.proofs.pieces.run.Statement.{statement}

@@ -4,8 +4,7 @@ use borrow.Author.Needs.{needs}
 use native.Mathlib.Omega.{arith}
 use mathlib.Core.Path.{_≡_, ap, _∙_}
 use denote.Ref.{now}
-use Rattle.replaying.specs.Desk.{Desk}
-use Rattle.replaying.specs.Turns.{deskOf}
+use Rattle.replaying.specs.Desk.{Desk, deskOf}
 use Rattle.streaming.specs.declared.Kept.{Kept}
 use Rattle.streaming.proofs.Ways.{rows-shown, no-place, past-end, is-run}
 use Rattle.streaming.proofs.handing.run.Statement.{statement}

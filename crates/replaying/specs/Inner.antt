@@ -1,0 +1,3 @@
+pub mod Usual
+pub mod Asking
+pub mod Bounds
