@@ -26,12 +26,16 @@ desk s = let a = s .args in deskOf (now (a .numbers)) (now (a .counts)) (now (a 
 abbrev stream : tie.Start → Stream
 stream s = let a = s .args in streamOf (a .kept) (now (a .input)) (now (a .out)) (desk s)
 
+-- and behind the run
+abbrev run-stream : tie.After-run → Stream
+run-stream r = let l = r .run .last in let m = l .1 .1 .1 in streamOf (r .run .result) (l .1 .0) (l .1 .1 .0) (deskOf (m .0) (m .1 .0) (m .1 .1 .0) (m .1 .1 .1 .0) (m .1 .1 .1 .1 .0) (m .1 .1 .1 .1 .1 .0))
+
 returns : tie.Need-returns
 returns c =
     let r = ran c in
     let t = runs r in
     let s = start (t .before .before) in
-    (running (stream s) (sym (t .before .runs .ensures) ∙ t .if1 .taken) (r .run .ensures .0), r .run .ensures .1)
+    (running (stream s) {t = run-stream r} (sym (t .before .runs .ensures) ∙ t .if1 .taken) (r .run .ensures .0), r .run .ensures .1)
 
 returns-2 : tie.Need-returns-2
 returns-2 c =

@@ -35,6 +35,10 @@ columns c = c .before .before
 abbrev desk : tie.Start → Desk
 desk s = let a = s .args in deskOf (now (a .numbers)) (now (a .counts)) (now (a .journal)) (now (a .unfinished)) (now (a .frames)) (now (a .buffer))
 
+-- and behind what the line asks
+abbrev desk-behind : tie.After-ask → Desk
+desk-behind q = let m = q .ask .last .1 in deskOf (m .0) (m .1 .0) (m .1 .1 .0) (m .1 .1 .1 .0) (m .1 .1 .1 .1 .0) (m .1 .1 .1 .1 .1 .0)
+
 -- past the tests there is room for a row
 roomy : (c : tie.After-next) → line-start c .args .put + rowRoom ≤ length (now (line-start c .args .out))
 roomy c = omega arith
@@ -76,7 +80,7 @@ returns-4 c =
     let s = line-start n in
     let a = s .args in
     let (row, ends) = t .put-columns .ensures in
-    let done = asked-put (desk s) (now (a .out)) (a .put) (i .item .given .0 .0) (a .number) (i .item .given .0 .1 .0) (q .ask .ensures) row in
+    let done = asked-put (desk s) (now (a .out)) (a .put) (i .item .given .0 .0) (a .number) (i .item .given .0 .1 .0) {d′ = desk-behind q} (q .ask .ensures) row in
     let within = behind-within (now (a .input)) (a .at) (next-is i) in (
       has-room (desk s) (now (a .out)) (a .put) (now (a .input)) (a .at) (a .number) (roomy n) (next-is i) done,
       acted-behind (desk s) (now (a .out)) (a .put) (i .item .given .0 .0) (a .number) (i .item .given .0 .1 .0) (length (now (a .input))) within (ap (λ (x : AfterTurn). x .turn) done),

@@ -24,6 +24,10 @@ start c = c .before .before .before .before .before .before
 abbrev desk : tie.Start → Desk
 desk s = let a = s .args in deskOf (now (a .numbers)) (now (a .counts)) (now (a .journal)) (now (a .unfinished)) (now (a .frames)) (now (a .buffer))
 
+-- and behind the run
+abbrev desk-behind : tie.After-run → Desk
+desk-behind r = let m = r .run .last .1 .1 .1 in deskOf (m .0) (m .1 .0) (m .1 .1 .0) (m .1 .1 .1 .0) (m .1 .1 .1 .1 .0) (m .1 .1 .1 .1 .1 .0)
+
 returns : tie.Need-returns
 returns c =
     let s = start (c .before .before) in
@@ -45,7 +49,7 @@ returns-3 c =
     let a = s .args in
     let (next, rest) = h .hand-on .ensures in
     let rows : h .hand-on .result .written ≡ r .run .result .written = ap (λ (x : Kept). x .written) next ∙ rows-shown (a .kept) (r .run .result) in
-    (is-run (a .kept) (now (a .input)) (now (a .out)) (desk s) (omega (arith, t .before .if1 .left)) (omega (arith, t .if2 .left)) (r .run .ensures .0) next rest, rw rows (r .run .ensures .2))
+    (is-run (a .kept) (now (a .input)) (now (a .out)) (desk s) {d′ = desk-behind r} (omega (arith, t .before .if1 .left)) (omega (arith, t .if2 .left)) (r .run .ensures .0) next rest, rw rows (r .run .ensures .2))
 
 pub run-spec : {M : Type 1} → statement M
 run-spec =
