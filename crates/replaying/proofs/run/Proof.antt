@@ -86,8 +86,8 @@ returns c =
     let l = turning t in
     let i = l .loop .inv in
     let stop =
-        stopped-at (now (start l .args .input)) (l .loop .count) (l .loop .at) (l .loop .put) (l .loop .out) (desk l) {out′ = out-behind t} {d′ = desk-behind t}
-        (counted t .wrapping-add-u64 .ensures) (t .turn .ensures .0) (l .loop .left) (search (needs, counted t .before .loop-test)) (c .before .turn2 .given .1) in
+    stopped-at (now (start l .args .input)) (l .loop .count) (l .loop .at) (l .loop .put) (l .loop .out) (desk l) {out′ = out-behind t} {d′ = desk-behind t}
+    (counted t .wrapping-add-u64 .ensures) (t .turn .ensures .0) (l .loop .left) (search (needs, counted t .before .loop-test)) (c .before .turn2 .given .1) in
     (stop ∙ sym (i .comes-to), i .read-within, subst (λ (n : ℕ). l .loop .put ≤ n) (sym (out-kept t)) (i .written-within))
 
 loop-again : tie.Need-loop-again Inv-loop μ-loop
