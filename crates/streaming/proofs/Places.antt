@@ -22,7 +22,10 @@ use Rattle.replaying.specs.declared.Progress.{Progress}
 use Rattle.replaying.specs.declared.Stop.{Stop}
 use Rattle.replaying.specs.declared.Stop.the-variants.{Input, Output, NotAnEvent}
 use Rattle.replaying.proofs.InPieces.{in-pieces}
-use Rattle.streaming.specs.Keeping.{isRunning, wants, begun, nothing, closes, Held, holds, grown, finished, fedOf, onward, byStop, handed, moved, behind, saidAt, saidOf}
+use Rattle.streaming.specs.Stages.{isRunning, wants, begun, nothing, closes}
+use Rattle.streaming.specs.Fed.{Held, holds, grown, finished, fedOf}
+use Rattle.streaming.specs.Handed.{onward, byStop, handed, moved}
+use Rattle.streaming.specs.Said.{behind, saidAt, saidOf}
 use Rattle.streaming.specs.Inner.Places.{LiesIn}
 use Rattle.streaming.specs.Streams.{Stream, streamOf, waiting, handedOn, ran, spoken, turned}
 use Rattle.streaming.specs.declared.Kept.{Kept}

@@ -20,7 +20,9 @@ use Rattle.replaying.specs.Runs.{AfterRun, runLeaves, pieceOf}
 use Rattle.replaying.specs.declared.Progress.{Progress}
 use Rattle.replaying.specs.declared.Stop.{Stop}
 use Rattle.replaying.specs.declared.Stop.the-variants.{Input, Output, NotAnEvent}
-use Rattle.streaming.specs.Keeping.{isRunning, wants, nothing, closes, onward, byStop, handed, moved, Said, behind, silent, saying, saidAt, saidOf}
+use Rattle.streaming.specs.Stages.{isRunning, wants, nothing, closes}
+use Rattle.streaming.specs.Handed.{onward, byStop, handed, moved}
+use Rattle.streaming.specs.Said.{Said, behind, silent, saying, saidAt, saidOf}
 use Rattle.streaming.specs.Streams.{Stream, streamOf, waiting, handedOn, ran, spoken, turned}
 use Rattle.streaming.specs.declared.Kept.{Kept}
 use Rattle.streaming.specs.declared.Stage.{Stage}

@@ -8,7 +8,9 @@ use lib.Dec.{leb}
 use Rattle.memory.specs.Tests.{unless}
 use Rattle.replaying.specs.Desk.{Desk}
 use Rattle.replaying.specs.Runs.{AfterRun, pieceOf}
-use Rattle.streaming.specs.Keeping.{isRunning, nothing, handed, moved, saidOf}
+use Rattle.streaming.specs.Stages.{isRunning, nothing}
+use Rattle.streaming.specs.Handed.{handed, moved}
+use Rattle.streaming.specs.Said.{saidOf}
 use Rattle.streaming.specs.declared.Kept.{Kept}
 
 -- a trace on its way
@@ -33,6 +35,7 @@ shown s = take (s .kept .written) (s .out)
 abbrev pub handedOn : Stream → AfterRun → Stream
 handedOn s r = streamOf (handed (s .kept) (r .progress)) (moved (s .kept) (r .progress) (s .input)) (r .out) (r .desk)
 
+-- where it does not lie in the input, nothing is done
 unfoldable pub ran : Stream → Stream
 ran s =
     unless (leb (s .kept .from) (s .kept .end) && leb (s .kept .end) (length (s .input))) (streamOf nothing (s .input) (s .out) (s .desk))
@@ -42,5 +45,6 @@ ran s =
 abbrev pub spoken : Stream → Stream
 spoken s = let said = saidOf (s .kept) (s .out) in streamOf (said .kept) (s .input) (said .out) (s .desk)
 
+-- one turn
 unfoldable pub turned : Stream → Stream
 turned s = cond (isRunning (s .kept .stage)) (ran s) (spoken s)

@@ -2,7 +2,8 @@
 ghost use Prim.Native.Nat.{_+_, _≤_, _<_, _^_};
 ghost use mathlib.Core.Path.{_≡_};
 ghost use lib.ListN.{length};
-ghost use Rattle.streaming.specs.Keeping.{grown, finished, closes};
+ghost use Rattle.streaming.specs.Stages.{closes};
+ghost use Rattle.streaming.specs.Fed.{grown, finished};
 use super::Kept;
 use super::Stage;
 

@@ -4,7 +4,8 @@ ghost use Prim.Native.Nat.{_≤_};
 ghost use mathlib.Core.Path.{_≡_};
 ghost use lib.ListN.{length};
 ghost use Rattle.replaying.specs.Desk.{deskOf};
-ghost use Rattle.streaming.specs.Keeping.{begun, wants, isOver, nothing, fedOf};
+ghost use Rattle.streaming.specs.Stages.{begun, wants, isOver, nothing};
+ghost use Rattle.streaming.specs.Fed.{fedOf};
 ghost use Rattle.streaming.specs.Streams.{streamOf, turned};
 
 mod feeding; // feeding.rt: what a read has brought

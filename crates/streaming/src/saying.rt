@@ -2,7 +2,8 @@
 ghost use Prim.Native.Nat.{_≤_};
 ghost use mathlib.Core.Path.{_≡_};
 ghost use lib.ListN.{length};
-ghost use Rattle.streaming.specs.Keeping.{isRunning, silent, behind, saidOf};
+ghost use Rattle.streaming.specs.Stages.{isRunning};
+ghost use Rattle.streaming.specs.Said.{silent, behind, saidOf};
 use super::Kept;
 use super::Stage;
 use listing::Written;

@@ -17,7 +17,8 @@ use Rattle.listing.specs.Items.{lineLimit}
 use Rattle.listing.specs.Texts.{newline, totalText}
 use Rattle.replaying.specs.Desk.{Desk}
 use Rattle.replaying.specs.Listed.{Listed, listingOf}
-use Rattle.streaming.specs.Keeping.{wants, closes, Held, holds, grown, finished, fedOf}
+use Rattle.streaming.specs.Stages.{wants, closes}
+use Rattle.streaming.specs.Fed.{Held, holds, grown, finished, fedOf}
 use Rattle.streaming.specs.Streams.{Stream, streamOf, waiting}
 use Rattle.streaming.specs.declared.Kept.{Kept}
 use Rattle.streaming.specs.declared.Stage.the-variants.{Runs, Wants, Total, Fault}

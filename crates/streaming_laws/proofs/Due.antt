@@ -11,7 +11,7 @@ use Rattle.listing.specs.Texts.{newline, headerText, totalText, faultText}
 use Rattle.replaying.specs.Desk.{rowRoom, Desk}
 use Rattle.replaying.specs.Runs.{following}
 use Rattle.replaying.specs.Listed.{listingOf}
-use Rattle.streaming.specs.Keeping.{wants}
+use Rattle.streaming.specs.Stages.{wants}
 use Rattle.streaming.specs.Inner.Places.{LiesIn}
 use Rattle.streaming.specs.Streams.{Stream, waiting, shown}
 use Rattle.streaming.specs.declared.Kept.{Kept}

@@ -8,12 +8,12 @@ use native.Mathlib.Omega.{arith}
 use lib.ListN.{length, take, drop}
 use Rattle.listing.specs.Items.{lineLimit}
 use Rattle.replaying.specs.Desk.{rowRoom, Desk}
-use Rattle.streaming.specs.Keeping.{wants}
+use Rattle.streaming.specs.Stages.{wants}
 use Rattle.streaming.specs.Streams.{Stream, waiting, shown, turned}
 use Rattle.streaming.specs.declared.Stage.{Stage}
 use Rattle.streaming.specs.declared.Stage.the-variants.{Begins, Runs, Wants, Total, Fault, Over}
 use Rattle.streaming_laws.specs.Listings.{listingText}
-use Rattle.streaming_laws.specs.Loop.{given, arrived, next, looped, started}
+use Rattle.streaming_laws.specs.Loop.{given, arrived, next, looped, started, WritesTheListing}
 use Rattle.streaming_laws.proofs.Due.{dueAt, due, running, turnsAt, turns, Wanting, Fine, Fewer, Turns}
 use Rattle.streaming_laws.proofs.Turning.{one-turn}
 use Rattle.streaming_laws.proofs.Arriving.{Arrives, arrives}
@@ -71,9 +71,7 @@ all-written pleases (suc most) s left f h =
     (goes pleases most (all-written pleases most) t (one .fine) left (turns s (length left)) h (t .kept .stage) refl (one .fewer (length left)))
     ∙ sym (one .writes left)
 
--- n bytes of a trace are read and the others left: whatever each read gives, the loop writes the listing of the trace, in at most two turns for each byte
-pub streams : (pleases : ℕ → ℕ) (most n : ℕ) (input out : List ℕ) (d : Desk) (left : List ℕ) → n ≤ length input → lineLimit < length input → rowRoom ≤ length out → n + 2 * length left + 5 ≤ most
-    → looped pleases most (started n input out d) left ≡ listingText (take n input ++ left) d
+pub streams : WritesTheListing
 streams pleases most n input out d left h i o m =
     let fine : Fine (started n input out d) = record { lies = (omega arith, h); long-input = i; long-out = o; counted = omega arith; wanting = tt } in
     let first : n - 0 ≡ n = omega arith in

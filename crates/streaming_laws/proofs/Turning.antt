@@ -22,12 +22,15 @@ use Rattle.listing.specs.declared.Written.the-variants.{To}
 use Rattle.listing.proofs.Columns.{length-total, length-fault}
 use Rattle.replaying.specs.Desk.{rowRoom, Desk}
 use Rattle.replaying.specs.Runs.{AfterRun, following, pieceOf}
-use Rattle.replaying.specs.Listed.{Listed, noRows, inFront, listingOf, Because, Goes}
+use Rattle.replaying.specs.Listed.{Listed, noRows, inFront, listingOf}
+use Rattle.replaying.specs.Inner.Pieces.{Because, Goes}
 use Rattle.replaying.specs.declared.Progress.{Progress}
 use Rattle.replaying.specs.declared.Stop.{Stop}
 use Rattle.replaying.specs.declared.Stop.the-variants.{Input, Output, NotAnEvent}
 use Rattle.replaying.proofs.InPieces.{in-pieces}
-use Rattle.streaming.specs.Keeping.{isRunning, wants, closes, onward, byStop, handed, moved, behind, silent, saidAt, saidOf}
+use Rattle.streaming.specs.Stages.{isRunning, wants, closes}
+use Rattle.streaming.specs.Handed.{onward, byStop, handed, moved}
+use Rattle.streaming.specs.Said.{behind, silent, saidAt, saidOf}
 use Rattle.streaming.specs.Inner.Places.{LiesIn}
 use Rattle.streaming.specs.Streams.{Stream, streamOf, waiting, shown, handedOn, ran, spoken, turned}
 use Rattle.streaming.specs.declared.Kept.{Kept}

@@ -1,14 +1,18 @@
 -- The loop over a trace, as a program runs it: a turn, a write, and where more is wanted a read.
 -- Assumes nothing.
-use Prim.Native.Nat.{ℕ, zero, suc, _-_, min, max}
+use Prim.Native.Nat.{ℕ, zero, suc, _+_, _*_, _-_, _≤_, _<_, min, max}
+use mathlib.Core.Path.{_≡_}
 use mathlib.Core.List.{List, [], _++_}
 use lib.ListN.{length, take, drop}
 use Rattle.memory.specs.Parts.{splice}
-use Rattle.replaying.specs.Desk.{Desk}
-use Rattle.streaming.specs.Keeping.{begun, fedOf}
+use Rattle.listing.specs.Items.{lineLimit}
+use Rattle.replaying.specs.Desk.{rowRoom, Desk}
+use Rattle.streaming.specs.Stages.{begun}
+use Rattle.streaming.specs.Fed.{fedOf}
 use Rattle.streaming.specs.Streams.{Stream, streamOf, shown, turned}
 use Rattle.streaming.specs.declared.Stage.{Stage}
 use Rattle.streaming.specs.declared.Stage.the-variants.{Begins, Runs, Wants, Total, Fault, Over}
+use Rattle.streaming_laws.specs.Listings.{listingText}
 
 -- what a read gives of what is left of a trace: as many bytes as it pleases, but at least one where one is left, and at most as many as there is room for
 abbrev pub given : ℕ → ℕ → List ℕ → List ℕ
@@ -37,3 +41,9 @@ looped pleases (suc most) s left = let t = turned s in shown t ++ next (t .kept 
 -- n bytes of a trace are read into the input
 abbrev pub started : ℕ → List ℕ → List ℕ → Desk → Stream
 started n input out d = streamOf (begun n) input out d
+
+-- n bytes of a trace are read and the others left: whatever each read gives, all that is written is the listing of the trace, in at most two turns for each byte
+abbrev pub WritesTheListing : Type 0
+WritesTheListing =
+    (pleases : ℕ → ℕ) (most n : ℕ) (input out : List ℕ) (d : Desk) (left : List ℕ) → n ≤ length input → lineLimit < length input → rowRoom ≤ length out → n + 2 * length left + 5 ≤ most
+    → looped pleases most (started n input out d) left ≡ listingText (take n input ++ left) d

@@ -7,7 +7,7 @@ use denote.Ref.{now}
 use Prim.Native.Nat.{_+_, _≤_, _<_}
 use lib.ListN.{length}
 use Rattle.memory.proofs.Branches.{branches}
-use Rattle.streaming.specs.Keeping.{fedOf}
+use Rattle.streaming.specs.Fed.{fedOf}
 use Rattle.streaming.proofs.feed.Statement.{statement}
 use Rattle.streaming.proofs.feed.Tie as tie
 

@@ -2,7 +2,7 @@
 -- Assumes nothing.
 use borrow.Author.Needs.{needs}
 use Rattle.memory.proofs.Branches.{branches}
-use Rattle.streaming.specs.Keeping.{finished}
+use Rattle.streaming.specs.Fed.{finished}
 use Rattle.streaming.proofs.feeding.finish.Statement.{statement}
 use Rattle.streaming.proofs.feeding.finish.Tie as tie
 

@@ -3,7 +3,7 @@
 use borrow.Author.Needs.{needs}
 use mathlib.Core.Path.{sym, ap, _∙_}
 use Rattle.replaying.specs.declared.Stop.{Stop}
-use Rattle.streaming.specs.Keeping.{byStop, handed}
+use Rattle.streaming.specs.Handed.{byStop, handed}
 use Rattle.streaming.proofs.handing.advance.Statement.{statement}
 use Rattle.streaming.proofs.handing.advance.Tie as tie
 

@@ -2,7 +2,7 @@
 -- Assumes nothing.
 use borrow.Author.Needs.{needs}
 use Rattle.memory.proofs.Branches.{branches}
-use Rattle.streaming.specs.Keeping.{onward}
+use Rattle.streaming.specs.Handed.{onward}
 use Rattle.streaming.proofs.handing.rest.Statement.{statement}
 use Rattle.streaming.proofs.handing.rest.Tie as tie
 
