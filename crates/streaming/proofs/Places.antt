@@ -1,23 +1,21 @@
 -- What waits lies in the input, behind every turn and every read.
 -- Assumes nothing.
-use mathlib.Core.Path.{_≡_, refl, sym, ap, subst, _∙_}
-use mathlib.Core.Bool.{Bool, true, false, cond, _&&_}
+use mathlib.Core.Path.{_≡_, refl, sym, subst}
+use mathlib.Core.Bool.{Bool, true, false, cond}
 use mathlib.Core.List.{List}
 use Prim.Native.Nat.{ℕ, _+_, _-_, _≤_}
 use native.Mathlib.Omega.{arith}
 use borrow.Author.Tests.{le-leb, leb-true, eqb-false}
 use lib.Dec.{ltb, leb, eqb}
-use lib.ListN.{length, take, drop, set, length-set, length-take, length-drop}
-use Rattle.memory.specs.Parts.{part, splice}
+use lib.ListN.{length, drop, length-set, length-take, length-drop}
 use Rattle.memory.specs.Moves.{later, closedUp}
-use Rattle.memory.specs.Tests.{unless}
 use Rattle.memory.proofs.Parts.{length-part, length-splice}
 use Rattle.listing.specs.Items.{lineLimit}
-use Rattle.listing.specs.Texts.{newline, headerText, totalText, faultText, endOf}
+use Rattle.listing.specs.Texts.{headerText, totalText, faultText, endOf}
 use Rattle.listing.specs.declared.Written.{Written}
 use Rattle.listing.specs.declared.Written.the-variants.{To, NotFitting}
 use Rattle.replaying.specs.Desk.{Desk}
-use Rattle.replaying.specs.Runs.{AfterRun, following, pieceOf}
+use Rattle.replaying.specs.Runs.{following, pieceOf}
 use Rattle.replaying.specs.declared.Progress.{Progress}
 use Rattle.replaying.specs.declared.Stop.{Stop}
 use Rattle.replaying.specs.declared.Stop.the-variants.{Input, Output, NotAnEvent}
@@ -27,7 +25,7 @@ use Rattle.streaming.specs.Fed.{Held, holds, grown, finished, fedOf}
 use Rattle.streaming.specs.Handed.{onward, byStop, handed, moved}
 use Rattle.streaming.specs.Said.{behind, saidAt, saidOf}
 use Rattle.streaming.specs.Inner.Places.{LiesIn}
-use Rattle.streaming.specs.Streams.{Stream, streamOf, waiting, handedOn, ran, spoken, turned}
+use Rattle.streaming.specs.Streams.{Stream, streamOf, waiting, ran, spoken, turned}
 use Rattle.streaming.specs.declared.Kept.{Kept}
 use Rattle.streaming.specs.declared.Stage.{Stage}
 use Rattle.streaming.specs.declared.Stage.the-variants.{Begins, Runs, Wants, Total, Fault, Over}

@@ -9,7 +9,7 @@ use borrow.Author.Tests.{le-leb, lt-leb, leb-true}
 use lib.Dec.{ltb, leb}
 use lib.ListN.{length}
 use Rattle.memory.specs.Parts.{splice}
-use Rattle.memory.specs.Moves.{copied, closedUp, ClosedUp}
+use Rattle.memory.specs.Moves.{copied, ClosedUp}
 use Rattle.memory.proofs.Parts.{length-splice}
 use Rattle.listing.specs.Items.{lineLimit}
 use Rattle.listing.specs.Texts.{endOf, TextWritten}

@@ -3,21 +3,17 @@
 use mathlib.Core.Path.{_≡_, refl, sym, ap, subst, _∙_}
 use mathlib.Core.Bool.{Bool, true, false, cond}
 use mathlib.Core.List.{List, [], _∷_, _++_, append-assoc, append-nil}
-use Prim.Native.Nat.{ℕ, zero, suc, _+_, _*_, _-_, _≤_, _<_, min, max}
-use native.Mathlib.Nat.{add-zero}
+use Prim.Native.Nat.{ℕ, zero, suc, _+_, _-_, _≤_, _<_, min, max}
 use native.Mathlib.Omega.{arith}
 use borrow.Author.Tests.{le-leb, lt-ltb, ne-eqb, eqb-true, eqb-false}
 use lib.Dec.{eqb}
 use lib.ListN.{length, take, drop, set, length-take, length-drop, length-append, length-set}
 use lib.Seq.{take-nil, take-suc-set}
 use Rattle.memory.specs.Parts.{splice}
-use Rattle.memory.specs.Tests.{is, find}
 use Rattle.memory.proofs.Parts.{length-splice, splice-nil, take-through}
-use Rattle.listing.specs.Items.{lineLimit}
-use Rattle.listing.specs.Texts.{newline, totalText}
-use Rattle.replaying.specs.Desk.{Desk}
+use Rattle.listing.specs.Texts.{newline}
 use Rattle.replaying.specs.Listed.{Listed, listingOf}
-use Rattle.streaming.specs.Stages.{wants, closes}
+use Rattle.streaming.specs.Stages.{closes}
 use Rattle.streaming.specs.Fed.{Held, holds, grown, finished, fedOf}
 use Rattle.streaming.specs.Streams.{Stream, streamOf, waiting}
 use Rattle.streaming.specs.declared.Kept.{Kept}

@@ -2,21 +2,19 @@
 -- Assumes nothing.
 use mathlib.Core.Path.{_≡_, refl, sym, ap, subst, _∙_}
 use mathlib.Core.Bool.{Bool, true, false}
-use mathlib.Core.List.{List, [], _∷_, _++_}
-use Prim.Native.Nat.{ℕ, zero, suc, _+_, _*_, _-_, _≤_, _<_}
+use mathlib.Core.List.{List, [], _++_}
+use Prim.Native.Nat.{ℕ, zero, suc, _+_, _-_, _≤_, _<_}
 use native.Mathlib.Omega.{arith}
 use lib.ListN.{length, take, drop}
-use Rattle.listing.specs.Items.{lineLimit}
-use Rattle.replaying.specs.Desk.{rowRoom, Desk}
 use Rattle.streaming.specs.Stages.{wants}
 use Rattle.streaming.specs.Streams.{Stream, waiting, shown, turned}
 use Rattle.streaming.specs.declared.Stage.{Stage}
 use Rattle.streaming.specs.declared.Stage.the-variants.{Begins, Runs, Wants, Total, Fault, Over}
 use Rattle.streaming_laws.specs.Listings.{listingText}
 use Rattle.streaming_laws.specs.Loop.{given, arrived, next, looped, started, WritesTheListing}
-use Rattle.streaming_laws.proofs.Due.{dueAt, due, running, turnsAt, turns, Wanting, Fine, Fewer, Turns}
+use Rattle.streaming_laws.proofs.Due.{dueAt, due, running, turnsAt, turns, Wanting, Fine, Fewer}
 use Rattle.streaming_laws.proofs.Turning.{one-turn}
-use Rattle.streaming_laws.proofs.Arriving.{Arrives, arrives}
+use Rattle.streaming_laws.proofs.Arriving.{arrives}
 
 -- where no turn is left, nothing is due
 nothing-due : (stage : Stage) (s : Stream) (more : List ℕ) (left : ℕ) → turnsAt stage (s .kept .ended) (s .kept .end - s .kept .from) left ≤ 0

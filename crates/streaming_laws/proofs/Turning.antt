@@ -2,44 +2,42 @@
 -- Assumes nothing.
 use mathlib.Core.Path.{_≡_, refl, sym, ap, subst, _∙_}
 use mathlib.Core.Bool.{Bool, true, false, cond}
-use mathlib.Core.List.{List, [], _∷_, _++_, append-nil}
-use Prim.Native.Nat.{ℕ, zero, suc, _+_, _*_, _-_, _^_, _≤_, _<_}
+use mathlib.Core.List.{List, [], _++_, append-nil}
+use Prim.Native.Nat.{ℕ, _+_, _-_, _^_, _≤_, _<_}
 use native.Mathlib.Nat.{zero-add}
 use native.Mathlib.Omega.{arith}
 use borrow.Author.Tests.{le-leb, ltb-true, ltb-false}
-use lib.Dec.{ltb, leb}
+use lib.Dec.{ltb}
 use lib.ListN.{length, take, drop, length-take, length-drop}
 use lib.Seq.{drop-drop}
 use Rattle.memory.specs.Parts.{part, splice}
 use Rattle.memory.specs.Moves.{copied, later, closedUp}
 use Rattle.memory.specs.Tests.{is, find}
 use Rattle.memory.proofs.Parts.{drop-take, length-part, length-splice, take-through}
-use Rattle.decimal.specs.Decimal.{decimalOf}
 use Rattle.decimal.proofs.Digits.{twenty}
 use Rattle.listing.specs.Items.{lineLimit}
 use Rattle.listing.specs.Texts.{newline, headerText, totalText, faultText, endOf}
-use Rattle.listing.specs.declared.Written.the-variants.{To}
 use Rattle.listing.proofs.Columns.{length-total, length-fault}
 use Rattle.replaying.specs.Desk.{rowRoom, Desk}
 use Rattle.replaying.specs.Runs.{AfterRun, following, pieceOf}
-use Rattle.replaying.specs.Listed.{Listed, noRows, inFront, listingOf}
+use Rattle.replaying.specs.Listed.{Listed, listingOf}
 use Rattle.replaying.specs.Inner.Pieces.{Because, Goes}
 use Rattle.replaying.specs.declared.Progress.{Progress}
 use Rattle.replaying.specs.declared.Stop.{Stop}
 use Rattle.replaying.specs.declared.Stop.the-variants.{Input, Output, NotAnEvent}
 use Rattle.replaying.proofs.InPieces.{in-pieces}
-use Rattle.streaming.specs.Stages.{isRunning, wants, closes}
+use Rattle.streaming.specs.Stages.{wants, closes}
 use Rattle.streaming.specs.Handed.{onward, byStop, handed, moved}
-use Rattle.streaming.specs.Said.{behind, silent, saidAt, saidOf}
+use Rattle.streaming.specs.Said.{behind, saidOf}
 use Rattle.streaming.specs.Inner.Places.{LiesIn}
-use Rattle.streaming.specs.Streams.{Stream, streamOf, waiting, shown, handedOn, ran, spoken, turned}
+use Rattle.streaming.specs.Streams.{Stream, streamOf, waiting, handedOn, ran, turned}
 use Rattle.streaming.specs.declared.Kept.{Kept}
 use Rattle.streaming.specs.declared.Stage.{Stage}
 use Rattle.streaming.specs.declared.Stage.the-variants.{Begins, Runs, Wants, Total, Fault, Over}
-use Rattle.streaming.proofs.Places.{closed-length, handed-lies, read-within}
-use Rattle.streaming_laws.specs.Listings.{withLast, wholeOf, textOf}
+use Rattle.streaming.proofs.Places.{closed-length, read-within}
+use Rattle.streaming_laws.specs.Listings.{withLast, textOf}
 use Rattle.streaming_laws.proofs.Whole.{text-front, whole-front, no-line, long-line}
-use Rattle.streaming_laws.proofs.Due.{rowsDue, dueAt, due, running, turnsAt, turns, Wanting, Fine, Fewer, Turns}
+use Rattle.streaming_laws.proofs.Due.{rowsDue, due, running, turns, Wanting, Fine, Fewer, Turns}
 
 -- ---- a line that is no row
 

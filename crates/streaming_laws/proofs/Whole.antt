@@ -2,7 +2,7 @@
 -- Assumes nothing.
 use mathlib.Core.Path.{_≡_, refl, sym, ap, subst, _∙_}
 use mathlib.Core.Bool.{Bool, true, false, _&&_}
-use mathlib.Core.List.{List, [], _∷_, _++_, append-assoc, append-nil}
+use mathlib.Core.List.{List, [], _∷_, _++_, append-assoc}
 use Prim.Native.Nat.{ℕ, zero, suc, _+_, _-_, _≤_, _<_}
 use native.Mathlib.Nat.{add-zero}
 use native.Mathlib.Omega.{arith}
@@ -13,16 +13,13 @@ use lib.Seq.{length-take-le}
 use Rattle.memory.specs.Tests.{is, find, unless}
 use Rattle.memory.proofs.Tests.{find-le}
 use Rattle.sequence.specs.Numbers.{isDigit}
-use Rattle.listing.specs.Texts.{newline, totalText, faultText}
+use Rattle.listing.specs.Texts.{newline, faultText}
 use Rattle.listing.specs.Items.{shortest, lineLimit, operandAt, operandOf, isLaidOut, itemOf}
-use Rattle.listing.specs.declared.Item.{Item}
 use Rattle.listing.specs.declared.Item.the-variants.{NotAnEvent as NoItem}
-use Rattle.replaying.specs.Lines.{firstLine}
 use Rattle.replaying.specs.Desk.{Desk}
 use Rattle.replaying.specs.Runs.{following}
 use Rattle.replaying.specs.Listed.{Listed, noRows, inFront, byLine, listed, listingOf}
 use Rattle.replaying.specs.declared.Next.{Next}
-use Rattle.replaying.specs.declared.Next.the-variants.{Whole, Unended}
 use Rattle.replaying.specs.declared.Stop.{Stop}
 use Rattle.replaying.specs.declared.Stop.the-variants.{Input, Output, NotAnEvent}
 use Rattle.replaying.proofs.Newlines.{unended, whole}

@@ -10,14 +10,17 @@ use Rattle.streaming.proofs.turn.Statement.{statement}
 use Rattle.streaming.proofs.turn.Tie as tie
 
 -- the places, each from one behind it: the call of `run`, the test before it, the function's start
+abbrev frames-back : tie.After-slice-known12 → tie.After-frames
+frames-back c = c .before .before .before
+
 abbrev ran : tie.After-slice-known12 → tie.After-run
-ran c = c .before .before .before .before .before .before .before .before .before .before .before .before
+ran c = let journal-back = frames-back c .before .before .before .before in journal-back .before .before .before .before .before
 
 abbrev runs : tie.After-run → tie.Then1
-runs c = c .before .before .before .before .before .before .before .before .before
+runs c = let lent = c .before .before .before .before in lent .before .before .before .before .before
 
 abbrev start : tie.After-slice-known6 → tie.Start
-start c = c .before .before .before .before .before .before
+start c = let known = c .before .before .before in known .before .before .before
 
 -- the desk that is lent
 abbrev desk : tie.Start → Desk

@@ -8,7 +8,10 @@ use Rattle.replay.proofs.pieces.more.Statement.{statement}
 use Rattle.replay.proofs.pieces.more.Tie as tie
 
 abbrev start : tie.After-feed → tie.Start
-start c = c .before .before .before .before .before .before .before .before .before .before .before .before
+start c =
+    let tested = c .before .before .before .before .before in
+    let read = tested .before .before .before in
+    read .before .before .before .before
 
 returns : tie.Need-returns
 returns c = nothing-lies _ (c .over .ensures)

@@ -34,10 +34,10 @@ abbrev passed : tie.After-is-over Inv-loop μ-loop → tie.After-pass Inv-loop �
 passed c = c .before .before .before
 
 abbrev turned : tie.After-out3 Inv-loop μ-loop → tie.After-turn Inv-loop μ-loop
-turned c = c .before .before .before .before .before .before .before .before
+turned c = let journal-back = c .before .before .before .before in journal-back .before .before .before .before
 
 abbrev tested : tie.After-turn Inv-loop μ-loop → tie.In-loop Inv-loop μ-loop
-tested c = c .before .before .before .before .before .before .before .before .before
+tested c = let journal-lent = c .before .before .before .before in journal-lent .before .before .before .before .before
 
 abbrev turn : tie.After-turn Inv-loop μ-loop → tie.At-loop Inv-loop μ-loop
 turn c = tested c .before
@@ -58,7 +58,8 @@ lent-journal c = lent-out (c .before .before .before)
 
 loop-holds : tie.Need-loop-holds Inv-loop μ-loop
 loop-holds c =
-    let s = c .before .before .before .before .before .before .before in
+    let memory = c .before .before .before .before in
+    let s = memory .before .before .before in
     record {
       lies-in = begun-lies _ _ (c .begin .ensures) (s .pre);
       input-length = refl;

@@ -11,14 +11,17 @@ use Rattle.streaming.proofs.handing.run.Statement.{statement}
 use Rattle.streaming.proofs.handing.run.Tie as tie
 
 -- the places, each from one behind it: the call of `replaying::run`, the tests before it, the function's start
+abbrev frames-back : tie.After-hand-on-arg → tie.After-frames
+frames-back c = c .before .before .before .before
+
 abbrev called : tie.After-hand-on-arg → tie.After-run
-called c = c .before .before .before .before .before .before .before .before .before .before .before
+called c = let journal-back = frames-back c .before .before .before .before in journal-back .before .before .before
 
 abbrev tested : tie.After-run → tie.Else2
-tested c = c .before .before .before .before .before .before .before .before .before .before
+tested c = let lent = c .before .before .before .before .before in lent .before .before .before .before .before
 
 abbrev start : tie.After-slice-known6 → tie.Start
-start c = c .before .before .before .before .before .before
+start c = let known = c .before .before .before in known .before .before .before
 
 -- the desk that is lent
 abbrev desk : tie.Start → Desk
