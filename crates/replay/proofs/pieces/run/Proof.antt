@@ -6,7 +6,9 @@ use mathlib.Core.List.{List}
 use Prim.Native.Nat.{ℕ}
 use lib.ListN.{length}
 use Rattle.memory.specs.Sizes.{journalSize, unfinishedSize, framesSize, messageLimit}
+use Rattle.replaying.specs.Desk.{Desk, deskOf}
 use Rattle.streaming.specs.Inner.Places.{LiesIn}
+use Rattle.streaming.specs.Streams.{Stream, streamOf}
 use Rattle.streaming.specs.declared.Kept.{Kept}
 use Rattle.streaming.proofs.Places.{begun-lies, after-turn}
 use Rattle.replay.proofs.pieces.run.Statement.{statement}
@@ -49,6 +51,13 @@ before-pass c = turned (c .before .before)
 abbrev test : tie.After-is-over Inv-loop μ-loop → tie.In-loop Inv-loop μ-loop
 test c = tested (before-pass (passed c))
 
+-- the trace on its way before a turn, and the desk behind it
+abbrev stream : tie.At-loop Inv-loop μ-loop → Stream
+stream l = streamOf (l .loop .kept) (l .loop .input) (l .loop .out) (deskOf (l .loop .numbers) (l .loop .counts) (l .loop .journal) (l .loop .unfinished) (l .loop .frames) (l .loop .buffer))
+
+abbrev desk-behind : tie.After-turn Inv-loop μ-loop → Desk
+desk-behind t = let m = t .turn .last .1 .1 .1 in deskOf (m .0) (m .1 .0) (m .1 .1 .0) (m .1 .1 .1 .0) (m .1 .1 .1 .1 .0) (m .1 .1 .1 .1 .1 .0)
+
 -- this turn's start, from where the listing and the journal are lent
 abbrev lent-out : tie.After-out Inv-loop μ-loop → tie.At-loop Inv-loop μ-loop
 lent-out c = c .before .before .before
@@ -78,7 +87,7 @@ out-whole c =
 pass-requires : tie.Need-pass-requires Inv-loop μ-loop
 pass-requires c κs =
     let t = turned (c .before) in
-    (after-turn _ (t .turn .ensures .0) (turn t .loop .inv .lies-in), t .turn .ensures .1)
+    (after-turn (stream (turn t)) {d = desk-behind t} (t .turn .ensures .0) (turn t .loop .inv .lies-in), t .turn .ensures .1)
 
 -- the input has its length behind a read
 input-kept : (c : tie.After-pass Inv-loop μ-loop) → length (c .pass .last .1 .1 .1 .1 .0) ≡ length (turn (before-pass c) .loop .input)
