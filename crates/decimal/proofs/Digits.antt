@@ -8,7 +8,8 @@ use native.Mathlib.Decide.{decLe}
 use native.Mathlib.Omega.{arith}
 use lib.ListN.{length, getD, length-append, List·getD-append}
 use borrow.Author.Tests.{lt-ltb, le-ltb}
-use Rattle.decimal.specs.Decimal.{digitFor, digitsIn, decimalOf, twoDigits, fourDigits}
+use Rattle.decimal.specs.Decimal.{digitFor, digitsIn, decimalOf}
+use Rattle.decimal.specs.Inner.Groups.{twoDigits, fourDigits}
 
 -- one turn: a number of one digit, and one of more
 in-one : (turns n : ℕ) → n < 10 → digitsIn turns n ≡ digitFor n ∷ []

@@ -21,10 +21,3 @@ decimalOf n = digitsIn n n
 -- the most digits of a 64-bit number
 abbrev pub mostDigits : ℕ
 mostDigits = 20
-
--- a number below 100 in two digits, and one below 10,000 in four
-abbrev pub twoDigits : ℕ → List ℕ
-twoDigits n = digitFor (n / 10) ∷ digitFor (n % 10) ∷ []
-
-abbrev pub fourDigits : ℕ → List ℕ
-fourDigits n = twoDigits (n / 100) ++ twoDigits (n % 100)

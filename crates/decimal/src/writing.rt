@@ -3,7 +3,8 @@ ghost use mathlib.Core.Path.{_≡_};
 ghost use Prim.Native.Nat.{_+_, _≤_, _<_};
 ghost use lib.ListN.{length};
 ghost use Rattle.memory.specs.Parts.{splice};
-ghost use Rattle.decimal.specs.Decimal.{decimalOf, digitFor, twoDigits, fourDigits};
+ghost use Rattle.decimal.specs.Decimal.{decimalOf, digitFor};
+ghost use Rattle.decimal.specs.Inner.Groups.{twoDigits, fourDigits};
 
 // Writes the digits of n, and says where they end. Up to eight are written from the front, with nothing measured: a trace has that many events.
 pub fn put(n: u64, out: &mut [u8], at: usize) -> usize

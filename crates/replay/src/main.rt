@@ -45,6 +45,5 @@ fn replay(fd: i32, name: &[u8], titled: bool) {
     if titled {
         writing::title(name);
     }
-    writing::header();
     pieces::run(fd, name, n, &mut input);
 }

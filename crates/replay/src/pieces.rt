@@ -1,29 +1,14 @@
-// A trace, piece by piece: as much as the input holds is run, the rest of a line moves to the front, and more is read behind it.
-ghost use Prim.Native.Nat.{_+_, _≤_, _<_};
-ghost use mathlib.Core.Path.{_≡_};
+// A trace, piece by piece: a turn, a write, and where more is wanted a read. What is done between them is proved in `streaming`.
+ghost use Prim.Native.Nat.{_≤_};
 ghost use lib.ListN.{length};
-ghost use Rattle.listing.specs.Items.{lineLimit};
-ghost use Rattle.replay.specs.Ends.{LiesIn};
+ghost use Rattle.streaming.specs.Inner.Places.{LiesIn};
 use crate::writing;
-use replaying::Progress;
-use replaying::Stop;
-
-const NEWLINE: u8 = b'\n';
-
-// What is kept of a trace: the bytes of the input that wait, from one place to another, how many events were run,
-// whether the trace is read to its end, and whether the run goes on.
-struct Kept {
-    from: usize,
-    waiting: usize,
-    events: u64,
-    ended: bool,
-    goes_on: bool,
-}
+use streaming::Kept;
 
 // The memory of a run, and its first n bytes. A proved loop has to end, and nothing says that a trace does:
 // the loop counts down from a number that no trace uses up.
 pub fn run(fd: i32, name: &[u8], n: usize, input: &mut [u8])
-    requires { ⌜ (n ≤ length (now input)) × (lineLimit < length (now input)) ⌝ }
+    requires { ⌜ n ≤ length (now input) ⌝ }
 {
     let mut out = io::large_buffer();
     let mut journal = [0u8; memory::JOURNAL_SIZE];
@@ -33,14 +18,12 @@ pub fn run(fd: i32, name: &[u8], n: usize, input: &mut [u8])
     let mut numbers = [0u16; layout::NUMBERS];
     let mut counts = [0u32; layout::COUNTS];
     layout::fresh(&mut numbers, &mut counts);
-    let mut kept = waits(0, n, 0, false);
+    let mut kept = streaming::begin(n);
     let mut turns = u64::MAX;
     while 0 < turns {
-        let from = kept.from;
-        let end = kept.waiting;
-        let p = replaying::run(
-            kept.events,
-            &input[from..end],
+        let turned = streaming::turn(
+            kept,
+            input,
             &mut out,
             &mut numbers,
             &mut counts,
@@ -49,107 +32,42 @@ pub fn run(fd: i32, name: &[u8], n: usize, input: &mut [u8])
             &mut frames,
             &mut buffer,
         );
-        kept = advance(fd, name, kept, p, &out, input);
-        if !kept.goes_on {
+        kept = pass(fd, name, turned, &out, input);
+        let stage = kept.stage;
+        if streaming::is_over(stage) {
             return;
         }
         turns -= 1;
     }
 }
 
-fn waits(from: usize, waiting: usize, events: u64, ended: bool) -> Kept
-    ensures { λ r. ⌜ (r .from ≡ from) × (r .waiting ≡ waiting) ⌝ }
-{
-    Kept {
-        from,
-        waiting,
-        events,
-        ended,
-        goes_on: true,
-    }
-}
-
-// Nothing is left to do.
-fn done() -> Kept
-    ensures { λ r. ⌜ (r .from ≡ 0) × (r .waiting ≡ 0) ⌝ }
-{
-    Kept {
-        from: 0,
-        waiting: 0,
-        events: 0,
-        ended: true,
-        goes_on: false,
-    }
-}
-
-// What waits is run, as far as the room for rows allows: its rows are written, and the run goes on behind them.
-fn advance(fd: i32, name: &[u8], kept: Kept, p: Progress, out: &[u8], input: &mut [u8]) -> Kept
-    requires { ⌜ LiesIn kept (length (now input)) × (lineLimit < length (now input)) × (kept .from + p .read ≤ kept .waiting) × (p .written ≤ length (now out)) ⌝ }
+// What a turn has put into the output is written; where it wants more, more is read. Where a write or a read fails, nothing is left to do.
+fn pass(fd: i32, name: &[u8], kept: Kept, out: &[u8], input: &mut [u8]) -> Kept
+    requires { ⌜ LiesIn kept (length (now input)) × (kept .written ≤ length (now out)) ⌝ }
     ensures { λ r. ⌜ LiesIn r (length (now (input .exit))) ⌝ }
 {
-    if !writing::rows(&out[..p.written]) {
-        return done();
+    let written = kept.written;
+    if !writing::lines(&out[..written]) {
+        return streaming::over();
     }
-    let at = kept.from + p.read;
-    let stop = p.stop;
-    match stop {
-        Stop::Output => waits(at, kept.waiting, p.events, kept.ended),
-        Stop::NotAnEvent => bad_line(p.events),
-        Stop::Input => more(fd, name, at, kept.waiting, p.events, kept.ended, input),
+    let stage = kept.stage;
+    if !streaming::wants_more(stage) {
+        return kept;
     }
+    more(fd, name, kept, input)
 }
 
-// The line behind those run is not an event.
-fn bad_line(events: u64) -> Kept
-    ensures { λ r. ⌜ (r .from ≡ 0) × (r .waiting ≡ 0) ⌝ }
-{
-    writing::fault(std::num::wrapping_add_u64(events, 1));
-    done()
-}
-
-// All whole lines are run: what is left moves to the front, and more is read behind it.
-fn more(
-    fd: i32,
-    name: &[u8],
-    at: usize,
-    end: usize,
-    events: u64,
-    ended: bool,
-    input: &mut [u8],
-) -> Kept
-    requires { ⌜ (at ≤ end) × (end ≤ length (now input)) × (lineLimit < length (now input)) ⌝ }
+// Reads behind what waits.
+fn more(fd: i32, name: &[u8], kept: Kept, input: &mut [u8]) -> Kept
+    requires { ⌜ LiesIn kept (length (now input)) ⌝ }
     ensures { λ r. ⌜ LiesIn r (length (now (input .exit))) ⌝ }
 {
-    let rest = end - at;
-    if listing::LINE_LIMIT < rest {
-        return bad_line(events);
-    }
-    if ended {
-        writing::total(events);
-        return done();
-    }
-    memory::close_up(input, 0, at, end);
-    let got = libc::read(fd, &mut input[rest..]);
+    let end = kept.end;
+    let got = libc::read(fd, &mut input[end..]);
     if got < 0 {
         os::fail(name);
-        return done();
+        return streaming::over();
     }
-    let n = io::count(got, &input[rest..]);
-    if n == 0 {
-        return last(rest, events, input);
-    }
-    waits(0, rest + n, events, false)
-}
-
-// The trace is read to its end: a last line without a newline counts.
-fn last(rest: usize, events: u64, input: &mut [u8]) -> Kept
-    requires { ⌜ rest < length (now input) ⌝ }
-    ensures { λ r. ⌜ LiesIn r (length (now (input .exit))) ⌝ }
-{
-    if rest == 0 {
-        writing::total(events);
-        return done();
-    }
-    input[rest] = NEWLINE;
-    waits(0, rest + 1, events, true)
+    let n = io::count(got, &input[end..]);
+    streaming::feed(kept, n, input)
 }

@@ -2,16 +2,18 @@
 -- Assumes nothing.
 use mathlib.Core.Path.{_≡_, refl, sym, ap, _∙_}
 use mathlib.Core.Bool.{Bool, true, false, true≢false}
-use mathlib.Core.List.{List, [], _∷_, _++_, append-assoc}
+use mathlib.Core.List.{List, [], _∷_, _++_, append-assoc, append-nil}
 use Prim.Native.Nat.{ℕ, zero, suc, _+_, _-_, _≤_, _<_}
+use native.Mathlib.Nat.{add-zero}
 use native.Mathlib.Omega.{arith}
-use borrow.Author.Tests.{lt-ltb, ltb-true}
+use borrow.Author.Tests.{lt-ltb, ltb-true, ltb-false, le-leb}
 use lib.Dec.{ltb, leb}
-use lib.ListN.{length, take, drop, length-drop, length-append}
-use lib.Seq.{take-append-le, drop-append-le, drop-drop}
+use lib.ListN.{length, take, drop, length-take, length-drop, length-append}
+use lib.Seq.{take-all, take-append-le, length-take-le, drop-append-le, drop-drop}
 use Rattle.memory.specs.Parts.{splice}
 use Rattle.memory.specs.Tests.{is, find, unless}
 use Rattle.memory.proofs.Parts.{length-splice, splice-nil, splice-join}
+use Rattle.memory.proofs.Tests.{find-le}
 use Rattle.listing.specs.Texts.{newline}
 use Rattle.listing.specs.Items.{itemOf}
 use Rattle.listing.specs.declared.Item.{Item}
@@ -20,7 +22,8 @@ use Rattle.replaying.specs.Lines.{firstLine, nextOf}
 use Rattle.replaying.specs.Desk.{rowRoom, Desk, Asked, eventAsked, takingAsked}
 use Rattle.replaying.specs.Turns.{AfterTurn, stopped, rowOf, acted, onLine, turnOf}
 use Rattle.replaying.specs.Runs.{AfterRun, following, left, byTurn, runOf, pieceOf}
-use Rattle.replaying.specs.Listed.{Listed, noRows, inFront, rowThen, byItem, byLine, listed, listingOf, Goes}
+use Rattle.replaying.specs.Listed.{Listed, noRows, inFront, rowThen, byItem, byLine, listed, listingOf}
+use Rattle.replaying.specs.Inner.Pieces.{Because, Goes}
 use Rattle.replaying.specs.declared.Next.{Next}
 use Rattle.replaying.specs.declared.Next.the-variants.{Whole, Unended}
 use Rattle.replaying.specs.declared.Stop.{Stop}
@@ -63,6 +66,16 @@ first-is text at item behind e = by-end (ltb (find (is newline) text) (length te
         → unless t Unended (Whole (itemOf (take (find (is newline) text) text)) (at + find (is newline) text + 1)) ≡ Whole item behind → FirstIs text at item behind
     by-end true l q = record { inside = ltb-true (find (is newline) text) (length text) l; asks = sym (ap itemIn q); ends = sym (ap behindIn q) }
     by-end false l q = absurd (true≢false (sym (ap isWhole q)))
+
+-- no whole first line: no newline
+no-newline : (text : List ℕ) (at : ℕ) → firstLine text at ≡ Unended → find (is newline) text ≡ length text
+unfolding firstLine
+no-newline text at e = by-end (ltb (find (is newline) text) (length text)) refl e
+  where
+    by-end : (t : Bool) → ltb (find (is newline) text) (length text) ≡ t
+        → unless t Unended (Whole (itemOf (take (find (is newline) text) text)) (at + find (is newline) text + 1)) ≡ Unended → find (is newline) text ≡ length text
+    by-end true l q = absurd (true≢false (ap isWhole q))
+    by-end false l q = omega (arith, find-le (is newline) text, ltb-false (find (is newline) text) (length text) l)
 
 -- and it is the first line of a longer text
 first-front : (text more : List ℕ) (at : ℕ) {item : Item} {behind : ℕ} → FirstIs text at item behind → firstLine (text ++ more) 0 ≡ Whole item (0 + find (is newline) text + 1)
@@ -120,15 +133,51 @@ listing-step text item behind n d q =
 
 -- ---- a run of a piece
 
+-- a row written over a listing is there, behind what stood before it, and the listing is no shorter
+module _ (put : ℕ) (out row : List ℕ) where
+  kept-long : length out ≤ length (splice out put row)
+  unfolding splice
+  kept-long = simp (length-append, length-take, length-drop) (omega arith)
+
+  module _ (h : put ≤ length out) where
+    reached : put + length row ≤ length (splice out put row)
+    unfolding splice
+    reached = simp (length-append, length-take, length-drop) (omega arith)
+
+    through : take (put + length row) (splice out put row) ≡ take put out ++ row
+    unfolding splice
+    through =
+        let front : length (take put out) ≡ put = length-take-le put out h in
+        let long : put + length row ≡ length (take put out ++ row) = rw (length-append, front) in
+        rw (← append-assoc (take put out) row (drop (put + length row) out), long) (take-append-le (length (take put out ++ row)) (take put out ++ row) _ (omega arith) ∙ take-all (length (take put out ++ row)) (take put out ++ row) (omega arith))
+
+  shown : (rows out′ : List ℕ) → put ≤ length out → take (put + length row + length rows) out′ ≡ take (put + length row) (splice out put row) ++ rows
+      → take (put + length (row ++ rows)) out′ ≡ take put out ++ (row ++ rows)
+  shown rows out′ h e =
+      let both : put + length (row ++ rows) ≡ put + length row + length rows = rw length-append (omega arith) in
+      ap (λ (k : ℕ). take k out′) both ∙ e ∙ ap (λ (t : List ℕ). t ++ rows) (through h) ∙ append-assoc (take put out) row rows
+
 module _ (input : List ℕ) where
-  stays : (s : Stop) (at put : ℕ) (out : List ℕ) (n : ℕ) (d : Desk) → at ≤ length input → Goes (left s n at put out d) input at put out n d
-  stays s at put out n d h = record {
+  stays : (s : Stop) (at put : ℕ) (out : List ℕ) (n : ℕ) (d : Desk) → at ≤ length input → Because s (left s n at put out d) input at put out → Goes (left s n at put out d) input at put out n d
+  stays s at put out n d h why = record {
     rows = [];
+    forward = omega arith;
     within = h;
     written = omega arith;
     goes-on = λ more. refl;
     writes = λ p. sym (splice-nil out put);
+    shows = λ p. rw (add-zero, append-nil);
+    no-shorter = omega arith;
+    counted = λ p. p;
+    because = why;
   }
+
+  -- what stopped the run behind a line stopped the whole
+  carried : (s : Stop) (r : AfterRun) (at put : ℕ) (out : List ℕ) (behind put′ : ℕ) (out′ : List ℕ) → at < behind → behind ≤ r .progress .read
+      → Because s r input behind put′ out′ → Because s r input at put out
+  carried Input r at put out behind put′ out′ h k b = b
+  carried Output r at put out behind put′ out′ h k b = λ room. omega (arith, h, k)
+  carried NotAnEvent r at put out behind put′ out′ h k b = b
 
   -- a line that asks, and what the run behind it does
   one-row : (at put : ℕ) (out : List ℕ) (n : ℕ) (d : Desk) (item : Item) (behind line : ℕ) (a : Asked) (r : AfterRun) → at ≤ length input → FirstIs (drop at input) at item behind
@@ -140,6 +189,7 @@ module _ (input : List ℕ) where
       let k = find (is newline) (drop at input) in
       record {
         rows = row ++ g .rows;
+        forward = omega (arith, g .forward, f .ends);
         within = g .within;
         written = g .written ∙ rw length-append (omega arith);
         goes-on = λ more.
@@ -152,6 +202,10 @@ module _ (input : List ℕ) where
             let q : put + length row + length (g .rows) ≤ length out = omega (arith, p, length-append row (g .rows)) in
             let fits : put + length row ≤ length out = omega (arith, q) in
             g .writes (rw (length-splice out put row fits) q) ∙ splice-join out put row (g .rows) q;
+        shows = λ p. shown put out row (g .rows) (r .out) p (g .shows (reached put out row p));
+        no-shorter = omega (arith, g .no-shorter, kept-long put out row);
+        counted = λ p. g .counted (omega arith);
+        because = carried (r .progress .stop) r at put out behind _ _ (omega (arith, f .ends)) (g .forward) (g .because);
       }
     where
       behind-is : (more : List ℕ) → drop (0 + find (is newline) (drop at input) + 1) (drop at input ++ more) ≡ drop behind input ++ more
@@ -168,31 +222,37 @@ module _ (input : List ℕ) where
   abbrev afterTurn : ℕ → ℕ → ℕ → ℕ → AfterTurn → AfterRun
   afterTurn most n at put t = byTurn (t .turn) (λ behind end. runOf most input (following n) behind end (t .out) (t .desk)) (λ s. left s n at put (t .out) (t .desk))
 
-  module _ (most : ℕ) (at put : ℕ) (out : List ℕ) (n : ℕ) (d : Desk) (h : at ≤ length input)
-      (ih : (at put : ℕ) (out : List ℕ) (n : ℕ) (d : Desk) → at ≤ length input → Goes (runOf most input n at put out d) input at put out n d) where
+  module _ (most : ℕ) (at put : ℕ) (out : List ℕ) (n : ℕ) (d : Desk) (h : at ≤ length input) (k : length input ≤ at + suc most)
+      (ih : (at put : ℕ) (out : List ℕ) (n : ℕ) (d : Desk) → at ≤ length input → length input ≤ at + most → Goes (runOf most input n at put out d) input at put out n d) where
     reaches : {item : Item} {behind : ℕ} → FirstIs (drop at input) at item behind → behind ≤ length input
     reaches f = omega (arith, f .ends, f .inside, length-drop at input, h)
 
+    fewer : {item : Item} {behind : ℕ} → FirstIs (drop at input) at item behind → length input ≤ behind + most
+    fewer f = omega (arith, f .ends, k)
+
     on-item : (item : Item) (behind : ℕ) → FirstIs (drop at input) at item behind → Goes (afterTurn most n at put (acted item (following n) behind out put d)) input at put out n d
     on-item (Event e) behind f =
-        one-row at put out n d (Event e) behind (e .line) (eventAsked e d) _ h f (λ text go. refl) (ih behind _ _ (following n) _ (reaches f))
-    on-item (Taking i k) behind f =
-        one-row at put out n d (Taking i k) behind i (takingAsked i k d) _ h f (λ text go. refl) (ih behind _ _ (following n) _ (reaches f))
-    on-item NoItem behind f = stays NotAnEvent at put out n d h
+        one-row at put out n d (Event e) behind (e .line) (eventAsked e d) _ h f (λ text go. refl) (ih behind _ _ (following n) _ (reaches f) (fewer f))
+    on-item (Taking i m) behind f =
+        one-row at put out n d (Taking i m) behind i (takingAsked i m d) _ h f (λ text go. refl) (ih behind _ _ (following n) _ (reaches f) (fewer f))
+    on-item NoItem behind f = stays NotAnEvent at put out n d h (λ more. listing-step (drop at input ++ more) NoItem _ n d (first-front (drop at input) more at f))
 
     on-next : (x : Next) → nextOf input at ≡ x → Goes (afterTurn most n at put (onLine x (following n) out put d)) input at put out n d
-    on-next Unended q = stays Input at put out n d h
+    on-next Unended q = stays Input at put out n d h (no-newline (drop at input) at q)
     on-next (Whole item behind) q = on-item item behind (first-is (drop at input) at item behind q)
 
-    on-room : (b : Bool) → Goes (afterTurn most n at put (unless b (stopped Output out d) (onLine (nextOf input at) (following n) out put d))) input at put out n d
-    on-room true = on-next (nextOf input at) refl
-    on-room false = stays Output at put out n d h
+    on-room : (b : Bool) → leb (put + rowRoom) (length out) ≡ b
+        → Goes (afterTurn most n at put (unless b (stopped Output out d) (onLine (nextOf input at) (following n) out put d))) input at put out n d
+    on-room true q = on-next (nextOf input at) refl
+    on-room false q = stays Output at put out n d h (λ room. absurd (true≢false (sym (le-leb (put + rowRoom) (length out) room) ∙ q)))
 
-  goes : (most at put : ℕ) (out : List ℕ) (n : ℕ) (d : Desk) → at ≤ length input → Goes (runOf most input n at put out d) input at put out n d
+  goes : (most at put : ℕ) (out : List ℕ) (n : ℕ) (d : Desk) → at ≤ length input → length input ≤ at + most → Goes (runOf most input n at put out d) input at put out n d
   unfolding runOf turnOf
-  goes zero at put out n d h = stays Input at put out n d h
-  goes (suc most) at put out n d h = on-room most at put out n d h (goes most) (leb (put + rowRoom) (length out))
+  goes zero at put out n d h k =
+      let none : drop at input ≡ [] = no-bytes (drop at input) (rw length-drop (omega (arith, k))) in
+      stays Input at put out n d h (rw none)
+  goes (suc most) at put out n d h k = on-room most at put out n d h k (goes most) (leb (put + rowRoom) (length out)) refl
 
   -- a piece, from its start
   pub in-pieces : (n : ℕ) (out : List ℕ) (d : Desk) → Goes (pieceOf n input out d) input 0 0 out n d
-  in-pieces n out d = goes (length input) 0 0 out n d (omega arith)
+  in-pieces n out d = goes (length input) 0 0 out n d (omega arith) (omega arith)

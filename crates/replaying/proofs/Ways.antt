@@ -25,12 +25,13 @@ use Rattle.looking.specs.declared.Kind.{Kind}
 use Rattle.calls.specs.Calls.{Calling, Taken}
 use Rattle.numbers.specs.declared.Answered.{Answered}
 use Rattle.replaying.specs.Lines.{nextOf}
-use Rattle.replaying.specs.Desk.{rowRoom, Desk, eventAsked, takingAsked}
-use Rattle.replaying.specs.Turns.{AfterTurn, AfterAsking, stopped, acted, onLine, turnOf, askedBy, turnBy, outBy, Leaves, Asks, RowPut, ColumnsPut, ReadIn}
+use Rattle.replaying.specs.Desk.{rowRoom, Desk, deskOf, eventAsked, takingAsked}
+use Rattle.replaying.specs.Turns.{AfterTurn, turnLeaves, stopped, acted, onLine, turnOf}
+use Rattle.replaying.specs.Inner.Asking.{AfterAsking, askLeaves, askedBy, turnBy, outBy, RowPut, ColumnsPut}
+use Rattle.replaying.specs.Inner.Bounds.{ReadIn}
 use Rattle.replaying.specs.declared.Columns.{Columns}
 use Rattle.replaying.specs.declared.Columns.the-variants.{Row, NoRow}
 use Rattle.replaying.specs.declared.Next.{Next}
-use Rattle.replaying.specs.declared.Stop.{Stop}
 use Rattle.replaying.specs.declared.Stop.the-variants.{Output, NotAnEvent}
 use Rattle.replaying.specs.declared.Turn.{Turn}
 use Rattle.replaying.specs.declared.Turn.the-variants.{Went, Stopped}
@@ -111,76 +112,43 @@ module _ (columns : Columns) (number behind : ℕ) (out : List ℕ) (put : ℕ) 
 
 -- what each item asks
 module _ (d : Desk) (item : Item) where
-  as-asked : {s : AfterAsking} {c : Columns} {ns′ us′ j′ u′ f′ b′ : List ℕ} → askedBy item d ≡ s → Asks s c ns′ us′ j′ u′ f′ b′ → Asks (askedBy item d) c ns′ us′ j′ u′ f′ b′
-  as-asked {s} {c} {ns′} {us′} {j′} {u′} {f′} {b′} q l = subst (λ (x : AfterAsking). Asks x c ns′ us′ j′ u′ f′ b′) (sym q) l
-
   pub asks-event : {e : GatewayEvent} {a : Answered} {ns′ us′ j′ u′ f′ : List ℕ} → item ≡ Event e
       → Calling (d .numbers) (d .counts) e (d .journal) (d .unfinished) (d .frames) a ns′ us′ j′ u′ f′
-      → Asks (askedBy item d) (Row (e .line) (a .number) (a .length)) ns′ us′ j′ u′ f′ (d .buffer)
+      → askLeaves (Row (e .line) (a .number) (a .length)) (deskOf ns′ us′ j′ u′ f′ (d .buffer)) ≡ askedBy item d
   unfolding eventAsked
-  asks-event {e} q c = as-asked (ap (λ (x : Item). askedBy x d) q) (record {
-    columns = ap (λ (x : Answered). Row (e .line) (x .number) (x .length)) (c .result);
-    numbers = c .numbers;
-    counts = c .counts;
-    journal = c .journal;
-    unfinished = c .unfinished;
-    frames = c .frames;
-    buffer = refl;
-  })
+  asks-event q c = rw (q, c .result, c .numbers, c .counts, c .journal, c .unfinished, c .frames)
 
   pub asks-taking : {i n m : ℕ} {a : Answered} {us′ j′ b₁ b′ : List ℕ} → item ≡ Taking i n → m ≡ min n (length (d .buffer))
       → Taken (d .numbers) (d .counts) i (d .journal) (take m (d .buffer)) a us′ j′ b₁ → b′ ≡ b₁ ++ drop m (d .buffer)
-      → Asks (askedBy item d) (Row i (a .number) (a .length)) (d .numbers) us′ j′ (d .unfinished) (d .frames) b′
+      → askLeaves (Row i (a .number) (a .length)) (deskOf (d .numbers) us′ j′ (d .unfinished) (d .frames) b′) ≡ askedBy item d
   unfolding takingAsked
   asks-taking {i} {n} {m} {a} {us′} {j′} {b₁} {b′} q p c e =
       let behind-lent : drop m (d .buffer) ≡ drop n (d .buffer) = rw p (drop-least n (d .buffer)) in
       let lent : take m (d .buffer) ≡ take n (d .buffer) = rw p (take-least n (d .buffer)) in
       let c′ : Taken (d .numbers) (d .counts) i (d .journal) (take n (d .buffer)) a us′ j′ b₁ = rw (← lent) c in
-      as-asked (ap (λ (x : Item). askedBy x d) q) (record {
-        columns = ap (λ (x : Answered). Row i (x .number) (x .length)) (c′ .result);
-        numbers = refl;
-        counts = c′ .counts;
-        journal = c′ .journal;
-        unfinished = refl;
-        frames = refl;
-        buffer = e ∙ rw (behind-lent, c′ .buffer);
-      })
+      rw (q, e, behind-lent, c′ .result, c′ .counts, c′ .journal, c′ .buffer)
 
-  pub asks-nothing : item ≡ NoItem → Asks (askedBy item d) NoRow (d .numbers) (d .counts) (d .journal) (d .unfinished) (d .frames) (d .buffer)
-  asks-nothing q =
-      as-asked (ap (λ (x : Item). askedBy x d) q) (record { columns = refl; numbers = refl; counts = refl; journal = refl; unfinished = refl; frames = refl; buffer = refl })
+  pub asks-nothing : item ≡ NoItem → askLeaves NoRow d ≡ askedBy item d
+  asks-nothing q = rw q
 
 module _ (d : Desk) (out : List ℕ) (put : ℕ) where
-  as-turn : {s t : AfterTurn} {r : Turn} {out′ ns′ us′ j′ u′ f′ b′ : List ℕ} → s ≡ t → Leaves t r out′ ns′ us′ j′ u′ f′ b′ → Leaves s r out′ ns′ us′ j′ u′ f′ b′
-  as-turn {s} {t} {r} {out′} {ns′} {us′} {j′} {u′} {f′} {b′} q l = subst (λ (x : AfterTurn). Leaves x r out′ ns′ us′ j′ u′ f′ b′) (sym q) l
-
-  pub stays : (s : Stop) → Leaves (stopped s out d) (Stopped s) out (d .numbers) (d .counts) (d .journal) (d .unfinished) (d .frames) (d .buffer)
-  stays s = record { turn = refl; out = refl; numbers = refl; counts = refl; journal = refl; unfinished = refl; frames = refl; buffer = refl }
-
   module _ (item : Item) (number behind : ℕ) where
     -- what a line asks, done, and its row put
     acted-is : acted item number behind out put d
-        ≡ record { turn = turnBy (askedBy item d .columns) number behind put; out = outBy (askedBy item d .columns) number out put; desk = askedBy item d .desk }
+        ≡ turnLeaves (turnBy (askedBy item d .columns) number behind put) (outBy (askedBy item d .columns) number out put) (askedBy item d .desk)
     acted-is = by-item item
       where
         by-item : (x : Item)
-            → acted x number behind out put d ≡ record { turn = turnBy (askedBy x d .columns) number behind put; out = outBy (askedBy x d .columns) number out put; desk = askedBy x d .desk }
+            → acted x number behind out put d ≡ turnLeaves (turnBy (askedBy x d .columns) number behind put) (outBy (askedBy x d .columns) number out put) (askedBy x d .desk)
         by-item (Event e) = refl
         by-item (Taking i n) = refl
         by-item NoItem = refl
 
-    pub asked-put : {c : Columns} {r : Turn} {out′ ns′ us′ j′ u′ f′ b′ : List ℕ} → Asks (askedBy item d) c ns′ us′ j′ u′ f′ b′ → ColumnsPut c number behind out put r out′
-        → Leaves (acted item number behind out put d) r out′ ns′ us′ j′ u′ f′ b′
-    asked-put a t = as-turn acted-is (record {
-      turn = t .turn ∙ ap (λ (x : Columns). turnBy x number behind put) (a .columns);
-      out = t .after ∙ ap (λ (x : Columns). outBy x number out put) (a .columns);
-      numbers = a .numbers;
-      counts = a .counts;
-      journal = a .journal;
-      unfinished = a .unfinished;
-      frames = a .frames;
-      buffer = a .buffer;
-    })
+    pub asked-put : {c : Columns} {r : Turn} {out′ : List ℕ} {d′ : Desk} → askLeaves c d′ ≡ askedBy item d → ColumnsPut c number behind out put r out′
+        → turnLeaves r out′ d′ ≡ acted item number behind out put d
+    asked-put a t =
+        rw (t .turn, t .after)
+        (ap (λ (x : AfterAsking). turnLeaves (turnBy (x .columns) number behind put) (outBy (x .columns) number out put) (x .desk)) a ∙ sym acted-is)
 
     -- where the line behind starts
     pub acted-behind : (most : ℕ) {r : Turn} → behind ≤ most → r ≡ acted item number behind out put d .turn → ReadIn r most
@@ -192,12 +160,10 @@ module _ (d : Desk) (out : List ℕ) (put : ℕ) where
         by-item NoItem = tt
 
   module _ (input : List ℕ) (at number : ℕ) where
-    pub no-room : length out < put + rowRoom → Leaves (turnOf number input at out put d) (Stopped Output) out (d .numbers) (d .counts) (d .journal) (d .unfinished) (d .frames) (d .buffer)
+    pub no-room : length out < put + rowRoom → stopped Output out d ≡ turnOf number input at out put d
     unfolding turnOf
-    no-room h = as-turn (rw (lt-leb (put + rowRoom) (length out) h)) (stays Output)
+    no-room h = rw (lt-leb (put + rowRoom) (length out) h)
 
-    pub has-room : {x : Next} {r : Turn} {out′ ns′ us′ j′ u′ f′ b′ : List ℕ} → put + rowRoom ≤ length out → x ≡ nextOf input at
-        → Leaves (onLine x number out put d) r out′ ns′ us′ j′ u′ f′ b′
-        → Leaves (turnOf number input at out put d) r out′ ns′ us′ j′ u′ f′ b′
+    pub has-room : {x : Next} {t : AfterTurn} → put + rowRoom ≤ length out → x ≡ nextOf input at → t ≡ onLine x number out put d → t ≡ turnOf number input at out put d
     unfolding turnOf
-    has-room h q l = as-turn (rw (le-leb (put + rowRoom) (length out) h, ← q)) l
+    has-room h q l = rw (le-leb (put + rowRoom) (length out) h, ← q) l

@@ -23,6 +23,9 @@ pub record Desk : Type 0 where
   pub frames : List ℕ
   pub buffer : List ℕ
 
+abbrev pub deskOf : List ℕ → List ℕ → List ℕ → List ℕ → List ℕ → List ℕ → Desk
+deskOf numbers counts journal unfinished frames buffer = record { numbers = numbers; counts = counts; journal = journal; unfinished = unfinished; frames = frames; buffer = buffer }
+
 pub record Asked : Type 0 where
   pub answered : Answered
   pub desk : Desk
@@ -33,7 +36,7 @@ eventAsked e d =
     let c = callOf (d .numbers) (d .counts) e (memoryOf (d .journal) (d .unfinished) (d .frames)) in
     record {
       answered = c .answered;
-      desk = record { numbers = c .numbers; counts = c .counts; journal = c .memory .journal; unfinished = c .memory .unfinished; frames = c .memory .frames; buffer = d .buffer };
+      desk = deskOf (c .numbers) (c .counts) (c .memory .journal) (c .memory .unfinished) (c .memory .frames) (d .buffer);
     }
 
 -- a taking, with the first n bytes of the buffer
@@ -42,5 +45,5 @@ takingAsked i n d =
     let t = takeOf (ledgerOf (d .numbers) (d .counts)) i (d .journal) (take n (d .buffer)) in
     record {
       answered = takingInNumbers (t .taking .answer);
-      desk = record { numbers = d .numbers; counts = usedAfter (d .counts) i t; journal = t .journal; unfinished = d .unfinished; frames = d .frames; buffer = t .buffer ++ drop n (d .buffer) };
+      desk = deskOf (d .numbers) (usedAfter (d .counts) i t) (t .journal) (d .unfinished) (d .frames) (t .buffer ++ drop n (d .buffer));
     }

@@ -3,3 +3,4 @@ pub mod Desk
 pub mod Turns
 pub mod Runs
 pub mod Listed
+pub mod Inner

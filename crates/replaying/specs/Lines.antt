@@ -1,9 +1,8 @@
 -- The lines of a trace: each is what stands before a newline.
 -- Assumes nothing.
 use Prim.Native.Nat.{ℕ, _+_}
-use mathlib.Core.Bool.{Bool, not, _&&_}
 use mathlib.Core.List.{List}
-use lib.ListN.{length, getD, take, drop}
+use lib.ListN.{length, take, drop}
 use lib.Dec.{ltb}
 use Rattle.memory.specs.Tests.{is, find, unless}
 use Rattle.listing.specs.Texts.{newline}
@@ -20,13 +19,3 @@ firstLine text at =
 -- the line that starts at `at`
 abbrev pub nextOf : List ℕ → ℕ → Next
 nextOf input at = firstLine (drop at input) at
-
--- the length of the usual line, as `0 B 41`
-abbrev pub usual : ℕ
-usual = 6
-
--- a text begins with a line of that length
-unfoldable pub isUsual : List ℕ → Bool
-isUsual text =
-    ltb usual (length text) && (is newline (getD text usual 0) && (not (is newline (getD text 0 0)) && (not (is newline (getD text 1 0)) && (not (is newline (getD text 2 0))
-    && (not (is newline (getD text 3 0)) && (not (is newline (getD text 4 0)) && not (is newline (getD text 5 0))))))))

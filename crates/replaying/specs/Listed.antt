@@ -1,16 +1,14 @@
 -- The listing of a trace, with as much room as it needs: what a run of its pieces comes to.
 -- Assumes nothing.
-use Prim.Native.Nat.{ℕ, zero, suc, _+_, _≤_}
-use mathlib.Core.Path.{_≡_}
+use Prim.Native.Nat.{ℕ, zero, suc}
 use mathlib.Core.List.{List, [], _++_}
 use lib.ListN.{length, drop}
-use Rattle.memory.specs.Parts.{splice}
 use Rattle.listing.specs.declared.Item.{Item}
 use Rattle.listing.specs.declared.Item.the-variants.{Event, Taking, NotAnEvent as NoItem}
 use Rattle.replaying.specs.Lines.{firstLine}
 use Rattle.replaying.specs.Desk.{Desk, Asked, eventAsked, takingAsked}
 use Rattle.replaying.specs.Turns.{rowOf}
-use Rattle.replaying.specs.Runs.{following, AfterRun}
+use Rattle.replaying.specs.Runs.{following}
 use Rattle.replaying.specs.declared.Next.{Next}
 use Rattle.replaying.specs.declared.Next.the-variants.{Whole, Unended}
 use Rattle.replaying.specs.declared.Stop.{Stop}
@@ -53,11 +51,3 @@ listed (suc most) text n d = byLine (firstLine text 0) text n d (λ behind e. li
 -- a text has no more lines than bytes
 abbrev pub listingOf : List ℕ → ℕ → Desk → Listed
 listingOf text n d = listed (length text) text n d
-
--- a run over a piece, from `at` on: its rows are the first of the listing of all that was left, whatever stands behind the piece, and the listing goes on where the run stopped
-pub record Goes (r : AfterRun) (input : List ℕ) (at put : ℕ) (out : List ℕ) (n : ℕ) (d : Desk) : Type 0 where
-  pub rows : List ℕ
-  pub within : r .progress .read ≤ length input
-  pub written : r .progress .written ≡ put + length rows
-  pub goes-on : (more : List ℕ) → listingOf (drop at input ++ more) n d ≡ inFront rows (listingOf (drop (r .progress .read) input ++ more) (r .progress .events) (r .desk))
-  pub writes : put + length rows ≤ length out → r .out ≡ splice out put rows

@@ -1,11 +1,10 @@
 -- A piece of a trace replayed: its lines one after the other.
 -- Assumes nothing.
 use Prim.Native.Nat.{ℕ, zero, suc, _+_, _%_, _^_}
-use mathlib.Core.Path.{_≡_}
 use mathlib.Core.List.{List}
 use lib.ListN.{length}
 use Rattle.replaying.specs.Desk.{Desk}
-use Rattle.replaying.specs.Turns.{turnOf, deskOf}
+use Rattle.replaying.specs.Turns.{turnOf}
 use Rattle.replaying.specs.declared.Progress.{Progress}
 use Rattle.replaying.specs.declared.Stop.{Stop}
 use Rattle.replaying.specs.declared.Stop.the-variants.{Input}
@@ -17,12 +16,15 @@ pub record AfterRun : Type 0 where
   pub out : List ℕ
   pub desk : Desk
 
+abbrev pub runLeaves : Progress → List ℕ → Desk → AfterRun
+runLeaves r out d = record { progress = r; out = out; desk = d }
+
 -- the event behind this one: the count is a number of 64 bits
 abbrev pub following : ℕ → ℕ
 following n = (n + 1) % 2 ^ 64
 
 abbrev pub left : Stop → ℕ → ℕ → ℕ → List ℕ → Desk → AfterRun
-left s events at put out d = record { progress = record { events = events; read = at; written = put; stop = s }; out = out; desk = d }
+left s events at put out d = runLeaves (record { events = events; read = at; written = put; stop = s }) out d
 
 -- a turn that went on, or stopped
 abbrev pub byTurn : Turn → (ℕ → ℕ → AfterRun) → (Stop → AfterRun) → AfterRun
@@ -39,17 +41,3 @@ runOf (suc most) input events at put out d =
 -- a piece has no more lines than bytes
 abbrev pub pieceOf : ℕ → List ℕ → List ℕ → Desk → AfterRun
 pieceOf events input out d = runOf (length input) input events 0 0 out d
-
--- what a run says
-pub record Ran (s : AfterRun) (r : Progress) (o ns us j u f b : List ℕ) : Type 0 where
-  pub progress : r ≡ s .progress
-  pub out : o ≡ s .out
-  pub numbers : ns ≡ s .desk .numbers
-  pub counts : us ≡ s .desk .counts
-  pub journal : j ≡ s .desk .journal
-  pub unfinished : u ≡ s .desk .unfinished
-  pub frames : f ≡ s .desk .frames
-  pub buffer : b ≡ s .desk .buffer
-
-abbrev pub Running : ℕ → List ℕ → List ℕ → List ℕ → List ℕ → List ℕ → List ℕ → List ℕ → List ℕ → Progress → List ℕ → List ℕ → List ℕ → List ℕ → List ℕ → List ℕ → List ℕ → Type 0
-Running events input out ns us j u f b r out′ ns′ us′ j′ u′ f′ b′ = Ran (pieceOf events input out (deskOf ns us j u f b)) r out′ ns′ us′ j′ u′ f′ b′

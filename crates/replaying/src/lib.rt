@@ -1,7 +1,9 @@
 // A trace replayed piece by piece: its lines read, the gateway asked, the listing's rows written, all in lent memory.
 ghost use Prim.Native.Nat.{_≤_};
 ghost use lib.ListN.{length};
-ghost use Rattle.replaying.specs.Runs.{Running};
+ghost use mathlib.Core.Path.{_≡_};
+ghost use Rattle.replaying.specs.Desk.{deskOf};
+ghost use Rattle.replaying.specs.Runs.{runLeaves, pieceOf};
 
 mod lines; // lines.rt: the next line of a trace
 mod turns; // turns.rt: one line replayed
@@ -54,8 +56,8 @@ pub fn run(
     frames: &mut [u8],
     buffer: &mut [u8],
 ) -> Progress
-    ensures { λ r. ⌜ Running events (now (input .entry)) (now (out .entry)) (now (numbers .entry)) (now (counts .entry)) (now (journal .entry)) (now (unfinished .entry)) (now (frames .entry)) (now (buffer .entry))
-        r (now (out .exit)) (now (numbers .exit)) (now (counts .exit)) (now (journal .exit)) (now (unfinished .exit)) (now (frames .exit)) (now (buffer .exit))
+    ensures { λ r. ⌜ (runLeaves r (now (out .exit)) (deskOf (now (numbers .exit)) (now (counts .exit)) (now (journal .exit)) (now (unfinished .exit)) (now (frames .exit)) (now (buffer .exit)))
+        ≡ pieceOf events (now (input .entry)) (now (out .entry)) (deskOf (now (numbers .entry)) (now (counts .entry)) (now (journal .entry)) (now (unfinished .entry)) (now (frames .entry)) (now (buffer .entry))))
         × (r .read ≤ length (now (input .entry))) × (r .written ≤ length (now (out .exit))) ⌝ }
 {
     let mut count = events;

@@ -2,7 +2,8 @@
 ghost use Prim.Native.Nat.{_+_, _<_, _^_};
 ghost use mathlib.Core.Path.{_≡_};
 ghost use lib.ListN.{length};
-ghost use Rattle.replaying.specs.Lines.{nextOf, firstLine, isUsual};
+ghost use Rattle.replaying.specs.Lines.{nextOf, firstLine};
+ghost use Rattle.replaying.specs.Inner.Usual.{isUsual};
 use super::Next;
 
 const NEWLINE: u8 = b'\n';

@@ -2,8 +2,10 @@
 ghost use Prim.Native.Nat.{_+_, _≤_, min};
 ghost use mathlib.Core.Path.{_≡_};
 ghost use lib.ListN.{length};
-ghost use Rattle.replaying.specs.Desk.{rowRoom};
-ghost use Rattle.replaying.specs.Turns.{Turning, Asking, ColumnsPut, RowPut, ReadIn, EndsIn};
+ghost use Rattle.replaying.specs.Desk.{rowRoom, deskOf};
+ghost use Rattle.replaying.specs.Turns.{turnLeaves, turnOf};
+ghost use Rattle.replaying.specs.Inner.Asking.{askLeaves, askedBy, ColumnsPut, RowPut};
+ghost use Rattle.replaying.specs.Inner.Bounds.{ReadIn, EndsIn};
 ghost use Rattle.calls.specs.Calls.{Calling};
 use super::Columns;
 use super::Next;
@@ -30,8 +32,8 @@ pub fn turn(
     frames: &mut [u8],
     buffer: &mut [u8],
 ) -> Turn
-    ensures { λ r. ⌜ Turning number (now (input .entry)) at (now (out .entry)) put (now (numbers .entry)) (now (counts .entry)) (now (journal .entry)) (now (unfinished .entry)) (now (frames .entry)) (now (buffer .entry))
-        r (now (out .exit)) (now (numbers .exit)) (now (counts .exit)) (now (journal .exit)) (now (unfinished .exit)) (now (frames .exit)) (now (buffer .exit))
+    ensures { λ r. ⌜ (turnLeaves r (now (out .exit)) (deskOf (now (numbers .exit)) (now (counts .exit)) (now (journal .exit)) (now (unfinished .exit)) (now (frames .exit)) (now (buffer .exit)))
+        ≡ turnOf number (now (input .entry)) at (now (out .entry)) put (deskOf (now (numbers .entry)) (now (counts .entry)) (now (journal .entry)) (now (unfinished .entry)) (now (frames .entry)) (now (buffer .entry))))
         × ReadIn r (length (now (input .entry))) × EndsIn r (length (now (out .exit))) ⌝ }
 {
     if out.len() < put {
@@ -59,8 +61,8 @@ fn ask(
     frames: &mut [u8],
     buffer: &mut [u8],
 ) -> Columns
-    ensures { λ r. ⌜ Asking item (now (numbers .entry)) (now (counts .entry)) (now (journal .entry)) (now (unfinished .entry)) (now (frames .entry)) (now (buffer .entry))
-        r (now (numbers .exit)) (now (counts .exit)) (now (journal .exit)) (now (unfinished .exit)) (now (frames .exit)) (now (buffer .exit)) ⌝ }
+    ensures { λ r. ⌜ askLeaves r (deskOf (now (numbers .exit)) (now (counts .exit)) (now (journal .exit)) (now (unfinished .exit)) (now (frames .exit)) (now (buffer .exit)))
+        ≡ askedBy item (deskOf (now (numbers .entry)) (now (counts .entry)) (now (journal .entry)) (now (unfinished .entry)) (now (frames .entry)) (now (buffer .entry))) ⌝ }
 {
     match item {
         Item::Event(e) => {

@@ -7,10 +7,9 @@ use mathlib.Core.Path.{_≡_, refl, sym, ap, subst, _∙_}
 use denote.Ref.{now}
 use lib.ListN.{length}
 use mathlib.Core.List.{List}
-use Rattle.replaying.specs.Desk.{Desk}
-use Rattle.replaying.specs.Turns.{deskOf}
+use Rattle.replaying.specs.Desk.{Desk, deskOf}
 use Rattle.replaying.specs.Runs.{AfterRun, runOf, pieceOf}
-use Rattle.replaying.proofs.Pieces.{went-on, stopped-at, ran-out, as-piece, read-in, ends-in}
+use Rattle.replaying.proofs.Pieces.{went-on, stopped-at, ran-out, read-in, ends-in}
 use Rattle.replaying.proofs.run.Statement.{statement}
 use Rattle.replaying.proofs.run.Tie as tie
 
@@ -58,6 +57,13 @@ stopped-from c = turning (stopped-call c)
 abbrev desk : tie.At-loop Inv-loop μ-loop → Desk
 desk l = deskOf (l .loop .numbers) (l .loop .counts) (l .loop .journal) (l .loop .unfinished) (l .loop .frames) (l .loop .buffer)
 
+-- the listing and the desk behind it
+abbrev out-behind : tie.After-turn Inv-loop μ-loop → List ℕ
+out-behind t = t .turn .last .1 .1 .1 .0
+
+abbrev desk-behind : tie.After-turn Inv-loop μ-loop → Desk
+desk-behind t = let m = t .turn .last .1 .1 .1 .1 .1 in deskOf (m .0) (m .1 .0) (m .1 .1 .0) (m .1 .1 .1 .0) (m .1 .1 .1 .1 .0) (m .1 .1 .1 .1 .1 .0)
+
 loop-holds : tie.Need-loop-holds Inv-loop μ-loop
 loop-holds c = record {
   comes-to = refl;
@@ -71,7 +77,7 @@ loop-holds c = record {
 }
 
 -- the listing has its length after a turn
-out-kept : (t : tie.After-turn Inv-loop μ-loop) → length (t .turn .last .1 .1 .1 .0) ≡ length (turning t .loop .out)
+out-kept : (t : tie.After-turn Inv-loop μ-loop) → length (out-behind t) ≡ length (turning t .loop .out)
 out-kept t = t .turn .kept .1 .1 .1 .0
 
 returns : tie.Need-returns Inv-loop μ-loop
@@ -79,8 +85,10 @@ returns c =
     let t = call (c .before .before .before) in
     let l = turning t in
     let i = l .loop .inv in
-    let stop = stopped-at _ _ _ _ _ (desk l) (counted t .wrapping-add-u64 .ensures) (t .turn .ensures .0) (l .loop .left) (search (needs, counted t .before .loop-test)) (c .before .turn2 .given .1) in
-    (as-piece (i .comes-to) stop, i .read-within, subst (λ (n : ℕ). l .loop .put ≤ n) (sym (out-kept t)) (i .written-within))
+    let stop =
+    stopped-at (now (start l .args .input)) (l .loop .count) (l .loop .at) (l .loop .put) (l .loop .out) (desk l) {out′ = out-behind t} {d′ = desk-behind t}
+    (counted t .wrapping-add-u64 .ensures) (t .turn .ensures .0) (l .loop .left) (search (needs, counted t .before .loop-test)) (c .before .turn2 .given .1) in
+    (stop ∙ sym (i .comes-to), i .read-within, subst (λ (n : ℕ). l .loop .put ≤ n) (sym (out-kept t)) (i .written-within))
 
 loop-again : tie.Need-loop-again Inv-loop μ-loop
 loop-again c =
@@ -90,7 +98,10 @@ loop-again c =
     let w = c .before .turn3 .given .1 in
     let k = t .turn .kept .1 .1 .1 in
     let m = k .1 .1 .1 .1 in record {
-      comes-to = i .comes-to ∙ went-on _ _ _ _ _ (desk l) (counted t .wrapping-add-u64 .ensures) (t .turn .ensures .0) (l .loop .left) (search (needs, counted t .before .loop-test)) w;
+      comes-to =
+          i .comes-to
+          ∙ went-on (now (start l .args .input)) (l .loop .count) (l .loop .at) (l .loop .put) (l .loop .out) (desk l) {out′ = out-behind t} {d′ = desk-behind t}
+          (counted t .wrapping-add-u64 .ensures) (t .turn .ensures .0) (l .loop .left) (search (needs, counted t .before .loop-test)) w;
       out-length = k .0 ∙ i .out-length;
       journal-length = m .0 ∙ i .journal-length;
       unfinished-length = m .1 .0 ∙ i .unfinished-length;
@@ -106,7 +117,7 @@ returns-2 c =
     let i = l .loop .inv in
     let none : l .loop .left ≡ 0 = omega arith in
     let done = ap (λ (n : ℕ). runOf n (now (start l .args .input)) (l .loop .count) (l .loop .at) (l .loop .put) (l .loop .out) (desk l)) none in
-    (as-piece (i .comes-to ∙ done) (ran-out _ _ _ _ _ _ _ _ _ _ _), i .read-within, i .written-within)
+    (ran-out _ _ _ _ _ _ ∙ sym (i .comes-to ∙ done), i .read-within, i .written-within)
 
 pub run-spec : {M : Type 1} → statement M
 run-spec =

@@ -5,7 +5,8 @@ use native.Mathlib.Omega.{arith}
 use borrow.Author.Needs.{needs}
 use lib.ListN.{length, length-append}
 use denote.Ref.{now}
-use Rattle.decimal.specs.Decimal.{decimalOf, fourDigits}
+use Rattle.decimal.specs.Decimal.{decimalOf}
+use Rattle.decimal.specs.Inner.Groups.{fourDigits}
 use Rattle.decimal.proofs.Digits.{last-four, four-longer}
 use Rattle.decimal.proofs.Stores.{joined}
 use Rattle.decimal.proofs.writing.put.Statement.{statement}

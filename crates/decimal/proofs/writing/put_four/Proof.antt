@@ -5,7 +5,7 @@ use native.Mathlib.Omega.{arith}
 use borrow.Author.Needs.{needs}
 use denote.Ref.{now}
 use Prim.Native.Nat.{_/_, _%_}
-use Rattle.decimal.specs.Decimal.{twoDigits}
+use Rattle.decimal.specs.Inner.Groups.{twoDigits}
 use Rattle.decimal.proofs.Stores.{joined}
 use Rattle.decimal.proofs.writing.put_four.Statement.{statement}
 use Rattle.decimal.proofs.writing.put_four.Tie as tie

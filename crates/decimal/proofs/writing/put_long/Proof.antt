@@ -9,7 +9,8 @@ use lib.ListN.{length}
 use denote.Ref.{now}
 use Rattle.memory.specs.Parts.{splice}
 use Rattle.memory.proofs.Parts.{splice-nil, splice-join-front, length-splice}
-use Rattle.decimal.specs.Decimal.{decimalOf, twoDigits}
+use Rattle.decimal.specs.Decimal.{decimalOf}
+use Rattle.decimal.specs.Inner.Groups.{twoDigits}
 use Rattle.decimal.proofs.Digits.{last-two, two-longer}
 use Rattle.decimal.proofs.writing.put_long.Statement.{statement}
 use Rattle.decimal.proofs.writing.put_long.Tie as tie

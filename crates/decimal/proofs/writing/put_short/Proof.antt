@@ -7,7 +7,8 @@ use borrow.Author.Needs.{needs}
 use lib.ListN.{length, length-set}
 use denote.Ref.{now}
 use Rattle.memory.proofs.Parts.{set-splice}
-use Rattle.decimal.specs.Decimal.{digitFor, twoDigits}
+use Rattle.decimal.specs.Decimal.{digitFor}
+use Rattle.decimal.specs.Inner.Groups.{twoDigits}
 use Rattle.decimal.proofs.Digits.{one-digit, one-long, two-digits, two-long, three-digits, three-long, four-digits, four-long}
 use Rattle.decimal.proofs.Stores.{joined}
 use Rattle.decimal.proofs.writing.put_short.Statement.{statement}

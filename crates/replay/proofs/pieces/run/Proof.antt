@@ -1,15 +1,16 @@
 -- `replay::pieces::run` meets its contract.
 -- Assumes nothing.
 use borrow.Author.Needs.{needs}
-use native.Mathlib.Omega.{arith}
 use mathlib.Core.Path.{_≡_, refl, sym, _∙_}
 use mathlib.Core.List.{List}
 use Prim.Native.Nat.{ℕ}
 use lib.ListN.{length}
 use Rattle.memory.specs.Sizes.{journalSize, unfinishedSize, framesSize, messageLimit}
-use Rattle.replay.specs.Ends.{LiesIn}
-use Rattle.replay.specs.declared.pieces.Kept.{Kept}
-use Rattle.replay.proofs.Places.{part-read}
+use Rattle.replaying.specs.Desk.{Desk, deskOf}
+use Rattle.streaming.specs.Inner.Places.{LiesIn}
+use Rattle.streaming.specs.Streams.{Stream, streamOf}
+use Rattle.streaming.specs.declared.Kept.{Kept}
+use Rattle.streaming.proofs.Places.{begun-lies, after-turn}
 use Rattle.replay.proofs.pieces.run.Statement.{statement}
 use Rattle.replay.proofs.pieces.run.Tie as tie
 
@@ -30,38 +31,46 @@ Inv-loop fd name n input₀ out₀ journal₀ unfinished₀ frames₀ buffer₀ 
 abbrev μ-loop : tie.MeasureT-loop
 μ-loop fd name n input₀ out₀ journal₀ unfinished₀ frames₀ buffer₀ numbers₀ counts₀ kept₀ turns₀ input out journal unfinished frames buffer numbers counts kept turns = turns
 
--- the places, each from one behind it: the call of `advance`, that of `run`, the loop's test, this turn's start, the function's start
-abbrev advanced : tie.After-struct-known Inv-loop μ-loop → tie.After-advance Inv-loop μ-loop
-advanced c = c .before .before .before
+-- the places, each from one behind it: the call of `pass`, that of `turn`, the loop's test, this turn's start
+abbrev passed : tie.After-is-over Inv-loop μ-loop → tie.After-pass Inv-loop μ-loop
+passed c = c .before .before .before
 
-abbrev ran : tie.After-advance-arg Inv-loop μ-loop → tie.After-run Inv-loop μ-loop
-ran c = c .before .before .before .before .before .before .before
+abbrev turned : tie.After-out3 Inv-loop μ-loop → tie.After-turn Inv-loop μ-loop
+turned c = let journal-back = c .before .before .before .before in journal-back .before .before .before .before
 
-abbrev tested : tie.After-run Inv-loop μ-loop → tie.In-loop Inv-loop μ-loop
-tested c = c .before .before .before .before .before .before .before .before .before .before
+abbrev tested : tie.After-turn Inv-loop μ-loop → tie.In-loop Inv-loop μ-loop
+tested c = let journal-lent = c .before .before .before .before in journal-lent .before .before .before .before .before
 
-abbrev turn : tie.After-run Inv-loop μ-loop → tie.At-loop Inv-loop μ-loop
+abbrev turn : tie.After-turn Inv-loop μ-loop → tie.At-loop Inv-loop μ-loop
 turn c = tested c .before
 
-abbrev start : tie.At-loop Inv-loop μ-loop → tie.Start Inv-loop μ-loop
-start c = c .before .before .before .before .before .before .before .before
+-- the call of `turn` before that of `pass`, and the test that let this turn begin
+abbrev before-pass : tie.After-pass Inv-loop μ-loop → tie.After-turn Inv-loop μ-loop
+before-pass c = turned (c .before .before)
 
--- the test that let this turn begin
-abbrev test : tie.After-struct-known Inv-loop μ-loop → tie.In-loop Inv-loop μ-loop
-test c = tested (ran (advanced c .before))
+abbrev test : tie.After-is-over Inv-loop μ-loop → tie.In-loop Inv-loop μ-loop
+test c = tested (before-pass (passed c))
+
+-- the trace on its way before a turn, and the desk behind it
+abbrev stream : tie.At-loop Inv-loop μ-loop → Stream
+stream l = streamOf (l .loop .kept) (l .loop .input) (l .loop .out) (deskOf (l .loop .numbers) (l .loop .counts) (l .loop .journal) (l .loop .unfinished) (l .loop .frames) (l .loop .buffer))
+
+abbrev desk-behind : tie.After-turn Inv-loop μ-loop → Desk
+desk-behind t = let m = t .turn .last .1 .1 .1 in deskOf (m .0) (m .1 .0) (m .1 .1 .0) (m .1 .1 .1 .0) (m .1 .1 .1 .1 .0) (m .1 .1 .1 .1 .1 .0)
 
 -- this turn's start, from where the listing and the journal are lent
 abbrev lent-out : tie.After-out Inv-loop μ-loop → tie.At-loop Inv-loop μ-loop
-lent-out c = c .before .before .before .before
+lent-out c = c .before .before .before
 
 abbrev lent-journal : tie.After-journal Inv-loop μ-loop → tie.At-loop Inv-loop μ-loop
 lent-journal c = lent-out (c .before .before .before)
 
 loop-holds : tie.Need-loop-holds Inv-loop μ-loop
 loop-holds c =
-    let s = c .before .before .before .before .before .before .before in
+    let memory = c .before .before .before .before in
+    let s = memory .before .before .before in
     record {
-      lies-in = (omega (arith, c .waits .ensures), omega (arith, c .waits .ensures, s .pre));
+      lies-in = begun-lies _ _ (c .begin .ensures) (s .pre);
       input-length = refl;
       out-length = search needs;
       journal-length = search needs;
@@ -70,29 +79,30 @@ loop-holds c =
       buffer-length = search needs;
     }
 
-out-whole : tie.Need-slice-aggregate-advance Inv-loop μ-loop
+out-whole : tie.Need-slice-aggregate-pass Inv-loop μ-loop
 out-whole c =
-    let r = c .before .before .before .before .before .before in
-    sym (r .run .kept .1 .1 .0 ∙ turn r .loop .inv .out-length)
+    let t = turned c in
+    sym (t .turn .kept .1 .1 .0 ∙ turn t .loop .inv .out-length)
 
-advance-requires : tie.Need-advance-requires Inv-loop μ-loop
-advance-requires c κs =
-    let r = ran c in
-    let l = turn r in
-    let k = l .loop .kept in
-    let i = l .loop .inv in
-    (i .lies-in, omega (arith, i, start l .pre), part-read (l .loop .input) (k .from) (k .waiting) (r .run .result .read) (i .lies-in .0) (r .run .ensures .1), r .run .ensures .2)
+pass-requires : tie.Need-pass-requires Inv-loop μ-loop
+pass-requires c κs =
+    let t = turned (c .before) in
+    (after-turn (stream (turn t)) {d = desk-behind t} (t .turn .ensures .0) (turn t .loop .inv .lies-in), t .turn .ensures .1)
+
+-- the input has its length behind a read
+input-kept : (c : tie.After-pass Inv-loop μ-loop) → length (c .pass .last .1 .1 .1 .1 .0) ≡ length (turn (before-pass c) .loop .input)
+input-kept c = c .pass .kept .1 .1 .1 .1 .0 ∙ before-pass c .turn .kept .1 .0
 
 loop-again : tie.Need-loop-again Inv-loop μ-loop
 loop-again c =
-    let a = advanced (c .before) in
-    let r = ran (a .before) in
-    let i = turn r .loop .inv in
-    let k = r .run .kept .1 .1 in
+    let a = passed (c .before) in
+    let t = before-pass a in
+    let i = turn t .loop .inv in
+    let k = t .turn .kept .1 .1 in
     let m = k .1 .1 .1 in
     record {
-      lies-in = a .advance .ensures;
-      input-length = a .advance .kept .1 .1 .1 .1 .1 .0 ∙ i .input-length;
+      lies-in = a .pass .ensures;
+      input-length = input-kept a ∙ i .input-length;
       out-length = k .0 ∙ i .out-length;
       journal-length = m .0 ∙ i .journal-length;
       unfinished-length = m .1 .0 ∙ i .unfinished-length;
@@ -102,8 +112,8 @@ loop-again c =
 
 same-length : tie.Need-same-length Inv-loop μ-loop
 same-length c =
-    let a = advanced (c .before) in
-    a .advance .kept .1 .1 .1 .1 .1 .0 ∙ turn (ran (a .before)) .loop .inv .input-length
+    let a = passed (c .before) in
+    input-kept a ∙ turn (before-pass a) .loop .inv .input-length
 
 pub run-spec : {M : Type 1} → statement M
 run-spec =
@@ -115,9 +125,6 @@ run-spec =
     (λ c κs. search needs)
     (λ c κs. search needs)
     loop-holds
-    (λ c. search needs)
-    (λ c. search needs)
-    (λ c. search needs)
     (λ c. sym (lent-out c .loop .inv .out-length))
     (λ c. sym (lent-journal c .loop .inv .journal-length))
     (λ c. sym (lent-journal (c .before) .loop .inv .unfinished-length))
@@ -125,7 +132,8 @@ run-spec =
     (λ c. sym (lent-journal (c .before .before .before) .loop .inv .buffer-length))
     (λ c κs. search needs)
     out-whole
-    advance-requires
+    pass-requires
+    (λ c κs. search needs)
     same-length
     (λ c. tt)
     (λ c. search (needs, test (c .before) .loop-test))

@@ -9,7 +9,7 @@ use lib.ListN.{length}
 use lib.Seq.{length-take-le}
 use Rattle.memory.specs.Tests.{is, find}
 use Rattle.listing.specs.Texts.{newline}
-use Rattle.replaying.specs.Lines.{usual}
+use Rattle.replaying.specs.Inner.Usual.{usual}
 use Rattle.replaying.proofs.Newlines.{whole, unended, usual-line, scanned, below}
 use Rattle.replaying.proofs.lines.first.Statement.{statement}
 use Rattle.replaying.proofs.lines.first.Tie as tie

@@ -2,7 +2,7 @@
 -- Assumes nothing.
 use borrow.Author.Needs.{needs}
 use Rattle.memory.proofs.Branches.{branches}
-use Rattle.replaying.specs.Lines.{isUsual}
+use Rattle.replaying.specs.Inner.Usual.{isUsual}
 use Rattle.replaying.proofs.lines.is_usual.Statement.{statement}
 use Rattle.replaying.proofs.lines.is_usual.Tie as tie
 

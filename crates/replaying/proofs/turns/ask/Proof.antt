@@ -3,8 +3,7 @@
 use borrow.Author.Needs.{needs}
 use mathlib.Core.Path.{refl, sym}
 use denote.Ref.{now}
-use Rattle.replaying.specs.Desk.{Desk}
-use Rattle.replaying.specs.Turns.{deskOf}
+use Rattle.replaying.specs.Desk.{Desk, deskOf}
 use lib.Seq.{length-take-le}
 use Rattle.replaying.proofs.Ways.{asks-event, asks-taking, asks-nothing}
 use Rattle.replaying.proofs.turns.ask.Statement.{statement}

@@ -3,14 +3,13 @@
 use borrow.Author.Needs.{needs}
 use native.Mathlib.Omega.{arith}
 use Prim.Native.Nat.{_+_, _≤_}
-use mathlib.Core.Path.{_≡_, sym, _∙_}
+use mathlib.Core.Path.{_≡_, refl, sym, ap, _∙_}
 use denote.Ref.{now}
-use Rattle.replaying.specs.Desk.{rowRoom, Desk}
+use Rattle.replaying.specs.Desk.{rowRoom, Desk, deskOf}
 use Rattle.replaying.specs.Lines.{nextOf}
-use Rattle.replaying.specs.Turns.{deskOf}
-use Rattle.replaying.specs.declared.Stop.the-variants.{Input}
+use Rattle.replaying.specs.Turns.{AfterTurn}
 use Rattle.replaying.specs.declared.Next.the-variants.{Whole}
-use Rattle.replaying.proofs.Ways.{no-room, has-room, stays, asked-put, acted-behind}
+use Rattle.replaying.proofs.Ways.{no-room, has-room, asked-put, acted-behind}
 use Rattle.replaying.proofs.Newlines.{behind-within}
 use lib.ListN.{length}
 use Rattle.replaying.proofs.turns.turn.Statement.{statement}
@@ -35,6 +34,10 @@ columns c = c .before .before
 -- the desk that is lent
 abbrev desk : tie.Start → Desk
 desk s = let a = s .args in deskOf (now (a .numbers)) (now (a .counts)) (now (a .journal)) (now (a .unfinished)) (now (a .frames)) (now (a .buffer))
+
+-- and behind what the line asks
+abbrev desk-behind : tie.After-ask → Desk
+desk-behind q = let m = q .ask .last .1 in deskOf (m .0) (m .1 .0) (m .1 .1 .0) (m .1 .1 .1 .0) (m .1 .1 .1 .1 .0) (m .1 .1 .1 .1 .1 .0)
 
 -- past the tests there is room for a row
 roomy : (c : tie.After-next) → line-start c .args .put + rowRoom ≤ length (now (line-start c .args .out))
@@ -63,8 +66,7 @@ returns-3 c =
     let n = c .before .before in
     let s = line-start n in
     let a = s .args in
-    let stay = stays (desk s) (now (a .out)) (a .put) Input in
-    (has-room (desk s) (now (a .out)) (a .put) (now (a .input)) (a .at) (a .number) (roomy n) (sym (c .enum-told .given .1) ∙ n .next .ensures) stay, tt, tt)
+    (has-room (desk s) (now (a .out)) (a .put) (now (a .input)) (a .at) (a .number) (roomy n) (sym (c .enum-told .given .1) ∙ n .next .ensures) refl, tt, tt)
 
 put-columns-requires : tie.Need-put-columns-requires
 put-columns-requires c κs = roomy (item (asked (c .before)) .before .before)
@@ -78,10 +80,10 @@ returns-4 c =
     let s = line-start n in
     let a = s .args in
     let (row, ends) = t .put-columns .ensures in
-    let done = asked-put (desk s) (now (a .out)) (a .put) (i .item .given .0 .0) (a .number) (i .item .given .0 .1 .0) (q .ask .ensures) row in
+    let done = asked-put (desk s) (now (a .out)) (a .put) (i .item .given .0 .0) (a .number) (i .item .given .0 .1 .0) {d′ = desk-behind q} (q .ask .ensures) row in
     let within = behind-within (now (a .input)) (a .at) (next-is i) in (
       has-room (desk s) (now (a .out)) (a .put) (now (a .input)) (a .at) (a .number) (roomy n) (next-is i) done,
-      acted-behind (desk s) (now (a .out)) (a .put) (i .item .given .0 .0) (a .number) (i .item .given .0 .1 .0) (length (now (a .input))) within (done .turn),
+      acted-behind (desk s) (now (a .out)) (a .put) (i .item .given .0 .0) (a .number) (i .item .given .0 .1 .0) (length (now (a .input))) within (ap (λ (x : AfterTurn). x .turn) done),
       ends,
     )
 

@@ -1,0 +1,4 @@
+pub mod Usual
+pub mod Asking
+pub mod Bounds
+pub mod Pieces

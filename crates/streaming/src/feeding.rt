@@ -1,0 +1,62 @@
+// What a read has brought.
+ghost use Prim.Native.Nat.{_+_, _≤_, _<_, _^_};
+ghost use mathlib.Core.Path.{_≡_};
+ghost use lib.ListN.{length};
+ghost use Rattle.streaming.specs.Stages.{closes};
+ghost use Rattle.streaming.specs.Fed.{grown, finished};
+use super::Kept;
+use super::Stage;
+
+const NEWLINE: u8 = b'\n';
+
+// n bytes more wait.
+pub fn grow(kept: Kept, n: usize) -> Kept
+    requires { ⌜ kept .end + n < 2 ^ 64 ⌝ }
+    ensures { λ r. ⌜ r ≡ grown kept n ⌝ }
+{
+    Kept {
+        from: kept.from,
+        end: kept.end + n,
+        events: kept.events,
+        ended: false,
+        written: 0,
+        stage: Stage::Runs,
+    }
+}
+
+// The trace is at its end: a last line without a newline counts, and gets one.
+pub fn finish(kept: Kept, input: &mut [u8]) -> Kept
+    requires { ⌜ kept .end ≤ length (now input) ⌝ }
+    ensures { λ r. ⌜ (r ≡ finished kept (now (input .entry)) .kept) × (now (input .exit) ≡ finished kept (now (input .entry)) .input) ⌝ }
+{
+    let end = kept.end;
+    if kept.from == end {
+        return close(kept.events, Stage::Total);
+    }
+    if end == input.len() {
+        return close(kept.events, Stage::Fault);
+    }
+    input[end] = NEWLINE;
+    Kept {
+        from: kept.from,
+        end: end + 1,
+        events: kept.events,
+        ended: true,
+        written: 0,
+        stage: Stage::Runs,
+    }
+}
+
+// The line that closes the listing comes next.
+fn close(events: u64, stage: Stage) -> Kept
+    ensures { λ r. ⌜ r ≡ closes events 0 stage ⌝ }
+{
+    Kept {
+        from: 0,
+        end: 0,
+        events,
+        ended: true,
+        written: 0,
+        stage,
+    }
+}
