@@ -1,4 +1,4 @@
--- The escapes of document 01 by example: the four, and what is refused.
+-- The escapes by example: the four, and what is refused.
 -- Assumes nothing.
 use mathlib.Core.Path.{_≡_, refl}
 use mathlib.Core.List.{[], _∷_}
