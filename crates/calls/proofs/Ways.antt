@@ -19,8 +19,8 @@ use Rattle.line.specs.declared.Line.{Line}
 use Rattle.looking.specs.Views.{frameStart}
 use Rattle.looking.specs.Looks.{byteLook, insideLook, waitingLook}
 use Rattle.receiving.specs.Verdicts.{ownWork, verdictOf}
-use Rattle.looking.specs.Lent.{rightLengths}
-use Rattle.receiving.specs.Steps.{Memory, AfterStep, Leaves, memoryOf, settle, stepOf}
+use Rattle.looking.specs.Lent.{rightSizes}
+use Rattle.receiving.specs.Steps.{Memory, AfterStep, Leaves, settle, stepOf}
 use Rattle.receiving.specs.Alone.{SteppingAlone, decideOf}
 use Rattle.receiving.specs.declared.Alone.{Alone}
 use Rattle.looking.specs.Answers.{answerOf}
@@ -36,7 +36,7 @@ use Rattle.looking.specs.declared.Kind.the-variants.{Byte, Seconds}
 use Rattle.looking.specs.declared.Verdict.{Verdict}
 use Rattle.looking.specs.declared.Verdict.the-variants.{Collects, Begins}
 use Rattle.numbers.specs.Plain.{waiting, inside, begins, insideAt, firstAt, numberAt, stateOf, withLine, withSerial, withUsed, withinNumbers, onlyCollects, oneMore, quick, lineOf, ledgerOf, inNumbers}
-use Rattle.calls.specs.Calls.{AfterCall, refused, putBack, callOf, Called, Calling, Taken, takingInNumbers}
+use Rattle.calls.specs.Calls.{HostState, AfterCall, refused, putBack, callOf, Called, Calling, TakeState, usedAfter, Taken, takingInNumbers}
 use Rattle.calls.specs.Inner.Steps.{Stepping, Deciding, PutBack, Narrow}
 use Rattle.numbers.specs.Changes.{isWithin, recordOf, isCollected, Collected, isBegun, Begun, recordAfter, serialAfter, countsAfter}
 use Rattle.numbers.specs.declared.Answered.{Answered}
@@ -46,64 +46,82 @@ use Rattle.journal.proofs.Takings.{taken-line}
 use Rattle.receiving.proofs.Steps.{step-after, alone-asks, step-decides}
 use Rattle.calls.proofs.Narrow.{decide-narrow, taking-narrow}
 
-as-called : {s t : AfterCall} {r : Answered} {ns us j u f : List ℕ} → s ≡ t → Called t r ns us j u f → Called s r ns us j u f
-as-called {s} {t} {r} {ns} {us} {j} {u} {f} q c = subst (λ (x : AfterCall). Called x r ns us j u f) (sym q) c
+as-called : {c d : AfterCall} {r : Answered} {t : HostState} → c ≡ d → Called d r t → Called c r t
+as-called {c} {d} {r} {t} q x = subst (λ (y : AfterCall). Called y r t) (sym q) x
 
-module _ (ns us : List ℕ) (e : Event) (j u f : List ℕ) where
-  same : (a : Answer) (r : Answered) → r ≡ inNumbers a → Called (refused a ns us (memoryOf j u f)) r ns us j u f
-  same a r q = record { result = q; numbers = refl; counts = refl; journal = refl; unfinished = refl; frames = refl }
+-- the ledger that a host's numbers stand for, and whether its memory has the right sizes
+abbrev ledger : HostState → Ledger
+ledger s = ledgerOf (s .numbers) (s .counts)
+
+abbrev right : HostState → Bool
+right s = rightSizes (s .memory .journal) (s .memory .unfinished) (s .memory .frames)
+
+-- the same but for the lines' numbers; but for what a step on the line alone is lent too; but for the numbers and the frames
+abbrev renumbered : HostState → List ℕ → HostState
+renumbered s numbers = record { numbers = numbers; counts = s .counts; memory = s .memory }
+
+abbrev stepped-on : HostState → List ℕ → List ℕ → List ℕ → HostState
+stepped-on s numbers unfinished frames = record { numbers = numbers; counts = s .counts; memory = record { journal = s .memory .journal; unfinished = unfinished; frames = frames } }
+
+abbrev reframed : HostState → List ℕ → List ℕ → HostState
+reframed s numbers frames = stepped-on s numbers (s .memory .unfinished) frames
+
+module _ (s : HostState) (e : Event) where
+  same : (a : Answer) (r : Answered) → r ≡ inNumbers a → Called (refused a s) r s
+  same a r q = record { result = q; state = refl }
 
   -- 40, 41 and 42
-  pub no-line : (r : Answered) → lines ≤ e .line → r ≡ inNumbers NoLine → Calling ns us e j u f r ns us j u f
+  pub no-line : (r : Answered) → lines ≤ e .line → r ≡ inNumbers NoLine → Calling s e r s
   unfolding callOf
   no-line r h q = as-called (rw (le-ltb (e .line) lines h)) (same NoLine r q)
 
-  pub wrong-size : (r : Answered) → e .line < lines → rightLengths (length j) (length u) (length f) ≡ false → r ≡ inNumbers WrongSize → Calling ns us e j u f r ns us j u f
+  pub wrong-size : (r : Answered) → e .line < lines → right s ≡ false → r ≡ inNumbers WrongSize → Calling s e r s
   unfolding callOf
-  wrong-size r h s q = as-called (rw (lt-ltb (e .line) lines h, s)) (same WrongSize r q)
+  wrong-size r h z q = as-called (rw (lt-ltb (e .line) lines h, z)) (same WrongSize r q)
 
-  pub beyond : (r : Answered) → e .line < lines → rightLengths (length j) (length u) (length f) ≡ true → withinNumbers ns (e .line) ≡ false → r ≡ inNumbers BeyondLimits → Calling ns us e j u f r ns us j u f
+  pub beyond : (r : Answered) → e .line < lines → right s ≡ true → withinNumbers (s .numbers) (e .line) ≡ false → r ≡ inNumbers BeyondLimits → Calling s e r s
   unfolding callOf
-  beyond r h s w q = as-called (rw (lt-ltb (e .line) lines h, s, w)) (same BeyondLimits r q)
+  beyond r h z w q = as-called (rw (lt-ltb (e .line) lines h, z, w)) (same BeyondLimits r q)
 
   -- past 40 to 42: the step
-  pub by-step : {r : Answered} {ns′ us′ j′ u′ f′ : List ℕ} → e .line < lines → rightLengths (length j) (length u) (length f) ≡ true → withinNumbers ns (e .line) ≡ true
-      → Stepping ns us (lineOf ns (e .line)) e j u f r ns′ us′ j′ u′ f′ → Calling ns us e j u f r ns′ us′ j′ u′ f′
+  pub by-step : {r : Answered} {t : HostState} → e .line < lines → right s ≡ true → withinNumbers (s .numbers) (e .line) ≡ true → Stepping s (lineOf (s .numbers) (e .line)) e r t → Calling s e r t
   unfolding callOf
-  by-step h s w c = as-called (rw (lt-ltb (e .line) lines h, s, w)) c
+  by-step h z w c = as-called (rw (lt-ltb (e .line) lines h, z, w)) c
 
 -- the step of a line with the record l, and the deciding
-module _ (ns us : List ℕ) (l : Line) (e : Event) (j u f : List ℕ) where
+module _ (s : HostState) (l : Line) (e : Event) where
   -- an outcome of the gateway, put back
-  put-back : {x : AfterStep} {s : Stepped} {ns′ us′ : List ℕ} {m : Memory} {r : Answered} → Leaves x s m → PutBack ns us (e .line) s r ns′ us′ → Called (putBack ns us (e .line) x) r ns′ us′ (m .journal) (m .unfinished) (m .frames)
-  put-back y p = record {
-    result = p .result ∙ ap (λ (z : Stepped). inNumbers (z .answer)) (y .result);
-    numbers = p .numbers ∙ ap (λ (z : Stepped). withSerial (withLine ns (e .line) (z .line)) (e .line) (z .ledger)) (y .result);
-    counts = p .counts ∙ ap (λ (z : Stepped). withUsed us (e .line) (z .ledger)) (y .result);
-    journal = ap (λ (z : Memory). z .journal) (y .memory);
-    unfinished = ap (λ (z : Memory). z .unfinished) (y .memory);
-    frames = ap (λ (z : Memory). z .frames) (y .memory);
-  }
+  put-back : {x : AfterStep} {p : Stepped} {ns us : List ℕ} {m : Memory} {r : Answered} → Leaves x p m → PutBack (s .numbers) (s .counts) (e .line) p r ns us
+      → Called (putBack s (e .line) x) r (record { numbers = ns; counts = us; memory = m })
+  put-back y p =
+      let numbers = p .numbers ∙ ap (λ (z : Stepped). withSerial (withLine (s .numbers) (e .line) (z .line)) (e .line) (z .ledger)) (y .result) in
+      let counts = p .counts ∙ ap (λ (z : Stepped). withUsed (s .counts) (e .line) (z .ledger)) (y .result) in
+      record {
+        result = p .result ∙ ap (λ (z : Stepped). inNumbers (z .answer)) (y .result);
+        state = λ i. record { numbers = numbers i; counts = counts i; memory = y .memory i };
+      }
 
   -- a step that is done on the line alone: the ledger stays
-  pub put-after : {t : Alone} {v : Verdict} {ns′ u′ f′ : List ℕ} {r : Answered} → e .line < lines → SteppingAlone l e (length j) (record { unfinished = u; frames = f }) t (record { unfinished = u′; frames = f′ }) → t .look ≡ Done v → ns′ ≡ withLine ns (e .line) (t .line) → r ≡ inNumbers (answerOf v)
-      → Stepping ns us l e j u f r ns′ us j u′ f′
-  put-after {t} {v} h x k m q =
-      put-back (step-after l (ledgerOf ns us) e j u f t v x k refl) (record { result = q; numbers = m ∙ sym (serial-back ns us (e .line) (t .line) h); counts = sym (used-back ns us (e .line) h) })
+  module _ {t : Alone} {u f : List ℕ} (x : SteppingAlone l e (length (s .memory .journal)) (record { unfinished = s .memory .unfinished; frames = s .memory .frames }) t (record { unfinished = u; frames = f })) where
+    pub put-after : {v : Verdict} {ns : List ℕ} {r : Answered} → e .line < lines → t .look ≡ Done v → ns ≡ withLine (s .numbers) (e .line) (t .line) → r ≡ inNumbers (answerOf v)
+        → Stepping s l e r (stepped-on s ns u f)
+    put-after {v} h k m q =
+        put-back (step-after l (ledger s) e (s .memory .journal) (s .memory .unfinished) (s .memory .frames) t v x k refl)
+        (record { result = q; numbers = m ∙ sym (serial-back (s .numbers) (s .counts) (e .line) (t .line) h); counts = sym (used-back (s .numbers) (s .counts) (e .line) h) })
+
+    -- and one that leaves a message to decide
+    pub by-decide : {n : ℕ} {r : Answered} {after : HostState} → t .look ≡ Decides n → Deciding (stepped-on s (s .numbers) u f) l e n r after → Stepping s l e r after
+    by-decide {n} {r} {after} k c =
+        let (h, p, q) = alone-asks l (ledger s) e (s .memory .journal) (s .memory .unfinished) (s .memory .frames) t x k in
+        let z : Deciding s l e n r after = rw (← p, ← q) c in
+        as-called (ap (putBack s (e .line)) (step-decides l (ledger s) e (s .memory .journal) (s .memory .unfinished) (s .memory .frames) n h)) z
 
   -- a message that is decided
-  pub put-decided : (n : ℕ) {d : Ledger} {s : Stepped} {ns′ us′ j′ u′ f′ : List ℕ} {r : Answered} → d ≡ ledgerOf ns us → Leaves (decideOf todaysShares l d e n (memoryOf j u f)) s (memoryOf j′ u′ f′) → PutBack ns us (e .line) s r ns′ us′
-      → Deciding ns us l e n j u f r ns′ us′ j′ u′ f′
-  put-decided n {d} {s} {ns′} {us′} {j′} {u′} {f′} q x p =
-      let y : Leaves (decideOf todaysShares l (ledgerOf ns us) e n (memoryOf j u f)) s (memoryOf j′ u′ f′) = rw (← q) x in
-      put-back y p
-
-  pub by-decide : {t : Alone} {n : ℕ} {u₁ f₁ ns′ us′ j′ u′ f′ : List ℕ} {r : Answered} → SteppingAlone l e (length j) (record { unfinished = u; frames = f }) t (record { unfinished = u₁; frames = f₁ }) → t .look ≡ Decides n → Deciding ns us l e n j u₁ f₁ r ns′ us′ j′ u′ f′
-      → Stepping ns us l e j u f r ns′ us′ j′ u′ f′
-  by-decide {t} {n} {u₁} {f₁} {ns′} {us′} {j′} {u′} {f′} {r} s k c =
-      let (h, x, y) = alone-asks l (ledgerOf ns us) e j u f t s k in
-      let z : Deciding ns us l e n j u f r ns′ us′ j′ u′ f′ = rw (← x, ← y) c in
-      as-called (ap (λ (w : AfterStep). putBack ns us (e .line) w) (step-decides l (ledgerOf ns us) e j u f n h)) z
+  pub put-decided : (n : ℕ) {d : Ledger} {p : Stepped} {ns us : List ℕ} {m : Memory} {r : Answered} → d ≡ ledger s → Leaves (decideOf todaysShares l d e n (s .memory)) p m → PutBack (s .numbers) (s .counts) (e .line) p r ns us
+      → Deciding s l e n r (record { numbers = ns; counts = us; memory = m })
+  put-decided n {d} {p} {ns} {us} {m} q x o =
+      let y : Leaves (decideOf todaysShares l (ledger s) e n (s .memory)) p m = rw (← q) x in
+      put-back y o
 
 -- on a line that is there, what is put is put
 there : {A : Type 0} (i : ℕ) (x y : A) → i < lines → unless (ltb i lines) x y ≡ y
@@ -142,129 +160,134 @@ module _ (ns : List ℕ) (i b : ℕ) (q : quick ns i b ≡ true) where
       let rest = and-right (eqb (firstAt ns i) inside) (not (is lf b) && not (eqb (numberAt ns i 1) (mostCollected (lineOf ns i)))) only in
       (not-true _ (and-left (not (is lf b)) (not (eqb (numberAt ns i 1) (mostCollected (lineOf ns i)))) rest), not-true _ (and-right (not (is lf b)) (not (eqb (numberAt ns i 1) (mostCollected (lineOf ns i)))) rest))
 
-module _ (ns us : List ℕ) (i b : ℕ) (j u f : List ℕ) (h : i < lines) (s : rightLengths (length j) (length u) (length f) ≡ true) where
+module _ (s : HostState) (i b : ℕ) (h : i < lines) (z : right s ≡ true) where
   abbrev here : Event
   here = record { line = i; kind = Byte b }
 
   -- what the verdict is known to be, the step leaves
-  stepped : (v : Verdict) → verdictOf todaysShares (lineOf ns i) (ledgerOf ns us) here j u f ≡ v
-      → putBack ns us i (stepOf todaysShares (lineOf ns i) (ledgerOf ns us) here (memoryOf j u f)) ≡ putBack ns us i (settle v (lineOf ns i) (ledgerOf ns us) here (memoryOf j u f))
+  stepped : (v : Verdict) → verdictOf todaysShares (lineOf (s .numbers) i) (ledger s) here (s .memory .journal) (s .memory .unfinished) (s .memory .frames) ≡ v
+      → putBack s i (stepOf todaysShares (lineOf (s .numbers) i) (ledger s) here (s .memory)) ≡ putBack s i (settle v (lineOf (s .numbers) i) (ledger s) here (s .memory))
   unfolding stepOf
-  stepped v e = ap (λ (x : Verdict). putBack ns us i (settle x (lineOf ns i) (ledgerOf ns us) here (memoryOf j u f))) e
+  stepped v e = ap (λ (x : Verdict). putBack s i (settle x (lineOf (s .numbers) i) (ledger s) here (s .memory))) e
 
-  collects : quick ns i b ≡ true → verdictOf todaysShares (lineOf ns i) (ledgerOf ns us) here j u f ≡ Collects
+  collects : quick (s .numbers) i b ≡ true → verdictOf todaysShares (lineOf (s .numbers) i) (ledger s) here (s .memory .journal) (s .memory .unfinished) (s .memory .frames) ≡ Collects
   unfolding verdictOf ownWork byteLook insideLook
-  collects q = rw (lt-ltb i lines h, s, line-within ns i (quick-within ns i b q), no-end ns i b q .0, no-end ns i b q .1, is-inside ns i b q)
+  collects q =
+      let ns = s .numbers in
+      rw (lt-ltb i lines h, z, line-within ns i (quick-within ns i b q), no-end ns i b q .0, no-end ns i b q .1, is-inside ns i b q)
 
-  by-quick : {r : Answered} {ns′ f′ : List ℕ} → quick ns i b ≡ true → r ≡ inNumbers Nothing → ns′ ≡ oneMore ns i → f′ ≡ set f (frameStart i + numberAt ns i 1) b → Calling ns us here j u f r ns′ us j u f′
-  by-quick q p n g = by-step ns us here j u f h s (quick-within ns i b q) (as-called (stepped Collects (collects q)) (record {
-    result = p;
-    numbers = n ∙ sym (count-back ns us i h (quick-within ns i b q) (numberAt ns i 1 + 1));
-    counts = sym (used-back ns us i h);
-    journal = refl;
-    unfinished = refl;
-    frames = g;
-  }))
+  by-quick : {r : Answered} {ns f : List ℕ} → quick (s .numbers) i b ≡ true → r ≡ inNumbers Nothing → ns ≡ oneMore (s .numbers) i → f ≡ set (s .memory .frames) (frameStart i + numberAt (s .numbers) i 1) b
+      → Calling s here r (reframed s ns f)
+  by-quick q p n g =
+      let within = quick-within (s .numbers) i b q in
+      let numbers = n ∙ sym (count-back (s .numbers) (s .counts) i h within (numberAt (s .numbers) i 1 + 1)) in
+      let counts = sym (used-back (s .numbers) (s .counts) i h) in
+      by-step s here h z within (as-called (stepped Collects (collects q)) (record {
+        result = p;
+        state = λ x. record { numbers = numbers x; counts = counts x; memory = record { journal = s .memory .journal; unfinished = s .memory .unfinished; frames = g x } };
+      }))
 
-  collected-quick : isCollected ns i b f ≡ true → quick ns i b ≡ true
+  collected-quick : isCollected (s .numbers) i b (s .memory .frames) ≡ true → quick (s .numbers) i b ≡ true
   unfolding isCollected
-  collected-quick is = and-right (eqb (length f) framesSize) (quick ns i b) (and-right (ltb i lines) (eqb (length f) framesSize && quick ns i b) is)
+  collected-quick is =
+      let long = eqb (length (s .memory .frames)) framesSize in
+      and-right long (quick (s .numbers) i b) (and-right (ltb i lines) (long && quick (s .numbers) i b) is)
 
   -- and one that was, or was not
-  module _ {t : Bool} {ns₁ f₁ : List ℕ} (x : Collected ns i b f t ns₁ f₁) where
-    pub by-collected : {r : Answered} → t ≡ true → r ≡ inNumbers Nothing → Calling ns us here j u f r ns₁ us j u f₁
+  module _ {t : Bool} {ns f : List ℕ} (x : Collected (s .numbers) i b (s .memory .frames) t ns f) where
+    pub by-collected : {r : Answered} → t ≡ true → r ≡ inNumbers Nothing → Calling s here r (reframed s ns f)
     by-collected p q =
-        let is : isCollected ns i b f ≡ true = sym (x .result) ∙ p in
+        let is : isCollected (s .numbers) i b (s .memory .frames) ≡ true = sym (x .result) ∙ p in
         by-quick (collected-quick is) q (x .numbers ∙ rw is) (x .frames ∙ rw is)
 
-    kept-numbers : t ≡ false → ns₁ ≡ ns
+    kept-numbers : t ≡ false → ns ≡ s .numbers
     kept-numbers p = x .numbers ∙ rw (sym (x .result) ∙ p)
 
-    kept-frames : t ≡ false → f₁ ≡ f
+    kept-frames : t ≡ false → f ≡ s .memory .frames
     kept-frames p = x .frames ∙ rw (sym (x .result) ∙ p)
 
-    pub kept-sizes : t ≡ false → rightLengths (length j) (length u) (length f₁) ≡ true
-    kept-sizes p = rw (kept-frames p) s
+    pub kept-sizes : t ≡ false → right (reframed s ns f) ≡ true
+    kept-sizes p = rw (kept-frames p) z
 
-    pub not-collected : {r : Answered} {ns′ us′ j′ u′ f′ : List ℕ} → t ≡ false → Calling ns₁ us here j u f₁ r ns′ us′ j′ u′ f′ → Calling ns us here j u f r ns′ us′ j′ u′ f′
+    pub not-collected : {r : Answered} {after : HostState} → t ≡ false → Calling (reframed s ns f) here r after → Calling s here r after
     not-collected p c = rw (← kept-numbers p, ← kept-frames p) c
 
 -- STX between frames: the line is inside one, and nothing else has changed
-module _ (ns us : List ℕ) (e : Event) (j u f : List ℕ) (h : e .line < lines) (s : rightLengths (length j) (length u) (length f) ≡ true) (w : withinNumbers ns (e .line) ≡ true) where
-  begin-verdict : (k : Kind) → e .kind ≡ k → begins ns (e .line) k ≡ true → verdictOf todaysShares (lineOf ns (e .line)) (ledgerOf ns us) e j u f ≡ Begins
+module _ (s : HostState) (e : Event) (h : e .line < lines) (z : right s ≡ true) (w : withinNumbers (s .numbers) (e .line) ≡ true) where
+  begin-verdict : (k : Kind) → e .kind ≡ k → begins (s .numbers) (e .line) k ≡ true
+      → verdictOf todaysShares (lineOf (s .numbers) (e .line)) (ledger s) e (s .memory .journal) (s .memory .unfinished) (s .memory .frames) ≡ Begins
   unfolding verdictOf ownWork byteLook waitingLook
   begin-verdict (Byte b) p q =
-      let stx-is = and-left (is stx b) (eqb (firstAt ns (e .line)) waiting) q in
-      let between = eqb-true (firstAt ns (e .line)) waiting (and-right (is stx b) (eqb (firstAt ns (e .line)) waiting) q) in
-      rw (lt-ltb (e .line) lines h, s, line-within ns (e .line) w, p, between, stx-is)
+      let first = firstAt (s .numbers) (e .line) in
+      let stx-is = and-left (is stx b) (eqb first waiting) q in
+      let between = eqb-true first waiting (and-right (is stx b) (eqb first waiting) q) in
+      rw (lt-ltb (e .line) lines h, z, line-within (s .numbers) (e .line) w, p, between, stx-is)
   begin-verdict (Seconds n) p q = clash cc
 
-  by-begin : {ns′ : List ℕ} → begins ns (e .line) (e .kind) ≡ true → ns′ ≡ insideAt ns (e .line) → Calling ns us e j u f (inNumbers Nothing) ns′ us j u f
+  by-begin : {ns : List ℕ} → begins (s .numbers) (e .line) (e .kind) ≡ true → ns ≡ insideAt (s .numbers) (e .line) → Calling s e (inNumbers Nothing) (renumbered s ns)
   unfolding stepOf
-  by-begin q n = by-step ns us e j u f h s w (as-called (ap (λ (x : Verdict). putBack ns us (e .line) (settle x (lineOf ns (e .line)) (ledgerOf ns us) e (memoryOf j u f))) (begin-verdict (e .kind) refl q)) (record {
-    result = refl;
-    numbers = n ∙ sym (begun-back ns us (e .line) h w);
-    counts = sym (used-back ns us (e .line) h);
-    journal = refl;
-    unfinished = refl;
-    frames = refl;
-  }))
+  by-begin q n =
+      let numbers = n ∙ sym (begun-back (s .numbers) (s .counts) (e .line) h w) in
+      let counts = sym (used-back (s .numbers) (s .counts) (e .line) h) in
+      by-step s e h z w (as-called (ap (λ (x : Verdict). putBack s (e .line) (settle x (lineOf (s .numbers) (e .line)) (ledger s) e (s .memory))) (begin-verdict (e .kind) refl q)) (record {
+        result = refl;
+        state = λ x. record { numbers = numbers x; counts = counts x; memory = s .memory };
+      }))
 
 -- an event that began a frame, or did not
-module _ (ns us : List ℕ) (e : Event) (j u f : List ℕ) (s : rightLengths (length j) (length u) (length f) ≡ true) (w : isWithin ns (e .line) ≡ true) {t : Bool} {ns₁ : List ℕ} (x : Begun ns (e .line) (e .kind) t ns₁) where
-  starts : isBegun ns (e .line) (e .kind) ≡ true → begins ns (e .line) (e .kind) ≡ true
+module _ (s : HostState) (e : Event) (z : right s ≡ true) (w : isWithin (s .numbers) (e .line) ≡ true) {t : Bool} {ns : List ℕ} (x : Begun (s .numbers) (e .line) (e .kind) t ns) where
+  starts : isBegun (s .numbers) (e .line) (e .kind) ≡ true → begins (s .numbers) (e .line) (e .kind) ≡ true
   unfolding isBegun
-  starts is = and-right (ltb (e .line) lines) (begins ns (e .line) (e .kind)) is
+  starts is = and-right (ltb (e .line) lines) (begins (s .numbers) (e .line) (e .kind)) is
 
-  pub by-begun : {r : Answered} → t ≡ true → r ≡ inNumbers Nothing → Calling ns us e j u f r ns₁ us j u f
+  pub by-begun : {r : Answered} → t ≡ true → r ≡ inNumbers Nothing → Calling s e r (renumbered s ns)
   by-begun p q =
-      let is : isBegun ns (e .line) (e .kind) ≡ true = sym (x .result) ∙ p in
-      let (h, within) = within-facts ns (e .line) w in
-      rw q (by-begin ns us e j u f h s within (starts is) (x .numbers ∙ rw is))
+      let is : isBegun (s .numbers) (e .line) (e .kind) ≡ true = sym (x .result) ∙ p in
+      let (h, within) = within-facts (s .numbers) (e .line) w in
+      rw q (by-begin s e h z within (starts is) (x .numbers ∙ rw is))
 
-  not-begun : t ≡ false → ns₁ ≡ ns
+  not-begun : t ≡ false → ns ≡ s .numbers
   not-begun p = x .numbers ∙ rw (sym (x .result) ∙ p)
 
-  pub still-within : t ≡ false → isWithin ns₁ (e .line) ≡ true
+  pub still-within : t ≡ false → isWithin ns (e .line) ≡ true
   still-within p = rw (not-begun p) w
 
-  pub by-other : {r : Answered} {ns′ us′ j′ u′ f′ : List ℕ} → t ≡ false → Stepping ns₁ us (lineOf ns₁ (e .line)) e j u f r ns′ us′ j′ u′ f′ → Calling ns us e j u f r ns′ us′ j′ u′ f′
-  by-other {r} {ns′} {us′} {j′} {u′} {f′} p c =
-      let y : Stepping ns us (lineOf ns (e .line)) e j u f r ns′ us′ j′ u′ f′ = rw (← not-begun p) c in
-      let (h, within) = within-facts ns (e .line) w in
-      by-step ns us e j u f h s within y
+  pub by-other : {r : Answered} {after : HostState} → t ≡ false → Stepping (renumbered s ns) (lineOf ns (e .line)) e r after → Calling s e r after
+  by-other {r} {after} p c =
+      let y : Stepping s (lineOf (s .numbers) (e .line)) e r after = rw (← not-begun p) c in
+      let (h, within) = within-facts (s .numbers) (e .line) w in
+      by-step s e h z within y
 
 -- the record that the numbers stand for
-pub by-record : (ns us : List ℕ) (e : Event) (j u f : List ℕ) {l : Line} {r : Answered} {ns′ us′ j′ u′ f′ : List ℕ} → isWithin ns (e .line) ≡ true → l ≡ recordOf ns (e .line) → Stepping ns us l e j u f r ns′ us′ j′ u′ f′
-    → Stepping ns us (lineOf ns (e .line)) e j u f r ns′ us′ j′ u′ f′
-by-record ns us e j u f {l} {r} {ns′} {us′} {j′} {u′} {f′} w q c =
-    let k : l ≡ lineOf ns (e .line) = q ∙ rw w in
-    subst (λ (x : Line). Stepping ns us x e j u f r ns′ us′ j′ u′ f′) k c
+pub by-record : (s : HostState) (e : Event) {l : Line} {r : Answered} {t : HostState} → isWithin (s .numbers) (e .line) ≡ true → l ≡ recordOf (s .numbers) (e .line) → Stepping s l e r t
+    → Stepping s (lineOf (s .numbers) (e .line)) e r t
+by-record s e {l} {r} {t} w q c =
+    let k : l ≡ lineOf (s .numbers) (e .line) = q ∙ rw w in
+    subst (λ (x : Line). Stepping s x e r t) k c
 
 -- a taking
-module _ (ns us : List ℕ) (i : ℕ) (j b : List ℕ) where
-  pub narrow-taken : (d : Ledger) {t : Taking} → t ≡ takeOf d i j b .taking → Narrow d → Narrow (t .ledger)
-  narrow-taken d q w = subst (λ (x : Taking). Narrow (x .ledger)) (sym q) (taking-narrow d i j b w)
+module _ (ns : List ℕ) (i : ℕ) (s : TakeState) where
+  pub narrow-taken : (d : Ledger) {t : Taking} → t ≡ takeOf d i (s .journal) (s .buffer) .taking → Narrow d → Narrow (t .ledger)
+  narrow-taken d q w = subst (λ (x : Taking). Narrow (x .ledger)) (sym q) (taking-narrow d i (s .journal) (s .buffer) w)
 
   -- 40, before the ledger is read
-  pub taken-nowhere : {r : Answered} → lines ≤ i → r ≡ inNumbers NoLine → Taken ns us i j b r us j b
+  pub taken-nowhere : {r : Answered} → lines ≤ i → r ≡ inNumbers NoLine → Taken ns i s r s
   unfolding takingInNumbers
   taken-nowhere h a =
-      let n = taken-line (ledgerOf ns us) i j b h in
+      let n = taken-line (ledgerOf ns (s .counts)) i (s .journal) (s .buffer) h in
+      let counts : s .counts ≡ usedAfter (s .counts) i (takeOf (ledgerOf ns (s .counts)) i (s .journal) (s .buffer)) = rw (le-ltb i lines h) in
       record {
         result = a ∙ ap (λ (z : Taking). takingInNumbers (z .answer)) (n .result);
-        counts = rw (le-ltb i lines h);
-        journal = n .after;
-        buffer = n .lent;
+        state = λ x. record { counts = counts x; journal = n .after x; buffer = n .lent x };
       }
 
-  pub taken-there : {d : Ledger} {t : Taking} {us′ j′ b′ : List ℕ} {r : Answered} → i < lines → d ≡ ledgerOf ns us → TakenFrom d i j b t j′ b′ → r ≡ takingInNumbers (t .answer) → us′ ≡ countsAfter us i (getD (t .ledger .used) i 0) (t .ledger .in_use)
-      → Taken ns us i j b r us′ j′ b′
-  taken-there {d} {t} {us′} {j′} {b′} {r} h p x q o =
-      let y : TakenFrom (ledgerOf ns us) i j b t j′ b′ = rw (← p) x in
+  pub taken-there : {d : Ledger} {t : Taking} {us j b : List ℕ} {r : Answered} → i < lines → d ≡ ledgerOf ns (s .counts) → TakenFrom d i (s .journal) (s .buffer) t j b → r ≡ takingInNumbers (t .answer)
+      → us ≡ countsAfter (s .counts) i (getD (t .ledger .used) i 0) (t .ledger .in_use) → Taken ns i s r (record { counts = us; journal = j; buffer = b })
+  taken-there {d} {t} {us} {j} {b} {r} h p x q o =
+      let y : TakenFrom (ledgerOf ns (s .counts)) i (s .journal) (s .buffer) t j b = rw (← p) x in
+      let counts : us ≡ usedAfter (s .counts) i (takeOf (ledgerOf ns (s .counts)) i (s .journal) (s .buffer)) =
+      rw (lt-ltb i lines h) (o ∙ there i (s .counts) (withUsed (s .counts) i (t .ledger)) h ∙ ap (λ (z : Taking). withUsed (s .counts) i (z .ledger)) (y .result)) in
       record {
         result = q ∙ ap (λ (z : Taking). takingInNumbers (z .answer)) (y .result);
-        counts = rw (lt-ltb i lines h) (o ∙ there i us (withUsed us i (t .ledger)) h ∙ ap (λ (z : Taking). withUsed us i (z .ledger)) (y .result));
-        journal = y .after;
-        buffer = y .lent;
+        state = λ x. record { counts = counts x; journal = y .after x; buffer = y .lent x };
       }

@@ -1,4 +1,4 @@
--- What a host's calls leave: an event and a taking over plain numbers.
+-- What a host keeps, and what its calls leave of it: an event and a taking over plain numbers.
 -- Assumes nothing.
 use Prim.Native.Nat.{ℕ}
 use mathlib.Core.Path.{_≡_}
@@ -13,51 +13,53 @@ use Rattle.answers.specs.Paper.{numberOf}
 use Rattle.answers.specs.declared.Answer.{Answer}
 use Rattle.answers.specs.declared.Answer.the-variants.{NoLine, WrongSize, BeyondLimits}
 use Rattle.looking.specs.Lent.{rightSizes}
-use Rattle.receiving.specs.Steps.{Memory, memoryOf, AfterStep, stepOf}
+use Rattle.receiving.specs.Steps.{Memory, AfterStep, stepOf}
 use Rattle.looking.specs.declared.Event.{Event}
 use Rattle.taking.specs.Taking.{tookAnswer}
 use Rattle.numbers.specs.Plain.{withinNumbers, lineOf, withLine, ledgerOf, withSerial, withUsed, inNumbers}
 use Rattle.numbers.specs.declared.Answered.{Answered}
 
--- the answer, the numbers and the lent memory after an event
-pub record AfterCall : Type 0 where
-  pub answered : Answered
+-- all that a host keeps between its calls, and lends to each event
+pub record HostState : Type 0 where
   pub numbers : List ℕ
   pub counts : List ℕ
   pub memory : Memory
 
+-- the answer to an event, and what the host keeps then
+pub record AfterCall : Type 0 where
+  pub answered : Answered
+  pub state : HostState
+
 -- nothing changed
-abbrev pub refused : Answer → List ℕ → List ℕ → Memory → AfterCall
-refused a ns us m = record { answered = inNumbers a; numbers = ns; counts = us; memory = m }
+abbrev pub refused : Answer → HostState → AfterCall
+refused a s = record { answered = inNumbers a; state = s }
 
 -- the step's outcome put back into the numbers
-abbrev pub putBack : List ℕ → List ℕ → ℕ → AfterStep → AfterCall
-putBack ns us i s = record {
-  answered = inNumbers (s .stepped .answer);
-  numbers = withSerial (withLine ns i (s .stepped .line)) i (s .stepped .ledger);
-  counts = withUsed us i (s .stepped .ledger);
-  memory = s .memory;
+abbrev pub putBack : HostState → ℕ → AfterStep → AfterCall
+putBack s i x = record {
+  answered = inNumbers (x .stepped .answer);
+  state = record {
+    numbers = withSerial (withLine (s .numbers) i (x .stepped .line)) i (x .stepped .ledger);
+    counts = withUsed (s .counts) i (x .stepped .ledger);
+    memory = x .memory;
+  };
 }
 
 -- an event: 40, 41, 42, or the gateway's step of its line
-unfoldable pub callOf : List ℕ → List ℕ → Event → Memory → AfterCall
-callOf ns us e m =
-    unless (ltb (e .line) lines) (refused NoLine ns us m)
-    (unless (rightSizes (m .journal) (m .unfinished) (m .frames)) (refused WrongSize ns us m)
-    (unless (withinNumbers ns (e .line)) (refused BeyondLimits ns us m)
-    (putBack ns us (e .line) (stepOf todaysShares (lineOf ns (e .line)) (ledgerOf ns us) e m))))
+unfoldable pub callOf : HostState → Event → AfterCall
+callOf s e =
+    unless (ltb (e .line) lines) (refused NoLine s)
+    (unless (rightSizes (s .memory .journal) (s .memory .unfinished) (s .memory .frames)) (refused WrongSize s)
+    (unless (withinNumbers (s .numbers) (e .line)) (refused BeyondLimits s)
+    (putBack s (e .line) (stepOf todaysShares (lineOf (s .numbers) (e .line)) (ledgerOf (s .numbers) (s .counts)) e (s .memory)))))
 
--- what an event says
-pub record Called (s : AfterCall) (r : Answered) (ns us j u f : List ℕ) : Type 0 where
-  pub result : r ≡ s .answered
-  pub numbers : ns ≡ s .numbers
-  pub counts : us ≡ s .counts
-  pub journal : j ≡ s .memory .journal
-  pub unfinished : u ≡ s .memory .unfinished
-  pub frames : f ≡ s .memory .frames
+-- what an event says: its answer, and every number and byte that the host keeps then
+pub record Called (c : AfterCall) (r : Answered) (t : HostState) : Type 0 where
+  pub result : r ≡ c .answered
+  pub state : t ≡ c .state
 
-abbrev pub Calling : List ℕ → List ℕ → Event → List ℕ → List ℕ → List ℕ → Answered → List ℕ → List ℕ → List ℕ → List ℕ → List ℕ → Type 0
-Calling ns us e j u f r ns′ us′ j′ u′ f′ = Called (callOf ns us e (memoryOf j u f)) r ns′ us′ j′ u′ f′
+abbrev pub Calling : HostState → Event → Answered → HostState → Type 0
+Calling s e r t = Called (callOf s e) r t
 
 -- the answer to a taking: for 8 the text's length and the serial
 unfoldable pub takingInNumbers : Took → Answered
@@ -68,12 +70,29 @@ takingInNumbers Took.Broken = inNumbers (tookAnswer Took.Broken)
 takingInNumbers Took.NoLine = inNumbers (tookAnswer Took.NoLine)
 takingInNumbers Took.WrongSize = inNumbers (tookAnswer Took.WrongSize)
 
+-- what a taking may write; the lines' numbers it only reads
+pub record TakeState : Type 0 where
+  pub counts : List ℕ
+  pub journal : List ℕ
+  pub buffer : List ℕ
+
+pub record AfterTake : Type 0 where
+  pub answered : Answered
+  pub state : TakeState
+
 -- a taking: the journal's, of the ledger that the numbers stand for; on no line (40) nothing is written
 abbrev pub usedAfter : List ℕ → ℕ → AfterTaking → List ℕ
 usedAfter us i t = unless (ltb i lines) us (withUsed us i (t .taking .ledger))
 
-pub record Taken (ns us : List ℕ) (i : ℕ) (j b : List ℕ) (r : Answered) (us′ j′ b′ : List ℕ) : Type 0 where
-  pub result : r ≡ takingInNumbers (takeOf (ledgerOf ns us) i j b .taking .answer)
-  pub counts : us′ ≡ usedAfter us i (takeOf (ledgerOf ns us) i j b)
-  pub journal : j′ ≡ takeOf (ledgerOf ns us) i j b .journal
-  pub buffer : b′ ≡ takeOf (ledgerOf ns us) i j b .buffer
+abbrev pub takingOf : List ℕ → ℕ → TakeState → AfterTake
+takingOf numbers i s =
+    let t = takeOf (ledgerOf numbers (s .counts)) i (s .journal) (s .buffer) in
+    record {
+      answered = takingInNumbers (t .taking .answer);
+      state = record { counts = usedAfter (s .counts) i t; journal = t .journal; buffer = t .buffer };
+    }
+
+-- what a taking says
+pub record Taken (numbers : List ℕ) (i : ℕ) (s : TakeState) (r : Answered) (t : TakeState) : Type 0 where
+  pub result : r ≡ takingOf numbers i s .answered
+  pub state : t ≡ takingOf numbers i s .state

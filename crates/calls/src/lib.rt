@@ -36,8 +36,10 @@ pub fn byte(
     unfinished: &mut [u8],
     frames: &mut [u8],
 ) -> Answered
-    ensures { λ r. ⌜ Calling (now (numbers .entry)) (now (counts .entry)) (record { line = line; kind = Byte byte }) (now (journal .entry)) (now (unfinished .entry)) (now (frames .entry))
-        r (now (numbers .exit)) (now (counts .exit)) (now (journal .exit)) (now (unfinished .exit)) (now (frames .exit)) ⌝ }
+    ensures { λ r. ⌜ Calling
+        (record { numbers = now (numbers .entry); counts = now (counts .entry); memory = record { journal = now (journal .entry); unfinished = now (unfinished .entry); frames = now (frames .entry) } })
+        (record { line = line; kind = Byte byte }) r
+        (record { numbers = now (numbers .exit); counts = now (counts .exit); memory = record { journal = now (journal .exit); unfinished = now (unfinished .exit); frames = now (frames .exit) } }) ⌝ }
 {
     let i = line as usize;
     if memory::LINES <= i {
@@ -66,8 +68,10 @@ pub fn seconds(
     unfinished: &mut [u8],
     frames: &mut [u8],
 ) -> Answered
-    ensures { λ r. ⌜ Calling (now (numbers .entry)) (now (counts .entry)) (record { line = line; kind = Seconds seconds }) (now (journal .entry)) (now (unfinished .entry)) (now (frames .entry))
-        r (now (numbers .exit)) (now (counts .exit)) (now (journal .exit)) (now (unfinished .exit)) (now (frames .exit)) ⌝ }
+    ensures { λ r. ⌜ Calling
+        (record { numbers = now (numbers .entry); counts = now (counts .entry); memory = record { journal = now (journal .entry); unfinished = now (unfinished .entry); frames = now (frames .entry) } })
+        (record { line = line; kind = Seconds seconds }) r
+        (record { numbers = now (numbers .exit); counts = now (counts .exit); memory = record { journal = now (journal .exit); unfinished = now (unfinished .exit); frames = now (frames .exit) } }) ⌝ }
 {
     let i = line as usize;
     if memory::LINES <= i {
@@ -93,8 +97,10 @@ fn event(
     frames: &mut [u8],
 ) -> Answered
     requires { ⌜ (e .line < lines) × (rightLengths (length (now journal)) (length (now unfinished)) (length (now frames)) ≡ true) ⌝ }
-    ensures { λ r. ⌜ Calling (now (numbers .entry)) (now (counts .entry)) e (now (journal .entry)) (now (unfinished .entry)) (now (frames .entry))
-        r (now (numbers .exit)) (now (counts .exit)) (now (journal .exit)) (now (unfinished .exit)) (now (frames .exit)) ⌝ }
+    ensures { λ r. ⌜ Calling
+        (record { numbers = now (numbers .entry); counts = now (counts .entry); memory = record { journal = now (journal .entry); unfinished = now (unfinished .entry); frames = now (frames .entry) } })
+        e r
+        (record { numbers = now (numbers .exit); counts = now (counts .exit); memory = record { journal = now (journal .exit); unfinished = now (unfinished .exit); frames = now (frames .exit) } }) ⌝ }
 {
     let i = e.line as usize;
     if !numbers::is_within(numbers, i) {
@@ -117,8 +123,10 @@ fn step(
     frames: &mut [u8],
 ) -> Answered
     requires { ⌜ (e .line < lines) × (isWithin (now numbers) (e .line) ≡ true) ⌝ }
-    ensures { λ r. ⌜ Stepping (now (numbers .entry)) (now (counts .entry)) (lineOf (now (numbers .entry)) (e .line)) e (now (journal .entry)) (now (unfinished .entry)) (now (frames .entry))
-        r (now (numbers .exit)) (now (counts .exit)) (now (journal .exit)) (now (unfinished .exit)) (now (frames .exit)) ⌝ }
+    ensures { λ r. ⌜ Stepping
+        (record { numbers = now (numbers .entry); counts = now (counts .entry); memory = record { journal = now (journal .entry); unfinished = now (unfinished .entry); frames = now (frames .entry) } })
+        (lineOf (now (numbers .entry)) (e .line)) e r
+        (record { numbers = now (numbers .exit); counts = now (counts .exit); memory = record { journal = now (journal .exit); unfinished = now (unfinished .exit); frames = now (frames .exit) } }) ⌝ }
 {
     let i = e.line as usize;
     let record = numbers::record_of(numbers, i);
@@ -151,8 +159,10 @@ fn decide(
     frames: &mut [u8],
 ) -> Answered
     requires { ⌜ e .line < lines ⌝ }
-    ensures { λ r. ⌜ Deciding (now (numbers .entry)) (now (counts .entry)) line e n (now (journal .entry)) (now (unfinished .entry)) (now (frames .entry))
-        r (now (numbers .exit)) (now (counts .exit)) (now (journal .exit)) (now (unfinished .exit)) (now (frames .exit)) ⌝ }
+    ensures { λ r. ⌜ Deciding
+        (record { numbers = now (numbers .entry); counts = now (counts .entry); memory = record { journal = now (journal .entry); unfinished = now (unfinished .entry); frames = now (frames .entry) } })
+        line e n r
+        (record { numbers = now (numbers .exit); counts = now (counts .exit); memory = record { journal = now (journal .exit); unfinished = now (unfinished .exit); frames = now (frames .exit) } }) ⌝ }
 {
     let ledger = numbers::ledger_of(numbers, counts);
     let s = receiving::decide(line, ledger, e, n, journal, unfinished, frames);
@@ -186,7 +196,9 @@ pub fn take(
     journal: &mut [u8],
     buffer: &mut [u8],
 ) -> Answered
-    ensures { λ r. ⌜ Taken (now (numbers .entry)) (now (counts .entry)) line (now (journal .entry)) (now (buffer .entry)) r (now (counts .exit)) (now (journal .exit)) (now (buffer .exit)) ⌝ }
+    ensures { λ r. ⌜ Taken (now (numbers .entry)) line
+        (record { counts = now (counts .entry); journal = now (journal .entry); buffer = now (buffer .entry) })
+        r (record { counts = now (counts .exit); journal = now (journal .exit); buffer = now (buffer .exit) }) ⌝ }
 {
     let i = line as usize;
     if memory::LINES <= i {

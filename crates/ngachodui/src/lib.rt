@@ -21,8 +21,10 @@ pub extern "C" fn ngachodui_byte(
     unfinished: &mut [u8],
     frames: &mut [u8],
 ) -> Answered
-    ensures { λ r. ⌜ Calling (now (numbers .entry)) (now (counts .entry)) (record { line = line; kind = Byte byte }) (now (journal .entry)) (now (unfinished .entry)) (now (frames .entry))
-        r (now (numbers .exit)) (now (counts .exit)) (now (journal .exit)) (now (unfinished .exit)) (now (frames .exit)) ⌝ }
+    ensures { λ r. ⌜ Calling
+        (record { numbers = now (numbers .entry); counts = now (counts .entry); memory = record { journal = now (journal .entry); unfinished = now (unfinished .entry); frames = now (frames .entry) } })
+        (record { line = line; kind = Byte byte }) r
+        (record { numbers = now (numbers .exit); counts = now (counts .exit); memory = record { journal = now (journal .exit); unfinished = now (unfinished .exit); frames = now (frames .exit) } }) ⌝ }
 {
     calls::byte(line, byte, numbers, counts, journal, unfinished, frames)
 }
@@ -38,8 +40,10 @@ pub extern "C" fn ngachodui_seconds(
     unfinished: &mut [u8],
     frames: &mut [u8],
 ) -> Answered
-    ensures { λ r. ⌜ Calling (now (numbers .entry)) (now (counts .entry)) (record { line = line; kind = Seconds seconds }) (now (journal .entry)) (now (unfinished .entry)) (now (frames .entry))
-        r (now (numbers .exit)) (now (counts .exit)) (now (journal .exit)) (now (unfinished .exit)) (now (frames .exit)) ⌝ }
+    ensures { λ r. ⌜ Calling
+        (record { numbers = now (numbers .entry); counts = now (counts .entry); memory = record { journal = now (journal .entry); unfinished = now (unfinished .entry); frames = now (frames .entry) } })
+        (record { line = line; kind = Seconds seconds }) r
+        (record { numbers = now (numbers .exit); counts = now (counts .exit); memory = record { journal = now (journal .exit); unfinished = now (unfinished .exit); frames = now (frames .exit) } }) ⌝ }
 {
     calls::seconds(line, seconds, numbers, counts, journal, unfinished, frames)
 }
@@ -53,7 +57,9 @@ pub extern "C" fn ngachodui_take(
     journal: &mut [u8],
     buffer: &mut [u8],
 ) -> Answered
-    ensures { λ r. ⌜ Taken (now (numbers .entry)) (now (counts .entry)) line (now (journal .entry)) (now (buffer .entry)) r (now (counts .exit)) (now (journal .exit)) (now (buffer .exit)) ⌝ }
+    ensures { λ r. ⌜ Taken (now (numbers .entry)) line
+        (record { counts = now (counts .entry); journal = now (journal .entry); buffer = now (buffer .entry) })
+        r (record { counts = now (counts .exit); journal = now (journal .exit); buffer = now (buffer .exit) }) ⌝ }
 {
     calls::take(line, numbers, counts, journal, buffer)
 }

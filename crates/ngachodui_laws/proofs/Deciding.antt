@@ -11,7 +11,8 @@ use Rattle.promises.specs.Machine.{came, step}
 use Rattle.promises.specs.Runs.{answered, offered}
 use Rattle.promises.specs.Exactly.{Exactly}
 use Rattle.promises.proofs.Exactly.{decided-intact}
-use Rattle.ngachodui_laws.specs.HostRuns.{HostState, gatewayState, HostResponse, numberTo}
+use Rattle.calls.specs.Calls.{HostState}
+use Rattle.ngachodui_laws.specs.HostRuns.{gatewayState, HostResponse, numberTo}
 use Rattle.ngachodui_laws.specs.Sound.{Intact}
 use Rattle.ngachodui_laws.specs.Deciding.{DecidedExactly}
 use Rattle.ngachodui_laws.proofs.HostRuns.{one-call}

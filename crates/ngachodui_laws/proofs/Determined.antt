@@ -20,8 +20,9 @@ use Rattle.promises.specs.Machine.{State}
 use Rattle.layout.specs.Layout.{fields, start}
 use Rattle.numbers.specs.Plain.{firstAt, numberAt, stateNumber, lastNumber, flag, lineOf, ledgerOf}
 use Rattle.numbers.proofs.Numbers.{numbers-facts, state-back, last-back, flag-back, used-at, serial-at}
+use Rattle.calls.specs.Calls.{HostState}
 use Rattle.ngachodui_laws.specs.Hosting.{gatewayOf, Ordered}
-use Rattle.ngachodui_laws.specs.HostRuns.{HostState, gatewayState, InOrder}
+use Rattle.ngachodui_laws.specs.HostRuns.{gatewayState, InOrder}
 use Rattle.ngachodui_laws.proofs.PutBack.{line-at, in-use-back}
 
 -- the counts are told by the ledger

@@ -28,7 +28,8 @@ use Rattle.promises.specs.Machine.{State, Response, GatewayItem, onLine, step, 
 use Rattle.promises.specs.Runs.{fresh, answered, isFault}
 use Rattle.promises.proofs.Runs.{always-sound, never-faulty}
 use Rattle.numbers.specs.Plain.{inNumbers}
-use Rattle.ngachodui_laws.specs.HostRuns.{HostState, gatewayState, InOrder, freshHost, HostResponse, hostStep, Run, historyOf, endOf}
+use Rattle.calls.specs.Calls.{HostState}
+use Rattle.ngachodui_laws.specs.HostRuns.{gatewayState, InOrder, freshHost, HostResponse, lentOf, hostStep, Run, historyOf, endOf}
 use Rattle.ngachodui_laws.specs.Inner.Hosting.{answerInNumbers, inNumbersOf, seenOf}
 use Rattle.ngachodui_laws.proofs.Hosts.{hosts-the-gateway, taking-hosts, fresh-hosts}
 
@@ -91,7 +92,7 @@ pub record OneCall (s : HostState) (e : GatewayItem) : Type 0 where
 pub one-call : (s : HostState) → InOrder s → (e : GatewayItem) → OneCall s e
 one-call s o (event i k) =
     let g = gatewayState s .gateway in
-    let h = hosts-the-gateway (s .numbers) (s .counts) o (onLine i k) (s .memory) in
+    let h = hosts-the-gateway s o (onLine i k) in
     let a = h .answer ∙ event-answer (eventOf todaysShares g (onLine i k) (s .memory) .handled .answer) (event-gives g (onLine i k) (s .memory)) in
     record {
       state = λ z. record { gateway = h .gateway z; memory = h .memory z };
@@ -99,7 +100,7 @@ one-call s o (event i k) =
       in-order = h .ordered;
     }
 one-call s o (taking i b) =
-    let h = taking-hosts (s .numbers) (s .counts) o i (s .memory .journal) b (record { result = refl; counts = refl; journal = refl; buffer = refl }) in
+    let h = taking-hosts (s .numbers) (lentOf s b) o i (record { result = refl; state = refl }) in
     record {
       state = λ z. record { gateway = h .gateway z; memory = record { journal = h .journal z; unfinished = s .memory .unfinished; frames = s .memory .frames } };
       response = λ z. record { answered = h .answer z; buffer = h .buffer z };

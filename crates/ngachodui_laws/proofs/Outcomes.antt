@@ -33,46 +33,40 @@ use Rattle.looking.specs.declared.Look.the-variants.{Done}
 use Rattle.looking.specs.declared.Verdict.{Verdict}
 use Rattle.looking.specs.declared.Verdict.the-variants.{Left}
 use Rattle.receiving.specs.Verdicts.{decided, ownWork, workOf, verdictOf}
-use Rattle.receiving.specs.Steps.{Memory, AfterStep, stepOf}
+use Rattle.receiving.specs.Steps.{Memory, AfterStep}
 use Rattle.gateway_laws.proofs.Laws.{parts-of-others}
 use Rattle.serial.specs.Serial.{event, taking}
 use Rattle.promises.specs.Machine.{GatewayItem, came, onLine}
 use Rattle.layout.specs.Layout.{Fresh}
 use Rattle.numbers.specs.Plain.{lineOf, ledgerOf, withinNumbers, withUsed}
-use Rattle.calls.specs.Calls.{AfterCall, putBack}
+use Rattle.calls.specs.Calls.{HostState, putBack, TakeState, takingOf}
 use Rattle.calls.proofs.OneOutcome.{call-once, take-once}
 use Rattle.ngachodui_laws.specs.Hosting.{isRefusal}
-use Rattle.ngachodui_laws.specs.HostRuns.{HostState, freshHost, HostResponse, afterCall, hostStep, numberTo, after}
+use Rattle.ngachodui_laws.specs.HostRuns.{freshHost, HostResponse, lentOf, hostStep, numberTo, after}
 use Rattle.ngachodui_laws.specs.Outcomes.{Allows, ignores, lineIn, LineKept}
 use Rattle.ngachodui_laws.proofs.Stores.{number-other}
+use Rattle.ngachodui_laws.proofs.Hosts.{stepFor}
 use Rattle.ngachodui_laws.proofs.Refusals.{by-tests, refusal-leaves, ignored-leaves, taking-leaves}
 
 -- ---- what the contracts allow
 
 pub one-outcome : (s : HostState) (e : GatewayItem) (r q : HostResponse) (t u : HostState) → Allows s e r t → Allows s e q u → (r ≡ q) × (t ≡ u)
 one-outcome s (event i k) r q t u a b =
-    let c = call-once (s .numbers) (s .counts) (onLine i k) (s .memory .journal) (s .memory .unfinished) (s .memory .frames) (a .0) (b .0) in
-    let none = a .1 ∙ sym (b .1) in (
-      λ z. record { answered = (c .0) z; buffer = none z },
-      λ z. record { numbers = (c .1) z; counts = (c .2) z; memory = record { journal = (c .3) z; unfinished = (c .4) z; frames = (c .5) z } },
-    )
+    let c = call-once s (onLine i k) (a .0) (b .0) in
+    let none = a .1 ∙ sym (b .1) in
+    (λ z. record { answered = (c .0) z; buffer = none z }, c .1)
 one-outcome s (taking i n) r q t u a b =
-    let c = take-once (s .numbers) (s .counts) i (s .memory .journal) n (a .taken) (b .taken) in
+    let c = take-once (s .numbers) i (lentOf s n) (a .taken) (b .taken) in
     let numbers = a .numbers ∙ sym (b .numbers) in
     let unfinished = a .unfinished ∙ sym (b .unfinished) in
     let frames = a .frames ∙ sym (b .frames) in (
-      λ z. record { answered = (c .0) z; buffer = (c .3) z },
-      λ z. record { numbers = numbers z; counts = (c .1) z; memory = record { journal = (c .2) z; unfinished = unfinished z; frames = frames z } },
+      λ z. record { answered = (c .0) z; buffer = (c .1) z .buffer },
+      λ z. record { numbers = numbers z; counts = (c .1) z .counts; memory = record { journal = (c .1) z .journal; unfinished = unfinished z; frames = frames z } },
     )
 
 pub the-outcome : (s : HostState) (e : GatewayItem) → Allows s e ((hostStep s e) .0) ((hostStep s e) .1)
-the-outcome s (event i k) = (record { result = refl; numbers = refl; counts = refl; journal = refl; unfinished = refl; frames = refl }, refl)
-the-outcome s (taking i b) = record {
-  taken = record { result = refl; counts = refl; journal = refl; buffer = refl };
-  numbers = refl;
-  unfinished = refl;
-  frames = refl;
-}
+the-outcome s (event i k) = (record { result = refl; state = refl }, refl)
+the-outcome s (taking i b) = record { taken = record { result = refl; state = refl }; numbers = refl; unfinished = refl; frames = refl }
 
 pub fresh-outcome : (m : Memory) (ns us : List ℕ) → Fresh ns us → _≡_ {A = HostState} (record { numbers = ns; counts = us; memory = m }) (freshHost m)
 fresh-outcome m ns us f = λ z. record { numbers = f .numbers z; counts = f .counts z; memory = m }
@@ -80,18 +74,17 @@ fresh-outcome m ns us f = λ z. record { numbers = f .numbers z; counts = f .cou
 -- ---- refusals and ignored events
 
 -- a taking by its contract
-taken-leaves : (s : HostState) (i : ℕ) (b : List ℕ) → isRefusal (numberTo s (taking i b)) ≡ true
-    → (after s (taking i b) .counts ≡ s .counts) × (after s (taking i b) .memory .journal ≡ s .memory .journal) × ((hostStep s (taking i b)) .0 .buffer ≡ b)
-taken-leaves s i b h = taking-leaves (s .numbers) (s .counts) i (s .memory .journal) b (record { result = refl; counts = refl; journal = refl; buffer = refl }) h
+taken-leaves : (s : HostState) (i : ℕ) (b : List ℕ) → isRefusal (numberTo s (taking i b)) ≡ true → takingOf (s .numbers) i (lentOf s b) .state ≡ lentOf s b
+taken-leaves s i b h = taking-leaves (s .numbers) i (lentOf s b) (record { result = refl; state = refl }) h
 
 pub refused-leaves : (s : HostState) (e : GatewayItem) → isRefusal (numberTo s e) ≡ true → after s e ≡ s
-refused-leaves s (event i k) h = ap (λ (c : AfterCall). (afterCall c) .1) (refusal-leaves (s .numbers) (s .counts) (onLine i k) (s .memory) h)
+refused-leaves s (event i k) h = refusal-leaves s (onLine i k) h
 refused-leaves s (taking i b) h =
     let x = taken-leaves s i b h in
-    λ z. record { numbers = s .numbers; counts = (x .0) z; memory = record { journal = (x .1) z; unfinished = s .memory .unfinished; frames = s .memory .frames } }
+    λ z. record { numbers = s .numbers; counts = x z .counts; memory = record { journal = x z .journal; unfinished = s .memory .unfinished; frames = s .memory .frames } }
 
 pub buffer-left : (s : HostState) (i : ℕ) (b : List ℕ) → isRefusal (numberTo s (taking i b)) ≡ true → (hostStep s (taking i b)) .0 .buffer ≡ b
-buffer-left s i b h = taken-leaves s i b h .2
+buffer-left s i b h = ap (λ (x : TakeState). x .buffer) (taken-leaves s i b h)
 
 -- an ignored event comes to nothing, whatever lies in its line's memory
 not-taken : (t : Bool) (x y : Look) → not t ≡ true → cond t x y ≡ y
@@ -141,7 +134,7 @@ verdict-ignored l d e m h =
 pub ignored-is-left : (s : HostState) (i : ℕ) (k : Kind) → ignores (lineOf (s .numbers) i .state) k ≡ true → after s (came i k) ≡ s
 ignored-is-left s i k h =
     let v = verdict-ignored (lineOf (s .numbers) i) (ledgerOf (s .numbers) (s .counts)) (onLine i k) (s .memory) h in
-    ap (λ (c : AfterCall). (afterCall c) .1) (ignored-leaves (s .numbers) (s .counts) (onLine i k) (s .memory) (v .0) (v .1))
+    ignored-leaves s (onLine i k) (v .0) (v .1)
 
 -- ---- the other lines
 
@@ -150,15 +143,15 @@ used-other us i l d h n = getD-set-other (set us i (getD (d .used) i 0)) lines l
 
 pub others-kept : (s : HostState) (e : GatewayItem) (l : ℕ) → l < lines → l ≢ lineIn e → LineKept l s (after s e)
 others-kept s (event i k) l h n =
-    by-tests (s .numbers) (s .counts) (onLine i k) (s .memory) (λ c. LineKept l s ((afterCall c) .1)) all all all stepped
+    by-tests s (onLine i k) (λ c. LineKept l s (c .state)) all all all stepped
   where
     all : LineKept l s s
     all = record { numbers = λ m q. refl; used = refl; text = refl; frame = refl }
 
     step : AfterStep
-    step = stepOf todaysShares (lineOf (s .numbers) i) (ledgerOf (s .numbers) (s .counts)) (onLine i k) (s .memory)
+    step = stepFor s (onLine i k)
 
-    stepped : i < lines → withinNumbers (s .numbers) i ≡ true → LineKept l s ((afterCall (putBack (s .numbers) (s .counts) i step)) .1)
+    stepped : i < lines → withinNumbers (s .numbers) i ≡ true → LineKept l s (putBack s i step .state)
     stepped p w =
         let parts = parts-of-others todaysShares (lineOf (s .numbers) i) (ledgerOf (s .numbers) (s .counts)) (onLine i k) (s .memory) l (λ q. n (sym q)) in
         record {

@@ -23,7 +23,8 @@ use Rattle.promises.specs.Queue.{completed, gaveBy, gave}
 use Rattle.promises.specs.Queue as there
 use Rattle.promises.proofs.Queue as gateway
 use Rattle.promises.proofs.OnlyMessages as messages
-use Rattle.ngachodui_laws.specs.HostRuns.{HostState, gatewayState, InOrder, freshHost, HostResponse, hostStep, after, Run, historyOf}
+use Rattle.calls.specs.Calls.{HostState}
+use Rattle.ngachodui_laws.specs.HostRuns.{gatewayState, InOrder, freshHost, HostResponse, hostStep, after, Run, historyOf}
 use Rattle.ngachodui_laws.specs.Queue.{given, allTaken, storedBy, allStored, NothingLost, OnlyMessages}
 use Rattle.ngachodui_laws.specs.Inner.Hosting.{inNumbersOf, seenOf}
 use Rattle.ngachodui_laws.proofs.HostRuns.{one-call, runs-alike, fresh-in-order, fresh-is, history-is, at-end}

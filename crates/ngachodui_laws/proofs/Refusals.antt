@@ -11,26 +11,25 @@ use Rattle.memory.specs.Sizes.{lines}
 use Rattle.memory.specs.Tests.{unless}
 use Rattle.memory.proofs.Tests.{clash}
 use Rattle.room.specs.Room.{todaysShares}
-use Rattle.journal.specs.Removal.{takeOf as takeEntry}
+use Rattle.journal.specs.Removal.{AfterTaking, takeOf as takeEntry}
 use Rattle.answers.specs.Paper.{numberOf}
 use Rattle.answers.specs.declared.Answer.{Answer}
 use Rattle.answers.specs.declared.Answer.the-variants.{Nothing, NoLine, WrongSize, BeyondLimits}
 use Rattle.answers.proofs.Paper.{every-answer}
 use Rattle.looking.specs.Lent.{rightSizes}
 use Rattle.receiving.specs.Verdicts.{verdictOf}
-use Rattle.receiving.specs.Steps.{Memory, AfterStep, stepOf}
 use Rattle.gateway.specs.Events.{AfterTake, takeOf}
 use Rattle.looking.specs.declared.Event.{Event}
 use Rattle.looking.specs.declared.Verdict.the-variants.{Left}
 use Rattle.gateway_laws.specs.Classes.{Class, classOf, quiet, opening, closing, refusing, accepting, storing, against, taking as gives}
-use Rattle.gateway_laws.proofs.Laws.{left-unchanged, refused-unchanged}
+use Rattle.gateway_laws.proofs.Laws.{unchanged, left-unchanged, refused-unchanged}
 use Rattle.gateway_laws.proofs.Takings.{taking-refused}
 use Rattle.numbers.specs.Plain.{lineOf, ledgerOf, withinNumbers, withUsed, inNumbers}
-use Rattle.calls.specs.Calls.{AfterCall, refused, putBack, callOf, Taken as TakenBy}
+use Rattle.calls.specs.Calls.{HostState, AfterCall, refused, putBack, callOf, TakeState, Taken as TakenBy}
 use Rattle.ngachodui_laws.specs.Hosting.{gatewayOf, isRefusal}
 use Rattle.numbers.specs.declared.Answered.{Answered}
 use Rattle.numbers.proofs.Numbers.{numbers-back, used-back}
-use Rattle.ngachodui_laws.proofs.Hosts.{put-unchanged, taking-answer}
+use Rattle.ngachodui_laws.proofs.Hosts.{stepFor, put-unchanged, taking-answer}
 
 -- 20 and 40 to 47 are the answers that leave everything, but for an event that is ignored or only collected
 abbrev isQuiet : Class → Bool
@@ -60,65 +59,67 @@ refusal-class a h = the-quiet (isRefusal (numberOf a)) (classOf a) (every-answer
 not-nothing : (a : Answer) → isRefusal (numberOf a) ≡ true → a ≢ Nothing
 not-nothing a h q = let z : false ≡ true = ap (λ (x : Answer). isRefusal (numberOf x)) (sym q) ∙ h in clash cc
 
--- a call that changes neither number nor byte
-abbrev pub same : List ℕ → List ℕ → Memory → AfterCall → AfterCall
-same ns us m c = record { answered = c .answered; numbers = ns; counts = us; memory = m }
-
-module _ (ns us : List ℕ) (e : Event) (m : Memory) where
-  abbrev step : AfterStep
-  step = stepOf todaysShares (lineOf ns (e .line)) (ledgerOf ns us) e m
-
+module _ (s : HostState) (e : Event) where
   -- each test of an event, and the step behind them
-  pub by-tests : (P : AfterCall → Type 0) → P (refused NoLine ns us m) → P (refused WrongSize ns us m) → P (refused BeyondLimits ns us m)
-      → (e .line < lines → withinNumbers ns (e .line) ≡ true → P (putBack ns us (e .line) step)) → P (callOf ns us e m)
+  pub by-tests : (P : AfterCall → Type 0) → P (refused NoLine s) → P (refused WrongSize s) → P (refused BeyondLimits s)
+      → (e .line < lines → withinNumbers (s .numbers) (e .line) ≡ true → P (putBack s (e .line) (stepFor s e))) → P (callOf s e)
   unfolding callOf
-  by-tests P p q r s = by-line (ltb (e .line) lines) refl
+  by-tests P p q r past = by-line (ltb (e .line) lines) refl
     where
-      by-limits : (b : Bool) → e .line < lines → withinNumbers ns (e .line) ≡ b → P (unless b (refused BeyondLimits ns us m) (putBack ns us (e .line) step))
-      by-limits true h w = s h w
+      by-limits : (b : Bool) → e .line < lines → withinNumbers (s .numbers) (e .line) ≡ b → P (unless b (refused BeyondLimits s) (putBack s (e .line) (stepFor s e)))
+      by-limits true h w = past h w
       by-limits false h w = r
 
-      by-sizes : (b : Bool) → e .line < lines → P (unless b (refused WrongSize ns us m) (unless (withinNumbers ns (e .line)) (refused BeyondLimits ns us m) (putBack ns us (e .line) step)))
-      by-sizes true h = by-limits (withinNumbers ns (e .line)) h refl
+      by-sizes : (b : Bool) → e .line < lines → P (unless b (refused WrongSize s) (unless (withinNumbers (s .numbers) (e .line)) (refused BeyondLimits s) (putBack s (e .line) (stepFor s e))))
+      by-sizes true h = by-limits (withinNumbers (s .numbers) (e .line)) h refl
       by-sizes false h = q
 
       by-line : (b : Bool) → ltb (e .line) lines ≡ b
-          → P (unless b (refused NoLine ns us m) (unless (rightSizes (m .journal) (m .unfinished) (m .frames)) (refused WrongSize ns us m) (unless (withinNumbers ns (e .line)) (refused BeyondLimits ns us m) (putBack ns us (e .line) step))))
-      by-line true h = by-sizes (rightSizes (m .journal) (m .unfinished) (m .frames)) (ltb-true (e .line) lines h)
+          → P (unless b (refused NoLine s) (unless (rightSizes (s .memory .journal) (s .memory .unfinished) (s .memory .frames)) (refused WrongSize s) (unless (withinNumbers (s .numbers) (e .line)) (refused BeyondLimits s) (putBack s (e .line) (stepFor s e)))))
+      by-line true h = by-sizes (rightSizes (s .memory .journal) (s .memory .unfinished) (s .memory .frames)) (ltb-true (e .line) lines h)
       by-line false h = p
 
-  -- 20 and 40 to 43: all numbers and all memory are as they were
-  pub refusal-leaves : isRefusal (callOf ns us e m .answered .number) ≡ true → callOf ns us e m ≡ same ns us m (callOf ns us e m)
-  unfolding inNumbers
-  refusal-leaves = by-tests (λ c. isRefusal (c .answered .number) ≡ true → c ≡ same ns us m c) (λ h. refl) (λ h. refl) (λ h. refl) past
-    where
-      past : e .line < lines → withinNumbers ns (e .line) ≡ true → isRefusal (numberOf (step .stepped .answer)) ≡ true
-          → putBack ns us (e .line) step ≡ same ns us m (putBack ns us (e .line) step)
-      past h w r =
-          let a = step .stepped .answer in
-          ap (putBack ns us (e .line)) (refused-unchanged todaysShares (lineOf ns (e .line)) (ledgerOf ns us) e m a refl (refusal-class a r) (not-nothing a r)) ∙ put-unchanged ns us (e .line) h w m a
+  -- a step that changes nothing changes no number
+  left-as-it-was : (a : Answer) → e .line < lines → withinNumbers (s .numbers) (e .line) ≡ true → stepFor s e ≡ unchanged (lineOf (s .numbers) (e .line)) (ledgerOf (s .numbers) (s .counts)) (s .memory) a
+      → putBack s (e .line) (stepFor s e) .state ≡ s
+  left-as-it-was a h w q = ap (λ (c : AfterCall). c .state) (ap (putBack s (e .line)) q ∙ put-unchanged s (e .line) h w a)
 
-  -- an ignored event too: where the step changes nothing, no number changes
-  pub ignored-leaves : (a : Answer) → verdictOf todaysShares (lineOf ns (e .line)) (ledgerOf ns us) e (m .journal) (m .unfinished) (m .frames) ≡ Left a → callOf ns us e m ≡ same ns us m (callOf ns us e m)
-  ignored-leaves a v = by-tests (λ c. c ≡ same ns us m c) refl refl refl
-      (λ h w. let p = ap (putBack ns us (e .line)) (left-unchanged todaysShares (lineOf ns (e .line)) (ledgerOf ns us) e m a v) ∙ put-unchanged ns us (e .line) h w m a in
-      p ∙ sym (ap (same ns us m) p))
+  -- 20 and 40 to 43: all numbers and all memory are as they were
+  pub refusal-leaves : isRefusal (callOf s e .answered .number) ≡ true → callOf s e .state ≡ s
+  unfolding inNumbers
+  refusal-leaves = by-tests (λ c. isRefusal (c .answered .number) ≡ true → c .state ≡ s) (λ h. refl) (λ h. refl) (λ h. refl) past
+    where
+      past : e .line < lines → withinNumbers (s .numbers) (e .line) ≡ true → isRefusal (numberOf (stepFor s e .stepped .answer)) ≡ true → putBack s (e .line) (stepFor s e) .state ≡ s
+      past h w r =
+          let a = stepFor s e .stepped .answer in
+          left-as-it-was a h w (refused-unchanged todaysShares (lineOf (s .numbers) (e .line)) (ledgerOf (s .numbers) (s .counts)) e (s .memory) a refl (refusal-class a r) (not-nothing a r))
+
+  -- an ignored event too
+  pub ignored-leaves : (a : Answer) → verdictOf todaysShares (lineOf (s .numbers) (e .line)) (ledgerOf (s .numbers) (s .counts)) e (s .memory .journal) (s .memory .unfinished) (s .memory .frames) ≡ Left a
+      → callOf s e .state ≡ s
+  ignored-leaves a v = by-tests (λ c. c .state ≡ s) refl refl refl
+      (λ h w. left-as-it-was a h w (left-unchanged todaysShares (lineOf (s .numbers) (e .line)) (ledgerOf (s .numbers) (s .counts)) e (s .memory) a v))
 
   -- and where the step leaves its record and the ledger, whatever it does to the memory, the numbers are as they were
-  pub record-leaves : step .stepped .line ≡ lineOf ns (e .line) → step .stepped .ledger ≡ ledgerOf ns us → (callOf ns us e m .numbers ≡ ns) × (callOf ns us e m .counts ≡ us)
-  record-leaves p q = by-tests (λ c. (c .numbers ≡ ns) × (c .counts ≡ us)) (refl, refl) (refl, refl) (refl, refl)
-      (λ h w. (rw (p, q) (numbers-back ns us (e .line) h w), rw q (used-back ns us (e .line) h)))
+  pub record-leaves : stepFor s e .stepped .line ≡ lineOf (s .numbers) (e .line) → stepFor s e .stepped .ledger ≡ ledgerOf (s .numbers) (s .counts)
+      → (callOf s e .state .numbers ≡ s .numbers) × (callOf s e .state .counts ≡ s .counts)
+  record-leaves p q = by-tests (λ c. (c .state .numbers ≡ s .numbers) × (c .state .counts ≡ s .counts)) (refl, refl) (refl, refl) (refl, refl)
+      (λ h w. (rw (p, q) (numbers-back (s .numbers) (s .counts) (e .line) h w), rw q (used-back (s .numbers) (s .counts) (e .line) h)))
 
 -- a refused taking: 40, 41, 43, 44 and 45
-pub taking-leaves : (ns us : List ℕ) (i : ℕ) (j b : List ℕ) {r : Answered} {us′ j′ b′ : List ℕ} → TakenBy ns us i j b r us′ j′ b′ → isRefusal (r .number) ≡ true → (us′ ≡ us) × (j′ ≡ j) × (b′ ≡ b)
+pub taking-leaves : (ns : List ℕ) (i : ℕ) (s : TakeState) {r : Answered} {t : TakeState} → TakenBy ns i s r t → isRefusal (r .number) ≡ true → t ≡ s
 unfolding takeOf
-taking-leaves ns us i j b {r} {us′} t h =
-    let a = takeOf (gatewayOf ns us) i j b .handled .answer in
-    let n : isRefusal (numberOf a) ≡ true = sym (ap (λ (x : Answered). isRefusal (x .number)) (t .result ∙ taking-answer (takeEntry (ledgerOf ns us) i j b .taking .answer))) ∙ h in
-    let s = taking-refused (gatewayOf ns us) i j b (refusal-class a n) in
-    let d : takeEntry (ledgerOf ns us) i j b .taking .ledger ≡ ledgerOf ns us = ap (λ (x : AfterTake). x .handled .gateway .ledger) s in
-    (t .counts ∙ by-line d (ltb i lines) refl, t .journal ∙ ap (λ (x : AfterTake). x .journal) s, t .buffer ∙ ap (λ (x : AfterTake). x .buffer) s)
+taking-leaves ns i s {r} {t} x h =
+    let g = gatewayOf ns (s .counts) in
+    let a = takeOf g i (s .journal) (s .buffer) .handled .answer in
+    let n : isRefusal (numberOf a) ≡ true = sym (ap (λ (y : Answered). isRefusal (y .number)) (x .result ∙ taking-answer (took .taking .answer))) ∙ h in
+    let left = taking-refused g i (s .journal) (s .buffer) (refusal-class a n) in
+    let counts = by-line (ap (λ (y : AfterTake). y .handled .gateway .ledger) left) (ltb i lines) refl in
+    x .state ∙ (λ z. record { counts = counts z; journal = left z .journal; buffer = left z .buffer })
   where
-    by-line : takeEntry (ledgerOf ns us) i j b .taking .ledger ≡ ledgerOf ns us → (x : Bool) → ltb i lines ≡ x → unless x us (withUsed us i (takeEntry (ledgerOf ns us) i j b .taking .ledger)) ≡ us
-    by-line d true q = ap (withUsed us i) d ∙ used-back ns us i (ltb-true i lines q)
+    took : AfterTaking
+    took = takeEntry (ledgerOf ns (s .counts)) i (s .journal) (s .buffer)
+
+    by-line : took .taking .ledger ≡ ledgerOf ns (s .counts) → (b : Bool) → ltb i lines ≡ b → unless b (s .counts) (withUsed (s .counts) i (took .taking .ledger)) ≡ s .counts
+    by-line d true q = ap (withUsed (s .counts) i) d ∙ used-back ns (s .counts) i (ltb-true i lines q)
     by-line d false q = refl

@@ -31,7 +31,8 @@ use Rattle.promises.proofs.Freed as freed
 use Rattle.promises.proofs.Alone as alone
 use Rattle.promises.proofs.Acknowledged as acknowledged
 use Rattle.numbers.specs.Plain.{replyByte}
-use Rattle.ngachodui_laws.specs.HostRuns.{HostState, gatewayState, InOrder, HostResponse, hostStep, numberTo, replyTo, after, Run, endOf}
+use Rattle.calls.specs.Calls.{HostState}
+use Rattle.ngachodui_laws.specs.HostRuns.{gatewayState, InOrder, HostResponse, hostStep, numberTo, replyTo, after, Run, endOf}
 use Rattle.ngachodui_laws.specs.Outcomes.{StoreKept}
 use Rattle.ngachodui_laws.specs.Freed.{takenThen, Frees, Alone}
 use Rattle.ngachodui_laws.specs.Inner.Hosting.{inNumbersOf}

@@ -29,7 +29,8 @@ use Rattle.promises.proofs.InTurn as turns
 use Rattle.layout.specs.Layout.{serialAt}
 use Rattle.numbers.specs.Plain.{numberAt}
 use Rattle.numbers.proofs.Numbers.{serial-at}
-use Rattle.ngachodui_laws.specs.HostRuns.{HostState, gatewayState, InOrder, HostResponse, hostStep, after}
+use Rattle.calls.specs.Calls.{HostState}
+use Rattle.ngachodui_laws.specs.HostRuns.{gatewayState, InOrder, HostResponse, hostStep, after}
 use Rattle.ngachodui_laws.specs.Outcomes.{LineKept}
 use Rattle.ngachodui_laws.specs.Sound.{Holds}
 use Rattle.ngachodui_laws.specs.Queue.{allTaken}

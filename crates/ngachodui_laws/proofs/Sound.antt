@@ -7,7 +7,8 @@ use Rattle.header.specs.Header.{serialCount}
 use Rattle.line.specs.Line.{withinLimits}
 use Rattle.promises.specs.Sending as there
 use Rattle.numbers.proofs.Numbers.{line-within, serial-at}
-use Rattle.ngachodui_laws.specs.HostRuns.{HostState, gatewayState, Run, endOf}
+use Rattle.calls.specs.Calls.{HostState}
+use Rattle.ngachodui_laws.specs.HostRuns.{gatewayState, Run, endOf}
 use Rattle.ngachodui_laws.specs.Sound.{Intact, Sound}
 use Rattle.ngachodui_laws.proofs.PutBack.{lines-length, line-at, used-long, serials-long}
 use Rattle.ngachodui_laws.proofs.HostRuns.{end-in-order, host-always-sound}

@@ -19,7 +19,8 @@ use Rattle.promises.specs.Machine.{State, Response, response, GatewayItem, isDe
 use Rattle.promises.specs.Inner.ByParts.{onEvent, onTaking}
 use Rattle.promises.proofs.Stretches.{lined, nothing-else}
 use Rattle.promises.proofs.Kept.{fresh-sound}
-use Rattle.ngachodui_laws.specs.HostRuns.{HostState, gatewayState, InOrder, freshHost, HostResponse, hostStep, decides, Run, historyOf}
+use Rattle.calls.specs.Calls.{HostState}
+use Rattle.ngachodui_laws.specs.HostRuns.{gatewayState, InOrder, freshHost, HostResponse, hostStep, decides, Run, historyOf}
 use Rattle.ngachodui_laws.specs.Inner.Hosting.{inNumbersOf}
 use Rattle.ngachodui_laws.proofs.HostRuns.{one-call, fresh-in-order, fresh-is}
 use Rattle.ngachodui_laws.proofs.Determined.{same-host}

@@ -10,7 +10,8 @@ use Rattle.looking.specs.declared.Kind.{Kind}
 use Rattle.promises.specs.Machine.{came}
 use Rattle.promises.specs.Runs.{hasSpace}
 use Rattle.promises.specs.Exactly.{Exactly}
-use Rattle.ngachodui_laws.specs.HostRuns.{HostState, gatewayState, numberTo}
+use Rattle.calls.specs.Calls.{HostState}
+use Rattle.ngachodui_laws.specs.HostRuns.{gatewayState, numberTo}
 
 -- 4: a message with room for it; 31: a message without; 30: no message
 pub record DecidedExactly (s : HostState) (i : ℕ) (k : Kind) (text : List ℕ) : Type 0 where

@@ -7,7 +7,8 @@ use mathlib.Core.List.{List, []}
 use Rattle.memory.specs.Sizes.{lines}
 use Rattle.serial.specs.Serial.{taking, final}
 use Rattle.promises.specs.Machine.{GatewayItem}
-use Rattle.ngachodui_laws.specs.HostRuns.{HostState, hostStep, freshHost, numberTo, after, Run}
+use Rattle.calls.specs.Calls.{HostState}
+use Rattle.ngachodui_laws.specs.HostRuns.{hostStep, freshHost, numberTo, after, Run}
 use Rattle.ngachodui_laws.specs.Queue.{allStored}
 
 -- a taking from line l and then the calls fs

@@ -1,4 +1,4 @@
--- What a host keeps, what a call does to it, and runs of calls from a fresh start.
+-- What a call does to what a host keeps, and runs of calls from a fresh start.
 -- Assumes nothing.
 use Prim.Native.Nat.{ℕ, _+_}
 use mathlib.Core.Bool.{Bool, _||_}
@@ -6,23 +6,16 @@ use mathlib.Core.List.{List, []}
 use lib.Dec.{eqb}
 use lib.ListN.{replicate}
 use Rattle.memory.specs.Sizes.{lines}
-use Rattle.journal.specs.Removal.{takeOf as takeEntry}
-use Rattle.receiving.specs.Steps.{Memory, memoryOf}
+use Rattle.receiving.specs.Steps.{Memory}
 use Rattle.serial.specs.Serial.{event, taking, annotate, final, Every}
 use Rattle.promises.specs.Machine.{State, GatewayItem, onLine, May}
 use Rattle.promises.specs.Runs.{RightSizes}
 use Rattle.layout.specs.Layout.{freshNumbers}
-use Rattle.numbers.specs.Plain.{ledgerOf}
-use Rattle.calls.specs.Calls.{AfterCall, callOf, usedAfter, takingInNumbers}
+use Rattle.calls.specs.Calls.{HostState, AfterCall, callOf, TakeState, takingOf}
 use Rattle.ngachodui_laws.specs.Hosting.{gatewayOf, Ordered}
 use Rattle.numbers.specs.declared.Answered.{Answered}
 
--- all that a host keeps, and the state of the gateway that it stands for
-pub record HostState : Type 0 where
-  pub numbers : List ℕ
-  pub counts : List ℕ
-  pub memory : Memory
-
+-- the state of the gateway that a host's numbers and memory stand for
 abbrev pub gatewayState : HostState → State
 gatewayState s = record { gateway = gatewayOf (s .numbers) (s .counts); memory = s .memory }
 
@@ -37,19 +30,23 @@ pub record HostResponse : Type 0 where
   pub answered : Answered
   pub buffer : List ℕ
 
+-- what a taking with this buffer may write
+abbrev pub lentOf : HostState → List ℕ → TakeState
+lentOf s b = record { counts = s .counts; journal = s .memory .journal; buffer = b }
+
 -- an event is a call of `ngachodui_byte` or `ngachodui_seconds`, a taking one of `ngachodui_take`: what their contracts say
 abbrev pub afterCall : AfterCall → HostResponse × HostState
-afterCall c = (record { answered = c .answered; buffer = [] }, record { numbers = c .numbers; counts = c .counts; memory = c .memory })
+afterCall c = (record { answered = c .answered; buffer = [] }, c .state)
 
 abbrev pub hostStep : HostState → GatewayItem → HostResponse × HostState
-hostStep s (event i k) = afterCall (callOf (s .numbers) (s .counts) (onLine i k) (s .memory))
+hostStep s (event i k) = afterCall (callOf s (onLine i k))
 hostStep s (taking i b) =
-    let t = takeEntry (ledgerOf (s .numbers) (s .counts)) i (s .memory .journal) b in (
-      record { answered = takingInNumbers (t .taking .answer); buffer = t .buffer },
+    let t = takingOf (s .numbers) i (lentOf s b) in (
+      record { answered = t .answered; buffer = t .state .buffer },
       record {
         numbers = s .numbers;
-        counts = usedAfter (s .counts) i t;
-        memory = memoryOf (t .journal) (s .memory .unfinished) (s .memory .frames);
+        counts = t .state .counts;
+        memory = record { journal = t .state .journal; unfinished = s .memory .unfinished; frames = s .memory .frames };
       },
     )
 

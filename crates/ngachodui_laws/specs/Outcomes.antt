@@ -17,21 +17,19 @@ use Rattle.serial.specs.Serial.{event, taking}
 use Rattle.promises.specs.Machine.{GatewayItem, onLine}
 use Rattle.layout.specs.Layout.{fields, serialAt}
 use Rattle.numbers.specs.Plain.{numberAt}
-use Rattle.calls.specs.Calls.{Calling, Taken}
-use Rattle.ngachodui_laws.specs.HostRuns.{HostState, HostResponse}
+use Rattle.calls.specs.Calls.{HostState, Calling, Taken}
+use Rattle.ngachodui_laws.specs.HostRuns.{HostResponse, lentOf}
 
 -- what the contract of `ngachodui_take` allows: the lines' numbers are lent to it to read, and neither the unfinished texts nor the frames are lent at all
 pub record AllowsTaking (s : HostState) (i : ℕ) (b : List ℕ) (r : HostResponse) (t : HostState) : Type 0 where
-  pub taken : Taken (s .numbers) (s .counts) i (s .memory .journal) b (r .answered) (t .counts) (t .memory .journal) (r .buffer)
+  pub taken : Taken (s .numbers) i (lentOf s b) (r .answered) (lentOf t (r .buffer))
   pub numbers : t .numbers ≡ s .numbers
   pub unfinished : t .memory .unfinished ≡ s .memory .unfinished
   pub frames : t .memory .frames ≡ s .memory .frames
 
 -- from the state s, the contract of the call allows the response r and the state t; an event, `ngachodui_byte` or `ngachodui_seconds`, has no buffer
 abbrev pub Allows : HostState → GatewayItem → HostResponse → HostState → Type 0
-Allows s (event i k) r t =
-    Calling (s .numbers) (s .counts) (onLine i k) (s .memory .journal) (s .memory .unfinished) (s .memory .frames)
-    (r .answered) (t .numbers) (t .counts) (t .memory .journal) (t .memory .unfinished) (t .memory .frames) × (r .buffer ≡ [])
+Allows s (event i k) r t = Calling s (onLine i k) (r .answered) t × (r .buffer ≡ [])
 Allows s (taking i b) r t = AllowsTaking s i b r t
 
 -- what a line in this state ignores: all but ENQ where no transfer is open; between frames all bytes but STX, EOT and ENQ; inside a frame nothing

@@ -16,7 +16,8 @@ use Rattle.serial.specs.Serial.{event, taking, Every}
 use Rattle.promises.specs.Machine.{GatewayItem, came}
 use Rattle.promises.specs.Queue.{completed}
 use Rattle.numbers.specs.Plain.{ledgerOf}
-use Rattle.ngachodui_laws.specs.HostRuns.{HostState, gatewayState, freshHost, HostResponse, numberTo, after, Run, historyOf, endOf}
+use Rattle.calls.specs.Calls.{HostState}
+use Rattle.ngachodui_laws.specs.HostRuns.{gatewayState, freshHost, HostResponse, numberTo, after, Run, historyOf, endOf}
 use Rattle.ngachodui_laws.specs.Sound.{Holds}
 
 -- the text that a taking gave: with 8, so many bytes at the buffer's start, under the serial that was answered

@@ -20,7 +20,8 @@ use Rattle.promises.specs.Runs.{hasSpace}
 use Rattle.promises.specs.Sending.{bytesOn, sending}
 use Rattle.layout.specs.Layout.{serialAt}
 use Rattle.numbers.specs.Plain.{numberAt, lineOf}
-use Rattle.ngachodui_laws.specs.HostRuns.{HostState, gatewayState, HostResponse, hostStep}
+use Rattle.calls.specs.Calls.{HostState}
+use Rattle.ngachodui_laws.specs.HostRuns.{gatewayState, HostResponse, hostStep}
 use Rattle.ngachodui_laws.specs.Outcomes.{LineKept}
 use Rattle.ngachodui_laws.specs.Sound.{Intact, Holds}
 

@@ -13,7 +13,8 @@ use Rattle.journal_laws.specs.Held.{Held}
 use Rattle.promises.specs.Runs.{RightSizes}
 use Rattle.layout.specs.Layout.{serialAt}
 use Rattle.numbers.specs.Plain.{numberAt, ledgerOf}
-use Rattle.ngachodui_laws.specs.HostRuns.{HostState, InOrder}
+use Rattle.calls.specs.Calls.{HostState}
+use Rattle.ngachodui_laws.specs.HostRuns.{InOrder}
 
 -- numbers in order, memory of the right sizes, serials of 16 bits, and a whole journal that holds these entries
 pub record Intact (s : HostState) : Type 0 where

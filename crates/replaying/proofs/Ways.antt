@@ -22,10 +22,10 @@ use Rattle.listing.proofs.Columns.{length-row}
 use Rattle.decimal.proofs.Digits.{most-digits, twenty}
 use Rattle.looking.specs.declared.Event.{Event as GatewayEvent}
 use Rattle.looking.specs.declared.Kind.{Kind}
-use Rattle.calls.specs.Calls.{Calling, Taken}
+use Rattle.calls.specs.Calls.{HostState, Calling, TakeState, Taken}
 use Rattle.numbers.specs.declared.Answered.{Answered}
 use Rattle.replaying.specs.Lines.{nextOf}
-use Rattle.replaying.specs.Desk.{rowRoom, Desk, deskOf, eventAsked, takingAsked}
+use Rattle.replaying.specs.Desk.{rowRoom, Desk, deskOf, lentToEvent, eventAsked, lentToTaking, takingAsked}
 use Rattle.replaying.specs.Turns.{AfterTurn, turnLeaves, stopped, acted, onLine, turnOf}
 use Rattle.replaying.specs.Inner.Asking.{AfterAsking, askLeaves, askedBy, turnBy, outBy, RowPut, ColumnsPut}
 use Rattle.replaying.specs.Inner.Bounds.{ReadIn}
@@ -37,10 +37,8 @@ use Rattle.replaying.specs.declared.Turn.{Turn}
 use Rattle.replaying.specs.declared.Turn.the-variants.{Went, Stopped}
 
 -- an event is its line and its kind
-pub as-kind : (ns us : List ℕ) (e : GatewayEvent) (j u f : List ℕ) {k : Kind} {r : Answered} {ns′ us′ j′ u′ f′ : List ℕ} → e .kind ≡ k
-    → Calling ns us (record { line = e .line; kind = k }) j u f r ns′ us′ j′ u′ f′ → Calling ns us e j u f r ns′ us′ j′ u′ f′
-as-kind ns us e j u f {k} {r} {ns′} {us′} {j′} {u′} {f′} q c =
-    subst (λ (x : Kind). Calling ns us (record { line = e .line; kind = x }) j u f r ns′ us′ j′ u′ f′) (sym q) c
+pub as-kind : (s : HostState) (e : GatewayEvent) {k : Kind} {r : Answered} {t : HostState} → e .kind ≡ k → Calling s (record { line = e .line; kind = k }) r t → Calling s e r t
+as-kind s e {k} {r} {t} q c = subst (λ (x : Kind). Calling s (record { line = e .line; kind = x }) r t) (sym q) c
 
 -- the first n bytes, or all where there are fewer
 take-least : (n : ℕ) (b : List ℕ) → take (min n (length b)) b ≡ take n b
@@ -112,21 +110,19 @@ module _ (columns : Columns) (number behind : ℕ) (out : List ℕ) (put : ℕ) 
 
 -- what each item asks
 module _ (d : Desk) (item : Item) where
-  pub asks-event : {e : GatewayEvent} {a : Answered} {ns′ us′ j′ u′ f′ : List ℕ} → item ≡ Event e
-      → Calling (d .numbers) (d .counts) e (d .journal) (d .unfinished) (d .frames) a ns′ us′ j′ u′ f′
-      → askLeaves (Row (e .line) (a .number) (a .length)) (deskOf ns′ us′ j′ u′ f′ (d .buffer)) ≡ askedBy item d
+  pub asks-event : {e : GatewayEvent} {a : Answered} {t : HostState} → item ≡ Event e → Calling (lentToEvent d) e a t
+      → askLeaves (Row (e .line) (a .number) (a .length)) (deskOf (t .numbers) (t .counts) (t .memory .journal) (t .memory .unfinished) (t .memory .frames) (d .buffer)) ≡ askedBy item d
   unfolding eventAsked
-  asks-event q c = rw (q, c .result, c .numbers, c .counts, c .journal, c .unfinished, c .frames)
+  asks-event q c = rw (q, c .result, c .state)
 
-  pub asks-taking : {i n m : ℕ} {a : Answered} {us′ j′ b₁ b′ : List ℕ} → item ≡ Taking i n → m ≡ min n (length (d .buffer))
-      → Taken (d .numbers) (d .counts) i (d .journal) (take m (d .buffer)) a us′ j′ b₁ → b′ ≡ b₁ ++ drop m (d .buffer)
-      → askLeaves (Row i (a .number) (a .length)) (deskOf (d .numbers) us′ j′ (d .unfinished) (d .frames) b′) ≡ askedBy item d
+  pub asks-taking : {i n m : ℕ} {a : Answered} {t : TakeState} {b : List ℕ} → item ≡ Taking i n → m ≡ min n (length (d .buffer)) → Taken (d .numbers) i (lentToTaking m d) a t → b ≡ t .buffer ++ drop m (d .buffer)
+      → askLeaves (Row i (a .number) (a .length)) (deskOf (d .numbers) (t .counts) (t .journal) (d .unfinished) (d .frames) b) ≡ askedBy item d
   unfolding takingAsked
-  asks-taking {i} {n} {m} {a} {us′} {j′} {b₁} {b′} q p c e =
+  asks-taking {i} {n} {m} {a} {t} q p c e =
       let behind-lent : drop m (d .buffer) ≡ drop n (d .buffer) = rw p (drop-least n (d .buffer)) in
       let lent : take m (d .buffer) ≡ take n (d .buffer) = rw p (take-least n (d .buffer)) in
-      let c′ : Taken (d .numbers) (d .counts) i (d .journal) (take n (d .buffer)) a us′ j′ b₁ = rw (← lent) c in
-      rw (q, e, behind-lent, c′ .result, c′ .counts, c′ .journal, c′ .buffer)
+      let x : Taken (d .numbers) i (lentToTaking n d) a t = rw (← lent) c in
+      rw (q, e, behind-lent, x .result, x .state)
 
   pub asks-nothing : item ≡ NoItem → askLeaves NoRow d ≡ askedBy item d
   asks-nothing q = rw q

@@ -3,11 +3,8 @@
 use Prim.Native.Nat.{ℕ}
 use mathlib.Core.List.{List, _++_}
 use lib.ListN.{take, drop}
-use Rattle.journal.specs.Removal.{takeOf}
-use Rattle.receiving.specs.Steps.{memoryOf}
 use Rattle.looking.specs.declared.Event.{Event}
-use Rattle.numbers.specs.Plain.{ledgerOf}
-use Rattle.calls.specs.Calls.{callOf, usedAfter, takingInNumbers}
+use Rattle.calls.specs.Calls.{HostState, callOf, TakeState, takingOf}
 use Rattle.numbers.specs.declared.Answered.{Answered}
 
 -- the longest row: 20 digits, 3, 3 and 20, with three spaces and the newline
@@ -30,20 +27,22 @@ pub record Asked : Type 0 where
   pub answered : Answered
   pub desk : Desk
 
--- an event
+-- an event: it is not lent the buffer
+abbrev pub lentToEvent : Desk → HostState
+lentToEvent d = record { numbers = d .numbers; counts = d .counts; memory = record { journal = d .journal; unfinished = d .unfinished; frames = d .frames } }
+
 unfoldable pub eventAsked : Event → Desk → Asked
 eventAsked e d =
-    let c = callOf (d .numbers) (d .counts) e (memoryOf (d .journal) (d .unfinished) (d .frames)) in
-    record {
-      answered = c .answered;
-      desk = deskOf (c .numbers) (c .counts) (c .memory .journal) (c .memory .unfinished) (c .memory .frames) (d .buffer);
-    }
+    let c = callOf (lentToEvent d) e in
+    let s = c .state in
+    record { answered = c .answered; desk = deskOf (s .numbers) (s .counts) (s .memory .journal) (s .memory .unfinished) (s .memory .frames) (d .buffer) }
 
--- a taking, with the first n bytes of the buffer
+-- a taking: it is lent the first n bytes of the buffer
+abbrev pub lentToTaking : ℕ → Desk → TakeState
+lentToTaking n d = record { counts = d .counts; journal = d .journal; buffer = take n (d .buffer) }
+
 unfoldable pub takingAsked : ℕ → ℕ → Desk → Asked
 takingAsked i n d =
-    let t = takeOf (ledgerOf (d .numbers) (d .counts)) i (d .journal) (take n (d .buffer)) in
-    record {
-      answered = takingInNumbers (t .taking .answer);
-      desk = deskOf (d .numbers) (usedAfter (d .counts) i t) (t .journal) (d .unfinished) (d .frames) (t .buffer ++ drop n (d .buffer));
-    }
+    let t = takingOf (d .numbers) i (lentToTaking n d) in
+    let s = t .state in
+    record { answered = t .answered; desk = deskOf (d .numbers) (s .counts) (s .journal) (d .unfinished) (d .frames) (s .buffer ++ drop n (d .buffer)) }

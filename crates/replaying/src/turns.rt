@@ -88,8 +88,10 @@ fn event(
     unfinished: &mut [u8],
     frames: &mut [u8],
 ) -> Answered
-    ensures { λ r. ⌜ Calling (now (numbers .entry)) (now (counts .entry)) e (now (journal .entry)) (now (unfinished .entry)) (now (frames .entry))
-        r (now (numbers .exit)) (now (counts .exit)) (now (journal .exit)) (now (unfinished .exit)) (now (frames .exit)) ⌝ }
+    ensures { λ r. ⌜ Calling
+        (record { numbers = now (numbers .entry); counts = now (counts .entry); memory = record { journal = now (journal .entry); unfinished = now (unfinished .entry); frames = now (frames .entry) } })
+        e r
+        (record { numbers = now (numbers .exit); counts = now (counts .exit); memory = record { journal = now (journal .exit); unfinished = now (unfinished .exit); frames = now (frames .exit) } }) ⌝ }
 {
     let line = e.line;
     let kind = e.kind;

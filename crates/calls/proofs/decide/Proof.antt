@@ -2,6 +2,7 @@
 -- Assumes nothing.
 use borrow.Author.Needs.{needs}
 use denote.Ref.{now}
+use Rattle.calls.specs.Calls.{HostState}
 use Rattle.calls.proofs.Ways.{narrow-after, put-decided}
 use Rattle.calls.proofs.decide.Statement.{statement}
 use Rattle.calls.proofs.decide.Tie as tie
@@ -16,6 +17,12 @@ decided c = let back = c .before .before .before in back .before .before .before
 abbrev ledger : tie.After-decide → tie.After-ledger-of
 ledger c = c .before .before .before .before
 
+-- what the host keeps when the function is entered
+abbrev kept : tie.Start → HostState
+kept s =
+    let a = s .args in
+    record { numbers = now (a .numbers); counts = now (a .counts); memory = record { journal = now (a .journal); unfinished = now (a .unfinished); frames = now (a .frames) } }
+
 put-back-requires : tie.Need-put-back-requires
 put-back-requires c κs =
     let made = decided (c .before) in
@@ -24,8 +31,8 @@ put-back-requires c κs =
 returns : tie.Need-returns
 returns c =
     let made = decided (c .before .before) in
-    let a = entry (ledger made) .args in
-    put-decided (now (a .numbers)) (now (a .counts)) (a .line) (a .e) (now (a .journal)) (now (a .unfinished)) (now (a .frames)) (a .n) (ledger made .ledger-of .ensures .result) (made .decide .ensures) (c .put-back .ensures)
+    let start = entry (ledger made) in
+    put-decided (kept start) (start .args .line) (start .args .e) (start .args .n) (ledger made .ledger-of .ensures .result) (made .decide .ensures) (c .put-back .ensures)
 
 pub decide-spec : {M : Type 1} → statement M
 decide-spec =

@@ -7,6 +7,7 @@ use denote.Ref.{now}
 use borrow.Author.Tests.{not-true, not-false}
 use Rattle.numbers.specs.Changes.{isWithin}
 use Rattle.numbers.proofs.Changes.{not-within}
+use Rattle.calls.specs.Calls.{HostState}
 use Rattle.calls.proofs.Ways.{beyond, by-begun, still-within, by-other}
 use Rattle.calls.proofs.event.Statement.{statement}
 use Rattle.calls.proofs.event.Tie as tie
@@ -14,6 +15,12 @@ use Rattle.calls.proofs.event.Tie as tie
 -- where the function was entered
 abbrev entry : tie.After-is-within → tie.Start
 entry c = let lent = c .before .before in lent .before .before .before .before
+
+-- what the host keeps when the function is entered
+abbrev kept : tie.Start → HostState
+kept s =
+    let a = s .args in
+    record { numbers = now (a .numbers); counts = now (a .counts); memory = record { journal = now (a .journal); unfinished = now (a .unfinished); frames = now (a .frames) } }
 
 -- 42 is behind
 within : (c : tie.Else1) → let a = entry (c .before) .args in isWithin (now (a .numbers)) (a .e .line) ≡ true
@@ -23,25 +30,22 @@ returns : tie.Need-returns
 returns c =
     let tested = c .before .before in
     let start = entry tested in
-    let a = start .args in
-    beyond (now (a .numbers)) (now (a .counts)) (a .e) (now (a .journal)) (now (a .unfinished)) (now (a .frames)) _ (start .pre .0) (start .pre .1)
-    (not-within (now (a .numbers)) (a .e .line) (start .pre .0) (sym (tested .is-within .ensures) ∙ not-true _ (c .before .if1 .taken))) (c .in-numbers .ensures)
+    beyond (kept start) (start .args .e) _ (start .pre .0) (start .pre .1)
+    (not-within (now (start .args .numbers)) (start .args .e .line) (start .pre .0) (sym (tested .is-within .ensures) ∙ not-true _ (c .before .if1 .taken))) (c .in-numbers .ensures)
 
 returns-2 : tie.Need-returns-2
 returns-2 c =
     let begun = c .before .before in
     let past = begun .before .before in
     let start = entry (past .before) in
-    let a = start .args in
-    by-begun (now (a .numbers)) (now (a .counts)) (a .e) (now (a .journal)) (now (a .unfinished)) (now (a .frames)) (start .pre .1) (within past) (begun .begin .ensures) (c .before .if2 .taken) (c .in-numbers2 .ensures)
+    by-begun (kept start) (start .args .e) (start .pre .1) (within past) (begun .begin .ensures) (c .before .if2 .taken) (c .in-numbers2 .ensures)
 
 step-requires : tie.Need-step-requires
 step-requires c κs =
     let other = c .before .before .before .before .before in
     let past = other .before .before .before in
     let start = entry (past .before) in
-    let a = start .args in
-    (start .pre .0, still-within (now (a .numbers)) (now (a .counts)) (a .e) (now (a .journal)) (now (a .unfinished)) (now (a .frames)) (start .pre .1) (within past) (other .before .begin .ensures) (other .if2 .left))
+    (start .pre .0, still-within (kept start) (start .args .e) (start .pre .1) (within past) (other .before .begin .ensures) (other .if2 .left))
 
 returns-3 : tie.Need-returns-3
 returns-3 c =
@@ -51,8 +55,7 @@ returns-3 c =
     let other = lent .before .before .before in
     let past = other .before .before .before in
     let start = entry (past .before) in
-    let a = start .args in
-    by-other (now (a .numbers)) (now (a .counts)) (a .e) (now (a .journal)) (now (a .unfinished)) (now (a .frames)) (start .pre .1) (within past) (other .before .begin .ensures) (other .if2 .left) (stepped .step .ensures)
+    by-other (kept start) (start .args .e) (start .pre .1) (within past) (other .before .begin .ensures) (other .if2 .left) (stepped .step .ensures)
 
 pub event-spec : {M : Type 1} → statement M
 event-spec =

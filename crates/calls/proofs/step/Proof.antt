@@ -2,6 +2,7 @@
 -- Assumes nothing.
 use borrow.Author.Needs.{needs}
 use denote.Ref.{now}
+use Rattle.calls.specs.Calls.{HostState}
 use Rattle.calls.proofs.Ways.{by-record, put-after, by-decide}
 use Rattle.calls.proofs.step.Statement.{statement}
 use Rattle.calls.proofs.step.Tie as tie
@@ -16,15 +17,20 @@ record-read c = c .before .before .before
 abbrev alone : tie.After-slice-known5 → tie.After-step-alone
 alone c = c .before .before .before .before
 
+-- what the host keeps when the function is entered
+abbrev kept : tie.Start → HostState
+kept s =
+    let a = s .args in
+    record { numbers = now (a .numbers); counts = now (a .counts); memory = record { journal = now (a .journal); unfinished = now (a .unfinished); frames = now (a .frames) } }
+
 returns : tie.Need-returns
 returns c =
     let matched = c .before .before .before in
     let stepped = alone (matched .before .before) in
     let read = record-read stepped in
     let start = entry read in
-    let a = start .args in
-    by-record (now (a .numbers)) (now (a .counts)) (a .e) (now (a .journal)) (now (a .unfinished)) (now (a .frames)) (start .pre .1) (read .record-of .ensures)
-    (put-after (now (a .numbers)) (now (a .counts)) _ (a .e) (now (a .journal)) (now (a .unfinished)) (now (a .frames)) (start .pre .0) (stepped .step-alone .ensures) (matched .look .given .1) (c .leave .ensures .0) (c .leave .ensures .1))
+    by-record (kept start) (start .args .e) (start .pre .1) (read .record-of .ensures)
+    (put-after (kept start) _ (start .args .e) (stepped .step-alone .ensures) (start .pre .0) (matched .look .given .1) (c .leave .ensures .0) (c .leave .ensures .1))
 
 returns-2 : tie.Need-returns-2
 returns-2 c =
@@ -35,9 +41,8 @@ returns-2 c =
     let stepped = alone (matched .before .before) in
     let read = record-read stepped in
     let start = entry read in
-    let a = start .args in
-    by-record (now (a .numbers)) (now (a .counts)) (a .e) (now (a .journal)) (now (a .unfinished)) (now (a .frames)) (start .pre .1) (read .record-of .ensures)
-    (by-decide (now (a .numbers)) (now (a .counts)) _ (a .e) (now (a .journal)) (now (a .unfinished)) (now (a .frames)) (stepped .step-alone .ensures) (matched .look2 .given .1) (decided .decide .ensures))
+    by-record (kept start) (start .args .e) (start .pre .1) (read .record-of .ensures)
+    (by-decide (kept start) _ (start .args .e) (stepped .step-alone .ensures) (matched .look2 .given .1) (decided .decide .ensures))
 
 pub step-spec : {M : Type 1} → statement M
 step-spec =

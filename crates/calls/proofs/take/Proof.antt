@@ -3,6 +3,7 @@
 use borrow.Author.Needs.{needs}
 use native.Mathlib.Omega.{arith}
 use denote.Ref.{now}
+use Rattle.calls.specs.Calls.{TakeState}
 use Rattle.calls.proofs.Ways.{narrow-taken, taken-nowhere, taken-there}
 use Rattle.calls.proofs.take.Statement.{statement}
 use Rattle.calls.proofs.take.Tie as tie
@@ -14,17 +15,21 @@ entry c = let past = c .before .before in past .before .before .before
 abbrev taken : tie.After-booked → tie.After-take
 taken c = let back = c .before .before .before in back .before .before
 
+-- what the taking may write
+abbrev lent : tie.Start → TakeState
+lent s = let a = s .args in record { counts = now (a .counts); journal = now (a .journal); buffer = now (a .buffer) }
+
 returns : tie.Need-returns
 returns c =
-    let a = c .before .before .before .before .args in
-    taken-nowhere (now (a .numbers)) (now (a .counts)) (a .line) (now (a .journal)) (now (a .buffer)) (omega arith) (c .in-numbers .ensures)
+    let start = c .before .before .before .before in
+    taken-nowhere (now (start .args .numbers)) (start .args .line) (lent start) (omega arith) (c .in-numbers .ensures)
 
 cast-put-used : tie.Need-cast-put-used
 cast-put-used c =
     let took = taken (c .before .before) in
     let ledger = took .before .before .before in
-    let a = entry ledger .args in
-    let fits = narrow-taken (now (a .numbers)) (now (a .counts)) (a .line) (now (a .journal)) (now (a .buffer)) _ (took .take .ensures .result) (ledger .ledger-of .ensures .narrow) in
+    let start = entry ledger in
+    let fits = narrow-taken (now (start .args .numbers)) (start .args .line) (lent start) _ (took .take .ensures .result) (ledger .ledger-of .ensures .narrow) in
     record { fits = omega (arith, fits) }
 
 returns-2 : tie.Need-returns-2
@@ -32,8 +37,8 @@ returns-2 c =
     let put = c .before in
     let took = taken (put .before .before .before) in
     let ledger = took .before .before .before in
-    let a = entry ledger .args in
-    taken-there (now (a .numbers)) (now (a .counts)) (a .line) (now (a .journal)) (now (a .buffer)) (omega arith) (ledger .ledger-of .ensures .result) (took .take .ensures) (c .taking-in-numbers .ensures) (put .put-used .ensures)
+    let start = entry ledger in
+    taken-there (now (start .args .numbers)) (start .args .line) (lent start) (omega arith) (ledger .ledger-of .ensures .result) (took .take .ensures) (c .taking-in-numbers .ensures) (put .put-used .ensures)
 
 pub take-spec : {M : Type 1} → statement M
 take-spec =

@@ -7,20 +7,20 @@ use Rattle.room.specs.Room.{todaysShares}
 use Rattle.journal.specs.declared.Ledger.{Ledger}
 use Rattle.line.specs.declared.Line.{Line}
 use Rattle.looking.specs.declared.Event.{Event}
-use Rattle.receiving.specs.Steps.{memoryOf, stepOf}
+use Rattle.receiving.specs.Steps.{stepOf}
 use Rattle.receiving.specs.Alone.{decideOf}
 use Rattle.receiving.specs.declared.Stepped.{Stepped}
 use Rattle.numbers.specs.Plain.{withLine, ledgerOf, withSerial, withUsed, inNumbers}
 use Rattle.numbers.specs.declared.Answered.{Answered}
-use Rattle.calls.specs.Calls.{putBack, Called}
+use Rattle.calls.specs.Calls.{HostState, putBack, Called}
 
 -- the step alone, past 40 to 42, of a line with this record
-abbrev pub Stepping : List ℕ → List ℕ → Line → Event → List ℕ → List ℕ → List ℕ → Answered → List ℕ → List ℕ → List ℕ → List ℕ → List ℕ → Type 0
-Stepping ns us l e j u f r ns′ us′ j′ u′ f′ = Called (putBack ns us (e .line) (stepOf todaysShares l (ledgerOf ns us) e (memoryOf j u f))) r ns′ us′ j′ u′ f′
+abbrev pub Stepping : HostState → Line → Event → Answered → HostState → Type 0
+Stepping s l e r t = Called (putBack s (e .line) (stepOf todaysShares l (ledgerOf (s .numbers) (s .counts)) e (s .memory))) r t
 
 -- the deciding of a message that n bytes of its frame complete
-abbrev pub Deciding : List ℕ → List ℕ → Line → Event → ℕ → List ℕ → List ℕ → List ℕ → Answered → List ℕ → List ℕ → List ℕ → List ℕ → List ℕ → Type 0
-Deciding ns us l e n j u f r ns′ us′ j′ u′ f′ = Called (putBack ns us (e .line) (decideOf todaysShares l (ledgerOf ns us) e n (memoryOf j u f))) r ns′ us′ j′ u′ f′
+abbrev pub Deciding : HostState → Line → Event → ℕ → Answered → HostState → Type 0
+Deciding s l e n r t = Called (putBack s (e .line) (decideOf todaysShares l (ledgerOf (s .numbers) (s .counts)) e n (s .memory))) r t
 
 -- the outcome of a decision in the numbers, where its bytes in use are a number of 32 bits
 abbrev pub Narrow : Ledger → Type 0

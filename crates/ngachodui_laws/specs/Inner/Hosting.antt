@@ -9,17 +9,17 @@ use Rattle.answers.specs.declared.Answer.{Answer}
 use Rattle.gateway.specs.Events.{AfterEvent, AfterTake}
 use Rattle.numbers.specs.Plain.{replyByte, inNumbers}
 use Rattle.numbers.specs.declared.Answered.{Answered}
-use Rattle.calls.specs.Calls.{AfterCall}
+use Rattle.calls.specs.Calls.{AfterCall, TakeState}
 use Rattle.promises.specs.Machine.{Response, GatewayItem}
 use Rattle.ngachodui_laws.specs.Hosting.{gatewayOf, Ordered}
 use Rattle.ngachodui_laws.specs.HostRuns.{HostResponse}
 
 -- an event on a host's numbers is the gateway's event: the numbers after it stand for the gateway after it, answer and memory are its, and the numbers are in order
 pub record Hosts (c : AfterCall) (x : AfterEvent) : Type 0 where
-  pub gateway : gatewayOf (c .numbers) (c .counts) ≡ x .handled .gateway
+  pub gateway : gatewayOf (c .state .numbers) (c .state .counts) ≡ x .handled .gateway
   pub answer : c .answered ≡ inNumbers (x .handled .answer)
-  pub memory : c .memory ≡ x .memory
-  pub ordered : Ordered (c .numbers) (c .counts)
+  pub memory : c .state .memory ≡ x .memory
+  pub ordered : Ordered (c .state .numbers) (c .state .counts)
 
 -- any answer of the gateway in plain numbers: of its values, which only 8 has, the first is the text's length and the second its serial
 abbrev pub answerInNumbers : Answer → Answered
@@ -33,12 +33,12 @@ answerInNumbers a = record {
 }
 
 -- a taking on a host's numbers is the gateway's taking
-pub record HostsTaking (ns us′ j′ b′ : List ℕ) (r : Answered) (x : AfterTake) : Type 0 where
-  pub gateway : gatewayOf ns us′ ≡ x .handled .gateway
+pub record HostsTaking (ns : List ℕ) (t : TakeState) (r : Answered) (x : AfterTake) : Type 0 where
+  pub gateway : gatewayOf ns (t .counts) ≡ x .handled .gateway
   pub answer : r ≡ answerInNumbers (x .handled .answer)
-  pub journal : j′ ≡ x .journal
-  pub buffer : b′ ≡ x .buffer
-  pub ordered : Ordered ns us′
+  pub journal : t .journal ≡ x .journal
+  pub buffer : t .buffer ≡ x .buffer
+  pub ordered : Ordered ns (t .counts)
 
 -- what a host sees of the gateway's response, and of an item with its response
 abbrev pub inNumbersOf : Response → HostResponse

@@ -2,6 +2,7 @@
 -- Assumes nothing.
 use borrow.Author.Needs.{needs}
 use denote.Ref.{now}
+use Rattle.calls.specs.Calls.{HostState}
 use Rattle.replaying.proofs.Ways.{as-kind}
 use Rattle.replaying.proofs.turns.event.Statement.{statement}
 use Rattle.replaying.proofs.turns.event.Tie as tie
@@ -22,17 +23,23 @@ seconds-kind c = c .before .before .before .before .before .before .before
 abbrev start : tie.After-slice-known3 → tie.Start
 start c = c .before .before .before
 
+-- what the call is lent
+abbrev lent : tie.Start → HostState
+lent s =
+    let a = s .args in
+    record { numbers = now (a .numbers); counts = now (a .counts); memory = record { journal = now (a .journal); unfinished = now (a .unfinished); frames = now (a .frames) } }
+
 returns : tie.Need-returns
 returns c =
     let k = byte-kind (byte c) in
-    let a = start (k .before .before) .args in
-    as-kind (now (a .numbers)) (now (a .counts)) (a .e) (now (a .journal)) (now (a .unfinished)) (now (a .frames)) (k .kind .given .1) (byte c .byte .ensures)
+    let s = start (k .before .before) in
+    as-kind (lent s) (s .args .e) (k .kind .given .1) (byte c .byte .ensures)
 
 returns-2 : tie.Need-returns-2
 returns-2 c =
     let k = seconds-kind (seconds c) in
-    let a = start (k .before .before) .args in
-    as-kind (now (a .numbers)) (now (a .counts)) (a .e) (now (a .journal)) (now (a .unfinished)) (now (a .frames)) (k .kind2 .given .1) (seconds c .seconds .ensures)
+    let s = start (k .before .before) in
+    as-kind (lent s) (s .args .e) (k .kind2 .given .1) (seconds c .seconds .ensures)
 
 pub event-spec : {M : Type 1} → statement M
 event-spec =
