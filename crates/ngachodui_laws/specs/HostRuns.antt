@@ -11,7 +11,7 @@ use Rattle.serial.specs.Serial.{event, taking, annotate, final, Every}
 use Rattle.promises.specs.Machine.{State, GatewayItem, onLine, May}
 use Rattle.promises.specs.Runs.{RightSizes}
 use Rattle.layout.specs.Layout.{freshNumbers}
-use Rattle.calls.specs.Calls.{HostState, AfterCall, callOf, TakeState, takingOf}
+use Rattle.calls.specs.Calls.{HostState, callOf, TakeState, takingOf}
 use Rattle.ngachodui_laws.specs.Hosting.{gatewayOf, Ordered}
 use Rattle.numbers.specs.declared.Answered.{Answered}
 
@@ -35,11 +35,8 @@ abbrev pub lentOf : HostState → List ℕ → TakeState
 lentOf s b = record { counts = s .counts; journal = s .memory .journal; buffer = b }
 
 -- an event is a call of `ngachodui_byte` or `ngachodui_seconds`, a taking one of `ngachodui_take`: what their contracts say
-abbrev pub afterCall : AfterCall → HostResponse × HostState
-afterCall c = (record { answered = c .answered; buffer = [] }, c .state)
-
 abbrev pub hostStep : HostState → GatewayItem → HostResponse × HostState
-hostStep s (event i k) = afterCall (callOf s (onLine i k))
+hostStep s (event i k) = let c = callOf s (onLine i k) in (record { answered = c .answered; buffer = [] }, c .state)
 hostStep s (taking i b) =
     let t = takingOf (s .numbers) i (lentOf s b) in (
       record { answered = t .answered; buffer = t .state .buffer },
