@@ -2,7 +2,7 @@
  *
  * Analyzers send frames (ASTM E1381) with records (E1394) down eight serial lines. The host hands
  * each byte that comes in, and each second that passes, to the library; the library says what it
- * did, by a number of document 01's table, and which byte to send back. Whole messages wait in one
+ * did, by the number of an answer, and which byte to send back. Whole messages wait in one
  * journal until the host takes them.
  *
  * The library keeps nothing between calls, allocates nothing, and calls nothing but memcpy, memmove
@@ -91,7 +91,7 @@ enum {
 
 /* ---- Answers ---- */
 
-/* What an event or a taking is answered, by the numbers of document 01. With 1 to 4 the byte to send
+/* What an event or a taking is answered, by number: 22 is rule A22 of docs/RULES.md. With 1 to 4 the byte to send
  * back is ACK (06), with 20 to 31 it is NAK (15), and with the others there is none. */
 enum ngachodui_number {
     NGACHODUI_NOTHING = 0,          /* the byte was ignored or collected, or the seconds were counted */
@@ -230,7 +230,7 @@ NGACHODUI_FACT(sizeof(ngachodui_layout) == 24);
 ngachodui_layout ngachodui_sizes(void);
 
 /* Makes every line neutral with next number 1 and serial 0, and the journal empty; the memories may
- * hold anything. Call it once, before all else; later it forgets every message that waits. */
+ * hold anything. Call it once, before all else; later it forgets every message that waits. [E3] */
 void ngachodui_fresh(ngachodui_numbers *numbers, ngachodui_counts *counts);
 
 /* A byte has come in on a line.
@@ -248,7 +248,7 @@ void ngachodui_fresh(ngachodui_numbers *numbers, ngachodui_counts *counts);
  *            refuses frames until the transfer ends
  *   3, 21 to 29   the frame's last byte; the line waits, its collected and second counts 0
  *   20, 40 to 43  nothing
- * 43 leaves the line inside its frame; 30 seconds free it. */
+ * 43 leaves the line inside its frame; 30 seconds free it. [E5, E6, E7, O3, O4] */
 ngachodui_answered ngachodui_byte(uint8_t line, uint8_t byte,
                                   ngachodui_numbers *numbers, ngachodui_counts *counts,
                                   uint8_t *journal, size_t journal_length,
@@ -260,7 +260,7 @@ ngachodui_answered ngachodui_byte(uint8_t line, uint8_t byte,
  * Answers 0, 7, and 40, 41, 42 in this order. 0 changes the line's second count, and nothing on a
  * neutral line; 7 makes the line neutral, as after 5; the others change nothing. The lines have no
  * clock in common: tell each one, as often as is convenient, at least every few seconds while its
- * transfer is open. */
+ * transfer is open. [E8, E9, E10] */
 ngachodui_answered ngachodui_seconds(uint8_t line, uint8_t seconds,
                                      ngachodui_numbers *numbers, ngachodui_counts *counts,
                                      uint8_t *journal, size_t journal_length,
@@ -273,7 +273,7 @@ ngachodui_answered ngachodui_seconds(uint8_t line, uint8_t seconds,
  * buffer are written and the rest keeps its bytes; later messages move up in the journal, and the
  * line's used count and the bytes in use fall. The others change nothing. Serials count a line's
  * messages, so the host can see that none is missing. A buffer of NGACHODUI_TEXT_LIMIT bytes is
- * never too short. */
+ * never too short. [O5, J11, J12] */
 ngachodui_answered ngachodui_take(uint8_t line,
                                   const ngachodui_numbers *numbers, ngachodui_counts *counts,
                                   uint8_t *journal, size_t journal_length,
@@ -331,19 +331,19 @@ static inline ngachodui_answered ngachodui_on_take(ngachodui_gateway *gateway, u
  * refused, it keeps all its bytes. 46 comes before 47. */
 
 /* Whether a text is a message: 1 to 4,000 allowed bytes, records ended by CR from H to L, in an order
- * and with sequence numbers as document 01 has them. */
+ * and with sequence numbers by the rules R1 to R11 (docs/RULES.md). [R1, R11] */
 bool ngachodui_is_message(const uint8_t *text, size_t text_length);
 
 /* Cuts a message into the frames that send it: for each record pieces of 240 bytes, the last with
  * ETX, those before it with ETB, numbered from 1. To send it: ENQ, then these bytes, then EOT, with
  * an ACK from the other side after ENQ and after each frame. 46: the text is no message. The length is
- * the text's and 7 for each frame: at most NGACHODUI_CUT_LIMIT. */
+ * the text's and 7 for each frame: at most NGACHODUI_CUT_LIMIT. [C2, C3, C4, C6] */
 ngachodui_made ngachodui_cut(const uint8_t *text, size_t text_length, uint8_t *out, size_t out_length);
 
 /* Reads a message: each record's type letter, where it starts in the text, its length without CR, and
  * its owner, by number from 1, or 0 where it has none (H and L). `length` is the number of records.
  * 46: the text is no message. 47: one of the four has fewer slots than the message has records;
- * NGACHODUI_RECORDS_LIMIT are always enough. The lengths count slots, not bytes. */
+ * NGACHODUI_RECORDS_LIMIT are always enough. The lengths count slots, not bytes. [R13, R14] */
 ngachodui_made ngachodui_read(const uint8_t *text, size_t text_length,
                               uint8_t *types, size_t types_length,
                               uint16_t *offsets, size_t offsets_length,
@@ -351,10 +351,10 @@ ngachodui_made ngachodui_read(const uint8_t *text, size_t text_length,
                               uint16_t *owners, size_t owners_length);
 
 /* Writes a text so that it can stand in a field: | as &F&, ^ as &S&, \ as &R&, & as &E&. Never 46. At
- * most three times the text's length. */
+ * most three times the text's length. [R19] */
 ngachodui_made ngachodui_escape(const uint8_t *text, size_t text_length, uint8_t *out, size_t out_length);
 
-/* The way back. 46: a | \ or ^ stands there, or an & that begins none of the four escapes. */
+/* The way back. 46: a | \ or ^ stands there, or an & that begins none of the four escapes. [R18] */
 ngachodui_made ngachodui_unescape(const uint8_t *component, size_t component_length,
                                   uint8_t *out, size_t out_length);
 

@@ -1,8 +1,8 @@
-/* The gateway of document 01 in plain C: no proofs, written from the document alone. It is the
+/* The gateway in plain C: no proofs, written from the requirements alone. It is the
  * yardstick for the proved gateway: a second reading of the rules, and a measure of speed.
  *
  * Nothing is allocated and nothing is kept between calls but what the caller lends. Every call
- * is answered with a number of document 01's table; a refusal (40 to 47) changes nothing. */
+ * is answered with its number; a refusal (40 to 47) changes nothing. */
 #ifndef PLAIN_BASELINE_H
 #define PLAIN_BASELINE_H
 
@@ -27,7 +27,7 @@ enum {
     PLAIN_NO_REPLY = -1
 };
 
-/* The answers, by document 01's numbers. */
+/* The answers, by their numbers. */
 enum plain_number {
     PLAIN_NOTHING = 0,            /* ignored, collected, seconds counted; also success of the text functions */
     PLAIN_OPENED = 1,

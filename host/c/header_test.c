@@ -1,5 +1,5 @@
 /* Calls every function of include/ngachodui.h once or more and compares what it answers and leaves with
- * document 01's rules. It says what differs, and fails if anything does. Right calls go through the functions
+ * the rules of docs/RULES.md. It says what differs, and fails if anything does. Right calls go through the functions
  * over a whole gateway, calls with a wrong size through the library's own. It is C and C++. */
 #define _XOPEN_SOURCE 600 /* makecontext */
 #include <stdio.h>

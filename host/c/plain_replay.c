@@ -1,4 +1,4 @@
-/* Replays traces through the plain gateway and writes document 01's listing.
+/* Replays traces through the plain gateway and writes their listings.
  *
  *     plain_replay < TRACE
  *     plain_replay TRACE...

@@ -1,4 +1,4 @@
--- The list of all answers: the paper's number and values tell the answer, and what a test finds of each in the list it finds of every answer; and what holds of every objection's number.
+-- The list of all answers: number and values tell the answer, and what a test finds of each in the list it finds of every answer; and what holds of every objection's number.
 -- Assumes nothing.
 use mathlib.Core.Path.{_≡_, refl, sym, ap, ap₂, subst, _∙_}
 use mathlib.Core.Bool.{Bool, true, false, cond, _&&_}

@@ -1,4 +1,4 @@
--- The numbers of document 01's table, the values that an answer carries, and the reply.
+-- The number of each answer, the values that it carries, and the reply.
 -- Assumes nothing.
 use Prim.Native.Nat.{ℕ}
 use mathlib.Core.Bool.{cond}
@@ -9,7 +9,7 @@ use Rattle.answers.specs.declared.Answer.the-variants.{Nothing, Opened, 
 use Rattle.answers.specs.declared.Reply.{Reply}
 use Rattle.answers.specs.declared.Reply.the-variants.{Silence, Byte}
 
--- the answer's number
+-- the answer's number [O2]
 abbrev pub numberOf : Answer → ℕ
 numberOf Nothing = 0
 numberOf Opened = 1
@@ -41,7 +41,7 @@ numberOf BufferShort = 45
 numberOf Malformed = 46
 numberOf NotFitting = 47
 
--- what it carries: an entry taken has its text's length and its serial
+-- what it carries: an entry taken has its text's length and its serial [A8, O2]
 abbrev pub valuesOf : Answer → List ℕ
 valuesOf Nothing = []
 valuesOf Opened = []
@@ -73,13 +73,13 @@ valuesOf BufferShort = []
 valuesOf Malformed = []
 valuesOf NotFitting = []
 
--- the bytes that are sent back
+-- the bytes that are sent back [O1]
 abbrev pub ack : ℕ
 ack = 0x06
 
 abbrev pub nak : ℕ
 nak = 0x15
 
--- 1 to 4 are acknowledged, 20 to 31 are not, and the others get no reply
+-- 1 to 4 are acknowledged, 20 to 31 are not, and the others get no reply [O1]
 unfoldable pub replyOf : ℕ → Reply
 replyOf n = cond (ltb n 1) Silence (cond (leb n 4) (Byte ack) (cond (ltb n 20) Silence (cond (leb n 31) (Byte nak) Silence)))

@@ -1,4 +1,4 @@
-// The answers of document 01, their numbers, and the byte that is sent back with each.
+// The answers, their numbers, and the byte that is sent back with each.
 ghost use mathlib.Core.Path.{_≡_};
 ghost use Rattle.answers.specs.Paper.{numberOf, replyOf};
 
@@ -6,7 +6,7 @@ pub const ACK: u8 = 0x06;
 
 pub const NAK: u8 = 0x15;
 
-// The answers of document 01's table, in its order; `number` gives each its number.
+// The answers in the order of their numbers, which are those of their rules: 22 is [A22].
 pub enum Answer {
     Nothing,
     Opened,
@@ -46,7 +46,7 @@ pub enum Reply {
 }
 
 impl Answer {
-    // The answer's number in document 01's table.
+    // The answer's number.
     pub fn number(self) -> u8
         ensures { λ r. ⌜ r ≡ numberOf self ⌝ }
     {

@@ -1,4 +1,4 @@
--- What the table of bytes says of document 01's own count.
+-- How many bytes the table allows: the count of rule F5.
 -- Assumes nothing.
 use mathlib.Core.Path.{_≡_, refl}
 use Rattle.memory.specs.Tests.{count}

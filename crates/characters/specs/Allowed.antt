@@ -6,7 +6,7 @@ use mathlib.Core.List.{List, [], _∷_}
 use Rattle.memory.specs.Tests.{is, between}
 use Rattle.characters.specs.Control.{cr}
 
--- 07, 09, 0B, 0C, 0D, 20 to 7E, 80 to FE
+-- 07, 09, 0B, 0C, 0D, 20 to 7E, 80 to FE [F5]
 unfoldable pub allowed : ℕ → Bool
 allowed b = is 0x07 b || is 0x09 b || is 0x0b b || is 0x0c b || is 0x0d b || between 0x20 0x7e b || between 0x80 0xfe b
 
@@ -32,6 +32,6 @@ abbrev pub classesFrom : ℕ → ℕ → List ℕ
 classesFrom i zero = []
 classesFrom i (suc n) = classOf i ∷ classesFrom (suc i) n
 
--- and for all 256
+-- and for all 256 [F5]
 unfoldable pub classTable : List ℕ
 classTable = classesFrom 0 256

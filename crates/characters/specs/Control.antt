@@ -1,4 +1,4 @@
--- The control bytes of E1381 that analyzers send: those that stand in a frame, and ENQ and EOT, which begin and end a transfer.
+-- The control bytes of E1381 that analyzers send: those that stand in a frame, and ENQ and EOT, which begin and end a transfer. [E5, F1]
 -- Assumes nothing.
 use Prim.Native.Nat.{ℕ}
 

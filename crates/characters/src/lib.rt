@@ -21,7 +21,7 @@ pub const CR: u8 = 0x0d;
 
 pub const ETB: u8 = 0x17;
 
-// A class for each of the 256 byte values, sixteen to a row: '+' where E1394 allows the byte in a text, '.' for CR, which is allowed too
+// The class of every byte, 256 of them, sixteen to a row: '+' where E1394 allows the byte in a text, '.' for CR, which is allowed too
 // and ends a record, '-' where the byte is not allowed.
 const CLASSES: [u8; 256] = *b"\
     -------+-+-++.--\

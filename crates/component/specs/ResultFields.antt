@@ -1,4 +1,4 @@
--- The fields of a result record (R) that document 01 names.
+-- The fields of a result record (R) that have a name. [R15]
 -- Assumes nothing.
 use Prim.Native.Nat.{ℕ}
 use Rattle.component.specs.declared.ResultField.{ResultField}

@@ -133,7 +133,7 @@ pub twelve-cut : length (cutOf frameLimit twelve) ≡ 26
 unfolding piecesOf
 twelve-cut = cut-long frameLimit twelve (omega arith)
 
--- a piece has at most 240 bytes; a record of 240 bytes with its CR is one frame, of 241 two
+-- a piece has at most 240 bytes; with its CR a record of 240 bytes goes into one frame, of 241 into two
 pub piece-240 : pieceSize frameLimit ≡ 240
 piece-240 = refl
 

@@ -17,32 +17,32 @@ use Rattle.cutting.specs.Pieces.{Piece, piecesOf}
 use Rattle.cutting.specs.declared.Framed.{Framed}
 use Rattle.cutting.specs.declared.Framed.the-variants.{Length, Malformed, NotFitting}
 
--- the number of a message's first frame
+-- the number of a message's first frame [C3]
 abbrev pub firstNumber : ℕ
 firstNumber = 1
 
--- a frame for each piece, the first with this number; the numbers run on over the records
+-- a frame for each piece, the first with this number; the numbers run on over the records [C3]
 abbrev pub framesFrom : ℕ → List Piece → List ℕ
 framesFrom number [] = []
 framesFrom number (p ∷ ps) = frameOf number (p .end) (p .bytes) ++ framesFrom (nextNumber number) ps
 
--- the frames of a text, one behind the other
+-- the frames of a text, one behind the other [C4]
 unfoldable pub cutOf : ℕ → List ℕ → List ℕ
 cutOf limit text = framesFrom firstNumber (piecesOf limit text)
 
--- the text is a message, and the limit leaves room for a byte of it in a frame
+-- the text is a message, and the limit leaves room for a byte of it in a frame [C1]
 unfoldable pub isCuttable : ℕ → List ℕ → Bool
 isCuttable limit text = ltb aroundText limit && isMessage text
 
 abbrev pub holds : List ℕ → List ℕ → Bool
 holds out bs = leb (length bs) (length out)
 
--- the length of the frames, or why there are none
+-- the length of the frames, or why there are none [A46, A47, O6, C4]
 unfoldable pub cutAnswer : ℕ → List ℕ → List ℕ → Framed
 cutAnswer limit text out =
     unless (isCuttable limit text) Malformed (unless (holds out (cutOf limit text)) NotFitting (Length (length (cutOf limit text))))
 
--- the memory after it: the frames over its start, and unchanged where there are none
+-- the memory after it: the frames over its start, and unchanged where there are none [R21, C4]
 unfoldable pub cutIn : ℕ → List ℕ → List ℕ → List ℕ
 cutIn limit text out = cond (isCuttable limit text && holds out (cutOf limit text)) (splice out 0 (cutOf limit text)) out
 
@@ -51,7 +51,7 @@ pub record CutInto (limit : ℕ) (text out : List ℕ) (r : Framed) (out′ : Li
   pub answer : r ≡ cutAnswer limit text out
   pub after : out′ ≡ cutIn limit text out
 
--- the paper's number of each refusal
+-- the number of each refusal
 abbrev pub refusedBy : Framed → Option ℕ
 refusedBy Malformed = some 46
 refusedBy NotFitting = some 47

@@ -19,7 +19,7 @@ pub record Piece : Type 0 where
 abbrev pub piece : End → List ℕ → Piece
 piece end bytes = record { end = end; bytes = bytes }
 
--- the bytes of a frame's text within a limit: 240 of 247
+-- the bytes of a frame's text within a limit: 240 of 247 [C2]
 abbrev pub pieceSize : ℕ → ℕ
 pieceSize limit = limit - aroundText
 
@@ -55,7 +55,7 @@ abbrev pub cutAll : ℕ → List (List ℕ) → List Piece
 cutAll size [] = []
 cutAll size (r ∷ rs) = cutRecord size r ++ cutAll size rs
 
--- the pieces of a text, for frames within a limit
+-- the pieces of a text, for frames within a limit [C2]
 unfoldable pub piecesOf : ℕ → List ℕ → List Piece
 piecesOf limit text = cutAll (pieceSize limit) (recordsWithCr text)
 

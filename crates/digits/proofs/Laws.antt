@@ -1,4 +1,4 @@
--- What the numbers of frames say of document 01's own list.
+-- The numbers of frames, one behind the other, as rule F4 has them.
 -- Assumes nothing.
 use mathlib.Core.Path.{_≡_, refl}
 use mathlib.Core.List.{[], _∷_, map}

@@ -11,14 +11,14 @@ unfoldable pub total : List ℕ → ℕ
 total [] = 0
 total (b ∷ bs) = b + total bs
 
--- the check of the bytes that it counts
+-- the check of the bytes that it counts [F2]
 unfoldable pub checkOf : List ℕ → ℕ
 checkOf bs = total bs % 256
 
--- the digit of a number below 16: 0 to 9, then A to F
+-- the digit of a number below 16: 0 to 9, then A to F [F3]
 unfoldable pub hexDigit : ℕ → ℕ
 hexDigit n = cond (ltb n 10) (0x30 + n) (0x37 + n)
 
--- the two digits of a check
+-- the two digits of a check [F3]
 unfoldable pub digitsOf : ℕ → Digits
 digitsOf check = record { high = hexDigit (check / 16); low = hexDigit (check % 16) }

@@ -4,15 +4,15 @@ use Prim.Native.Nat.{ℕ, _+_, _-_, _%_}
 use mathlib.Core.Bool.{Bool}
 use Rattle.memory.specs.Tests.{between}
 
--- the largest number of a frame
+-- the largest number of a frame [F4]
 abbrev pub mostNumber : ℕ
 mostNumber = 7
 
--- the number after n
+-- the number after n [F4]
 unfoldable pub nextNumber : ℕ → ℕ
 nextNumber n = (n + 1) % (mostNumber + 1)
 
--- a number as the digit that stands in a frame, whether a byte is such a digit, and the number that it stands for
+-- a number as the digit that stands in a frame, whether a byte is such a digit, and the number that it stands for [A25]
 abbrev pub digitFor : ℕ → ℕ
 digitFor n = 0x30 + n
 

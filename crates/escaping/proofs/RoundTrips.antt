@@ -1,4 +1,4 @@
--- The two round trips, over any four different delimiters: escaping then unescaping gives the text back, and unescaping an accepted component then escaping gives that component.
+-- The two round trips, over any four different delimiters: a text that is escaped and unescaped comes back, and so does a component that is taken, unescaped and escaped.
 -- Assumes nothing.
 use mathlib.Core.Path.{_≡_, refl, sym, ap, _∙_}
 use mathlib.Core.Bool.{Bool, true, false, not, _&&_}
@@ -115,7 +115,7 @@ module _ (d : Delimiters) (good : different d ≡ true) where
   pub plain-escaped : (c t : List ℕ) → unescaped d c ≡ some t → escaped d t ≡ c
   plain-escaped c t e = back (reads d c t e)
 
--- the four delimiters that document 01 fixes
+-- the four standard delimiters
 pub standard-different : different standard ≡ true
 unfolding different
 standard-different = refl

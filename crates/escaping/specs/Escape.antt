@@ -16,21 +16,22 @@ use Rattle.escaping.specs.declared.Put.the-variants.{Done, Malformed, No
 unfoldable pub escapeOf : Delimiters → ℕ → List ℕ
 escapeOf d b = cond (eqb (letterFor d b) 0) (b ∷ []) (d .escape ∷ letterFor d b ∷ d .escape ∷ [])
 
+-- a text, byte by byte [R19, R20]
 abbrev pub escaped : Delimiters → List ℕ → List ℕ
 escaped d [] = []
 escaped d (b ∷ bs) = escapeOf d b ++ escaped d bs
 
--- the paper's number of a refusal; none where the text was put out
+-- the number of a refusal; none where the text was put out
 abbrev pub paper : Put → List ℕ
 paper (Done n) = []
 paper Malformed = 46 ∷ []
 paper NotFitting = 47 ∷ []
 
--- the answer to an escaping: its length, or 47
+-- the answer to an escaping: its length, or 47 [A47, R19]
 unfoldable pub escapeAnswer : Delimiters → List ℕ → List ℕ → Put
 escapeAnswer d text out = cond (fitsAt out 0 (escaped d text)) (Done (length (escaped d text))) NotFitting
 
--- what escaping says: the answer, and the memory after it: the escaped text at its start, the rest kept; unchanged on a refusal
+-- what escaping says: the answer, and the memory after it: the escaped text at its start, the rest kept; unchanged on a refusal [R21]
 pub record Escaping (d : Delimiters) (text out : List ℕ) (r : Put) (out′ : List ℕ) : Type 0 where
   pub answer : r ≡ escapeAnswer d text out
   pub after : out′ ≡ copied out 0 (escaped d text)

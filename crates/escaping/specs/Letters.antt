@@ -15,7 +15,7 @@ pub record Lettered : Type 0 where
 abbrev pub lettered : ℕ → ℕ → Lettered
 lettered letter delimiter = record { letter = letter; delimiter = delimiter }
 
--- F for the field delimiter, S for the component's, R for the repeat's, E for the escape's
+-- F for the field delimiter, S for the component's, R for the repeat's, E for the escape's [R17]
 abbrev pub escapes : Delimiters → List Lettered
 escapes d = lettered 0x46 (d .field) ∷ lettered 0x53 (d .component) ∷ lettered 0x52 (d .repeat) ∷ lettered 0x45 (d .escape) ∷ []
 

@@ -24,7 +24,7 @@ front (some b) none = none
 front (some b) (some t) = some (b ∷ t)
 
 -- the text that a component stands for; none where it is refused.
--- Behind an escape byte come a letter and the escape byte again
+-- Behind an escape byte come a letter and the escape byte again [R18, R20]
 abbrev mutual
   pub unescaped : Delimiters → List ℕ → Option (List ℕ)
   unescaped d [] = some []
@@ -35,7 +35,7 @@ abbrev mutual
   behindEscape d (l ∷ []) = none
   behindEscape d (l ∷ b ∷ bs) = cond (is (d .escape) b) (front (meant d l) (unescaped d bs)) none
 
--- the answer to an unescaping: 46 where the component is refused, then 47 where the memory is too short, else the length
+-- the answer to an unescaping: 46 where the component is refused, then 47 where the memory is too short, else the length [A46, A47, O6, R18]
 abbrev pub answerTo : Option (List ℕ) → List ℕ → Put
 answerTo none out = Malformed
 answerTo (some t) out = cond (fitsAt out 0 t) (Done (length t)) NotFitting
@@ -51,7 +51,7 @@ writtenOver (some t) out = copied out 0 t
 unfoldable pub unescapedOver : Delimiters → List ℕ → List ℕ → List ℕ
 unescapedOver d c out = writtenOver (unescaped d c) out
 
--- what unescaping says: the answer, and the memory after it
+-- what unescaping says: the answer, and the memory after it [R21]
 pub record Unescaping (d : Delimiters) (c out : List ℕ) (r : Put) (out′ : List ℕ) : Type 0 where
   pub answer : r ≡ unescapeAnswer d c out
   pub after : out′ ≡ unescapedOver d c out

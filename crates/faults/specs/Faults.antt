@@ -1,4 +1,4 @@
--- The first fault of a text that is no message: its kind, and its record's place, counted from 1 (document 02, request [1]).
+-- The first fault of a text that is no message: its kind, and its record's place, counted from 1 (request [1]).
 -- Assumes nothing.
 use Prim.Native.Nat.{ℕ, _+_}
 use mathlib.Core.List.{List, [], _∷_}
@@ -60,7 +60,7 @@ unfoldable pub recordsFault : Delimiters → List (List ℕ) → Checked
 recordsFault d [] = Faulty NoHeader 1
 recordsFault d (r ∷ rs) = after (headerStep d (none rs) r) 1 (λ t. restFault d t 2 rs)
 
--- a text: at most the limit long and of allowed bytes, else it has no records; then not empty, ended by CR, and its records front to back
+-- a text: at most the limit long and of allowed bytes, else it has no records; then not empty, ended by CR, and its records front to back [R22]
 unfoldable pub fault : Delimiters → List ℕ → Checked
 fault d text =
     unless (leb (length text) messageLimit && all allowed text) NotText
@@ -77,7 +77,7 @@ isFaultless (Faulty f place) = false
 abbrev pub faultOf : List ℕ → Checked
 faultOf text = fault standard text
 
--- the number of a fault's kind in document 02, request [1]
+-- the number of a fault's kind in request [1] [R22]
 abbrev pub faultNumber : Fault → ℕ
 faultNumber NoHeader = 50
 faultNumber UnknownType = 51
@@ -85,7 +85,7 @@ faultNumber Misplaced = 52
 faultNumber WrongNumber = 53
 faultNumber Unended = 54
 
--- number and values of a refusal there; none for a message. Document 01 says 30 on a line and 46 elsewhere, for each of them.
+-- number and values of a refusal there; none for a message. Today each of them is 30 on a line and 46 elsewhere.
 abbrev pub paper : Checked → List ℕ
 paper Message = []
 paper NotText = 46 ∷ []

@@ -26,7 +26,7 @@ typeIn d r = typeOf (fieldOf (d .field) 1 r)
 abbrev pub numberIn : Delimiters → List ℕ → ℕ
 numberIn d r = numberOf (fieldOf (d .field) 2 r)
 
--- a record may come next: its type is known and may follow the last other record, and its number is the next of its count
+-- a record may come next: its type is known and may follow the last other record, and its number is the next of its count [R6, R8]
 abbrev pub isNext : Counts → Letter → ℕ → Bool
 isNext s Unknown n = false
 isNext s (Known k) n = mayFollow (s .other) k && eqb n (countOf s k + 1)
@@ -36,20 +36,20 @@ abbrev pub nextCounts : Counts → Letter → ℕ → Counts
 nextCounts s Unknown n = s
 nextCounts s (Known k) n = counted s k n
 
--- the records behind the header: each may come next, and at the end the last other record is L; as nothing may follow L, it stands last
+-- the records behind the header: each may come next, and at the end the last other record is L; as nothing may follow L, it stands last [R3]
 abbrev pub areNext : Delimiters → Counts → List (List ℕ) → Bool
 areNext d s [] = isTerminator (s .other)
 areNext d s (r ∷ rs) = isNext s (typeIn d r) (numberIn d r) && areNext d (nextCounts s (typeIn d r) (numberIn d r)) rs
 
--- all records: a header, and those behind it
+-- all records: a header, and those behind it [R3]
 abbrev pub areRecords : Delimiters → List (List ℕ) → Bool
 areRecords d [] = false
 areRecords d (r ∷ rs) = isHeader d r && areNext d started rs
 
--- a text is a message by these delimiters
+-- a text is a message by these delimiters [R1]
 unfoldable pub isMessageBy : Delimiters → List ℕ → Bool
 isMessageBy d text = between 1 messageLimit (length text) && all allowed text && endsWithCr text && areRecords d (records text)
 
--- a text is a message, by the delimiters in force: today the standard ones
+-- a text is a message, by the delimiters in force: today the standard ones [R1, R11]
 abbrev pub isMessage : List ℕ → Bool
 isMessage text = isMessageBy standard text

@@ -1,4 +1,4 @@
--- When a frame is ended, in document 01's own words.
+-- When a frame is ended, in the words of rule A21.
 -- Assumes nothing.
 use mathlib.Core.Path.{_≡_, sym, _∙_}
 use mathlib.Core.Bool.{true, false, false≢true}

@@ -22,15 +22,15 @@ abbrev pub endByte : End → ℕ
 endByte Etb = etb
 endByte Etx = etx
 
--- from the number digit to ETB or ETX: what the check counts
+-- from the number digit to ETB or ETX: what the check counts [F1]
 unfoldable pub bodyOf : ℕ → End → List ℕ → List ℕ
 bodyOf number end text = digitFor number ∷ (text ++ (endByte end ∷ []))
 
--- the two check digits of a body, CR, LF
+-- the two check digits of a body, CR, LF [F1]
 unfoldable pub tailOf : List ℕ → List ℕ
 tailOf body = digitsOf (checkOf body) .high ∷ digitsOf (checkOf body) .low ∷ cr ∷ lf ∷ []
 
--- what is collected of a frame, and the frame: STX in front of that
+-- what is collected of a frame, and the frame: STX in front of that [F1]
 unfoldable pub collectedOf : ℕ → End → List ℕ → List ℕ
 collectedOf number end text = bodyOf number end text ++ tailOf (bodyOf number end text)
 
@@ -54,7 +54,7 @@ pub record FramePut (number : ℕ) (end : End) (text out : List ℕ) (r : Writte
   pub answer : r ≡ putOf number text out
   pub after : out′ ≡ putIn number end text out
 
--- the paper's number of each refusal
+-- the number of each refusal
 abbrev pub refusedBy : Written → Option ℕ
 refusedBy Malformed = some 46
 refusedBy NotFitting = some 47

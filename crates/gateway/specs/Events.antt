@@ -23,7 +23,7 @@ use Rattle.receiving.specs.Steps.{Memory, AfterStep, stepOf}
 use Rattle.gateway.specs.declared.Gateway.{Gateway}
 use Rattle.gateway.specs.declared.Handled.{Handled}
 
--- every line fresh, the journal empty
+-- every line fresh, the journal empty [E3]
 abbrev pub freshGateway : Gateway
 freshGateway = record { lines = replicate lines freshLine; ledger = freshLedger }
 
@@ -38,7 +38,7 @@ pub record AfterEvent : Type 0 where
   pub handled : Handled
   pub memory : Memory
 
--- the step's outcome put back into the gateway
+-- the step's outcome put back into the gateway [L11]
 abbrev pub putBack : Gateway → ℕ → AfterStep → AfterEvent
 putBack g i s = record {
   handled = record {
@@ -64,7 +64,7 @@ pub record AfterTake : Type 0 where
   pub journal : List ℕ
   pub buffer : List ℕ
 
--- a taking: it sees the journal and its buffer, and no line
+-- a taking: it sees the journal and its buffer, and no line [L12]
 unfoldable pub takeOf : Gateway → ℕ → List ℕ → List ℕ → AfterTake
 takeOf g i j b = record {
   handled = record {

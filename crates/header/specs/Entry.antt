@@ -16,18 +16,18 @@ pub record Entry : Type 0 where
   pub serial : ℕ
   pub text : List ℕ
 
--- the bytes of an entry, and how many they are
+-- the bytes of an entry, and how many they are [J1]
 unfoldable pub encode : Entry → List ℕ
 encode e = header (e .line) (length (e .text)) (e .serial) ++ e .text
 
 unfoldable pub size : Entry → ℕ
 size e = entrySize (length (e .text))
 
--- a text has 1 to 4,000 bytes
+-- a text has 1 to 4,000 bytes [J9]
 abbrev pub isText : ℕ → Bool
 isText n = between 1 messageLimit n
 
--- a header of an entry that lies within n bytes: spare bit 0, a text's length, and room for all of that text
+-- a header of an entry that lies within n bytes: spare bit 0, a text's length, and room for all of that text [J9]
 abbrev pub isHead : Header → ℕ → Bool
 isHead h n = eqb (h .spare) 0 && (isText (h .count) && leb (entrySize (h .count)) n)
 

@@ -1,4 +1,4 @@
--- The paper's numbers tell the answers apart: each answer is read back from its number and values.
+-- The numbers tell the answers apart: each answer is read back from its number and values.
 -- Assumes nothing.
 use mathlib.Core.Path.{_≡_, refl, sym, ap, _∙_}
 use mathlib.Core.Bool.{cond}

@@ -1,4 +1,4 @@
--- The journal is whole exactly as document 01 says: the test of the chain, as facts.
+-- The journal is whole exactly as rule J9 says: the test of the chain, as facts.
 -- Assumes nothing.
 use mathlib.Core.Path.{_≡_, refl, sym, ap, _∙_}
 use mathlib.Core.List.{List}

@@ -1,4 +1,4 @@
--- Document 01's number for each answer, and the values that come with it.
+-- The number of each answer, and the values that come with it.
 -- Assumes nothing.
 use Prim.Native.Nat.{ℕ}
 use mathlib.Core.Bool.{Bool, true, false}

@@ -22,11 +22,11 @@ abbrev pub chainIn : ℕ → List ℕ → Option (List Entry)
 chainIn zero bs = cond (isEmpty bs) (some []) none
 chainIn (suc n) bs = cond (isEmpty bs) (some []) (cond (starts bs) (behind (first bs) (chainIn n (drop (size (first bs)) bs))) none)
 
--- the entries that bytes are a whole chain of; none where they are not. No entry is empty, so there are no more entries than bytes.
+-- the entries that bytes are a whole chain of; none where they are not. No entry is empty, so there are no more entries than bytes. [J1, J9]
 unfoldable pub entries : List ℕ → Option (List Entry)
 entries bs = chainIn (length bs) bs
 
--- the room of all entries, and of a line's
+-- the room of all entries, and of a line's [J4]
 abbrev pub sizes : List Entry → ℕ
 sizes [] = 0
 sizes (e ∷ es) = size e + sizes es
@@ -35,7 +35,7 @@ abbrev pub total : ℕ → List Entry → ℕ
 total l [] = 0
 total l (e ∷ es) = cond (eqb (e .line) l) (size e) 0 + total l es
 
--- what stands before a line's oldest entry, and the chain from that entry on
+-- what stands before a line's oldest entry, and the chain from that entry on [J11]
 abbrev pub before : ℕ → List Entry → List Entry
 before l [] = []
 before l (e ∷ es) = cond (eqb (e .line) l) [] (e ∷ before l es)

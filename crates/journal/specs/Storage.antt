@@ -15,11 +15,11 @@ use Rattle.journal.specs.declared.Ledger.{Ledger}
 use Rattle.journal.specs.declared.Verdict.{Verdict}
 use Rattle.journal.specs.declared.Storing.{Storing}
 
--- the entry that a text becomes: it gets the line's serial
+-- the entry that a text becomes: it gets the line's serial [J3]
 abbrev pub newEntry : Ledger → ℕ → List ℕ → Entry
 newEntry d l t = record { line = l; serial = getD (d .serials) l 0; text = t }
 
--- the ledger after it, by the entry's size: the serial is then advanced, and wraps
+-- the ledger after it, by the entry's size: the serial is then advanced, and wraps [J3]
 abbrev pub grownBy : Ledger → ℕ → ℕ → Ledger
 grownBy d l size = record {
   in_use = d .in_use + size;
@@ -27,11 +27,11 @@ grownBy d l size = record {
   serials = set (d .serials) l ((getD (d .serials) l 0 + 1) % serialCount);
 }
 
--- and by its text's length
+-- and by its text's length [L9]
 unfoldable pub grown : Ledger → ℕ → ℕ → Ledger
 grown d l n = grownBy d l (entrySize n)
 
--- the journal after it: the entry stands behind the bytes in use
+-- the journal after it: the entry stands behind the bytes in use [L9]
 unfoldable pub appended : Ledger → ℕ → List ℕ → List ℕ → List ℕ
 appended d l t j = splice j (d .in_use) (encode (newEntry d l t))
 

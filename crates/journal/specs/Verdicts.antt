@@ -14,7 +14,7 @@ use Rattle.journal.specs.declared.Ledger.{Ledger}
 use Rattle.journal.specs.declared.Verdict.{Verdict}
 use Rattle.journal.specs.declared.Verdict.the-variants.{Fits, NoRoom, Broken, NoLine, WrongSize, Malformed}
 
--- a text of n bytes for line l: that a length is no text's (46) is asked before the journal is looked at, since no such entry could be read back
+-- a text of n bytes for line l: that a length is no text's (46) is asked before the journal is looked at, since no such entry could be read back [O4, J6, J13]
 unfoldable pub judgeOf : Ledger → List ℕ → ℕ → ℕ → List ℕ → Verdict
 judgeOf d shares l n j =
     unless (ltb l lines) NoLine

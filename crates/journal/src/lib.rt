@@ -29,7 +29,7 @@ impl Ledger {
     }
 }
 
-// Document 01's 4, 31, 43, 40, 41 and 46.
+// 4, 31, 40, 41, 43 and 46.
 pub enum Verdict {
     Fits,
     NoRoom,
@@ -39,7 +39,7 @@ pub enum Verdict {
     Malformed,
 }
 
-// Document 01's 8 with the text's length and the serial, 44, 45, 43, 40 and 41.
+// 8 with the text's length and the serial, 40, 41, 43, 44 and 45.
 pub enum Took {
     Taken(usize, u16),
     NothingWaiting,

@@ -32,7 +32,7 @@ judged-fits : (sh : List ℕ) (d : Ledger) (l n : ℕ) (j : List ℕ) (es : List
 judged-fits sh d l n j es h line low high c =
     sym (judged-room d sh l n j line (h .long) low high true (rw (h .whole)) (le-leb (claims sh (raised (d .used) l (entrySize n))) journalSize c))
 
--- an entry that fits, header counted, in what is left of its own line's share is never refused
+-- no entry is refused that goes, with its header, into the unused part of its line's share
 pub never-refused : (sh : List ℕ) (d : Ledger) (l n : ℕ) (j : List ℕ) (es : List Entry) → Held sh d j es → l < lines → 1 ≤ n → n ≤ messageLimit
     → getD (d .used) l 0 + entrySize n ≤ getD sh l 0 → judgeOf d sh l n j ≡ Fits
 never-refused sh d l n j es h line low high s =

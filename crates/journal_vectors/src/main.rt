@@ -1,4 +1,4 @@
-// The journal run by hand: steps from the standard input, one to a line, and after each what it answered, by document 01's numbers, and what it left.
+// The journal run by hand: steps from the standard input, one to a line, and after each what it answered, by its number, and what it left.
 ghost use mathlib.Core.Path.{_≡_};
 ghost use Prim.Native.Nat.{_<_};
 ghost use Rattle.journal.specs.Answers.{verdictNumber};

@@ -4,7 +4,7 @@ use mathlib.Core.Bool.{Bool, not, _&&_}
 use lib.Dec.{eqb}
 use Rattle.kinds.specs.declared.Delimiters.{Delimiters}
 
--- the four that document 01 fixes: | \ ^ &
+-- the four that are fixed today: | \ ^ & [R2]
 abbrev pub standard : Delimiters
 standard = record { field = 0x7c; repeat = 0x5c; component = 0x5e; escape = 0x26 }
 

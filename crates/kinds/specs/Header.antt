@@ -10,7 +10,7 @@ use Rattle.kinds.specs.Kinds.{letterOf}
 use Rattle.kinds.specs.declared.Kind.the-variants.{Header}
 use Rattle.kinds.specs.declared.Delimiters.{Delimiters}
 
--- a record that begins with H and the four delimiters
+-- a record that begins with H and the four delimiters [R3]
 unfoldable pub isHeader : Delimiters → List ℕ → Bool
 isHeader d r =
     leb 5 (length r) && is (letterOf Header) (getD r 0 0) && is (d .field) (getD r 1 0) && is (d .repeat) (getD r 2 0)

@@ -11,7 +11,7 @@ use Rattle.kinds.specs.declared.Kind.the-variants.{Header, Patient, Orde
 use Rattle.kinds.specs.declared.Letter.{Letter}
 use Rattle.kinds.specs.declared.Letter.the-variants.{Known, Unknown}
 
--- H P O R Q L C M
+-- H P O R Q L C M [R5]
 abbrev pub letterOf : Kind → ℕ
 letterOf Header = 0x48
 letterOf Patient = 0x50
@@ -22,7 +22,7 @@ letterOf Terminator = 0x4c
 letterOf Comment = 0x43
 letterOf Manufacturer = 0x4d
 
--- the type that a letter names
+-- the type that a letter names [R5]
 unfoldable pub kindOf : ℕ → Letter
 kindOf b =
     cond (is (letterOf Header) b) (Known Header)
@@ -34,12 +34,12 @@ kindOf b =
     (cond (is (letterOf Comment) b) (Known Comment)
     (cond (is (letterOf Manufacturer) b) (Known Manufacturer) Unknown)))))))
 
--- the type that a record's first field names: the field is exactly the letter
+-- the type that a record's first field names: the field is exactly the letter [R5]
 unfoldable pub typeOf : List ℕ → Letter
 typeOf f = cond (eqb (length f) 1) (kindOf (getD f 0 0)) Unknown
 
--- the types that may follow a type, C and M passed over: H, P: P O Q L; O, R: O R P Q L; Q: Q P L; L: nothing.
--- C and M may follow any but L. They are passed over themselves, so their own rows are never asked.
+-- the types that may follow a type, C and M passed over: behind H and P: P O Q L; behind O and R: O R P Q L; behind Q: Q P L; behind L: nothing.
+-- C and M may follow any but L. They are passed over themselves, so their own rows are never asked. [R6, R7]
 abbrev pub followersOf : Kind → List Kind
 followersOf Header = Patient ∷ Order ∷ Query ∷ Terminator ∷ Comment ∷ Manufacturer ∷ []
 followersOf Patient = Patient ∷ Order ∷ Query ∷ Terminator ∷ Comment ∷ Manufacturer ∷ []
@@ -54,7 +54,7 @@ abbrev pub among : Kind → List Kind → Bool
 among k [] = false
 among k (x ∷ xs) = eqb (letterOf k) (letterOf x) || among k xs
 
--- k may stand where `other` is the last record that is neither C nor M
+-- k may stand where `other` is the last record that is neither C nor M [R6]
 unfoldable pub mayFollow : Kind → Kind → Bool
 mayFollow other k = among k (followersOf other)
 

@@ -7,7 +7,7 @@ use lib.ListN.{replicate}
 use Rattle.memory.specs.Sizes.{lines, journalSize, unfinishedSize, framesSize}
 use Rattle.layout.specs.declared.Layout.{Layout}
 
--- each line has so many numbers, and they start here
+-- each line has so many numbers, and they start here [H1]
 abbrev pub fields : ℕ
 fields = 8
 
@@ -40,11 +40,11 @@ serialAt = 7
 abbrev pub version : ℕ
 version = 1
 
--- the numbers of all lines, a used count for each and the bytes in use, and the three memories
+-- the numbers of all lines, a used count for each and the bytes in use, and the three memories [H1]
 abbrev pub layout : Layout
 layout = record { version = version; numbers = lines * fields; counts = lines + 1; journal = journalSize; unfinished = unfinishedSize; frames = framesSize }
 
--- a fresh line: neutral, next number 1, and the next serial 0; and the numbers of so many
+-- a fresh line: neutral, next number 1, and the next serial 0; and the numbers of so many [H2]
 abbrev pub freshLine : List ℕ
 freshLine = 0 ∷ 0 ∷ 0 ∷ 0 ∷ 1 ∷ 0 ∷ 0 ∷ 0 ∷ []
 
@@ -52,7 +52,7 @@ abbrev pub freshNumbers : ℕ → List ℕ
 freshNumbers zero = []
 freshNumbers (suc n) = freshLine ++ freshNumbers n
 
--- every line fresh, the journal empty
+-- every line fresh, the journal empty [E3]
 pub record Fresh (ns us : List ℕ) : Type 0 where
   pub numbers : ns ≡ freshNumbers lines
   pub counts : us ≡ replicate (lines + 1) 0

@@ -10,60 +10,62 @@ use Rattle.line.specs.declared.State.the-variants.{Neutral, Waiting, Ins
 use Rattle.line.specs.declared.Last.{Last}
 use Rattle.line.specs.declared.Last.the-variants.{NoneYet, Number}
 
--- a frame is judged at the last byte of its line's limit at the latest, and STX is not collected; today every line has the same limit
+-- a frame is judged at the last byte of its line's limit at the latest, and STX is not collected; today every line has the same limit [E7]
 unfoldable pub mostCollected : Line → ℕ
 mostCollected l = frameLimit - 2
 
--- at 30 seconds the line turns neutral
+-- at 30 seconds the line turns neutral [E9]
 abbrev pub mostSeconds : ℕ
 mostSeconds = 29
 
--- neutral, counts 0, next number 1, no last number, not refusing
+-- neutral, counts 0, next number 1, no last number, not refusing [E2, E3]
 abbrev pub freshLine : Line
 freshLine = record { state = Neutral; collected = 0; joined = 0; seconds = 0; next = 1; last = NoneYet; refusing = false }
 
--- where a transfer is opened, and where it is over: what the old record had of a transfer is gone
+-- where a transfer is opened, and where it is over: what the old record had of a transfer is gone [L5]
 abbrev pub openedLine : Line → Line
 openedLine l = record { state = Waiting; collected = 0; joined = 0; seconds = 0; next = 1; last = NoneYet; refusing = false }
 
+-- and where it is over [L6]
 abbrev pub closedLine : Line → Line
 closedLine l = record { state = Neutral; collected = 0; joined = 0; seconds = 0; next = 1; last = NoneYet; refusing = false }
 
+-- a last number, if there is one, is the number of a frame [E11]
 abbrev pub lastWithin : Last → Bool
 lastWithin NoneYet = true
 lastWithin (Number n) = leb n mostNumber
 
--- collected up to 245, joined up to 4,000, seconds up to 29, numbers up to 7
+-- at most 245 collected, 4,000 joined, 29 seconds, and 7 for a number [E11, A42]
 unfoldable pub withinLimits : Line → Bool
 withinLimits l =
     leb (l .collected) (mostCollected l) && (leb (l .joined) messageLimit && (leb (l .seconds) mostSeconds && (leb (l .next) mostNumber && lastWithin (l .last))))
 
--- STX: inside, and nothing else
+-- STX: inside, and nothing else [L4]
 abbrev pub begunLine : Line → Line
 begunLine l =
     record { state = Inside; collected = l .collected; joined = l .joined; seconds = l .seconds; next = l .next; last = l .last; refusing = l .refusing }
 
--- another count of collected bytes
+-- another count of collected bytes [L2]
 abbrev pub collectedLine : Line → ℕ → Line
 collectedLine l count =
     record { state = l .state; collected = count; joined = l .joined; seconds = l .seconds; next = l .next; last = l .last; refusing = l .refusing }
 
--- another count of seconds
+-- another count of seconds [L3]
 abbrev pub countedLine : Line → ℕ → Line
 countedLine l count =
     record { state = l .state; collected = l .collected; joined = l .joined; seconds = count; next = l .next; last = l .last; refusing = l .refusing }
 
--- a judged frame: collected and second counts 0, and the line waits
+-- a judged frame: collected and second counts 0, and the line waits [L7]
 abbrev pub waitingLine : Line → Line
 waitingLine l =
     record { state = Waiting; collected = 0; joined = l .joined; seconds = 0; next = l .next; last = l .last; refusing = l .refusing }
 
--- and the number advances, with so many bytes joined
+-- and the number advances, with so many bytes joined [F9, L8]
 abbrev pub acceptedLine : Line → ℕ → Line
 acceptedLine l count =
     record { state = Waiting; collected = 0; joined = count; seconds = 0; next = nextNumber (l .next); last = Number (l .next); refusing = l .refusing }
 
--- or nothing is joined any more, and the line refuses
+-- or nothing is joined any more, and the line refuses [F10, L10]
 abbrev pub refusingLine : Line → Line
 refusingLine l =
     record { state = Waiting; collected = 0; joined = 0; seconds = 0; next = l .next; last = l .last; refusing = true }

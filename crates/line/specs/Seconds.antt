@@ -8,6 +8,6 @@ use Rattle.line.specs.declared.Line.{Line}
 use Rattle.line.specs.declared.Passed.{Passed}
 use Rattle.line.specs.declared.Passed.the-variants.{Counted, RanOut}
 
--- they add up, and at 30 or more the time has run out
+-- they add up, and at 30 or more the time has run out [E8, E9]
 unfoldable pub passedOf : Line → ℕ → Passed
 passedOf l s = cond (leb (l .seconds + s) mostSeconds) (Counted (l .seconds + s)) RanOut

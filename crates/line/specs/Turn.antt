@@ -11,11 +11,12 @@ use Rattle.line.specs.declared.Last.the-variants.{NoneYet, Number}
 use Rattle.line.specs.declared.Turn.{Turn}
 use Rattle.line.specs.declared.Turn.the-variants.{Refused, Again, Missed, Overlong, InTurn}
 
--- a repeat is known by its number alone; before the first accepted frame there is none
+-- only the number tells a repeat; where no frame was accepted yet, none is one [A3]
 abbrev pub isLast : Last → ℕ → Bool
 isLast NoneYet n = false
 isLast (Number m) n = eqb m n
 
+-- the first that applies: refusing, a repeat, not the next, too long; else it is in turn [F10, A3, A26, A27, A28, O4]
 unfoldable pub turnOf : Line → ℕ → ℕ → Turn
 turnOf l number length =
     cond (l .refusing) Refused

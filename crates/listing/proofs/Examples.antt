@@ -1,4 +1,4 @@
--- Lines of a trace and what each is, and document 01's own listing: computed.
+-- Lines of a trace and what each is, and the listing of examples/scope.trace: computed.
 -- Assumes nothing.
 use mathlib.Core.Path.{_≡_, refl}
 use mathlib.Core.List.{List, [], _∷_, _++_, map}
@@ -78,7 +78,7 @@ pub each-is : map (λ (l : Case). itemOf (l .text)) cases ≡ map (λ (l : Case)
 unfolding hexValue amountOf byteItem secondsItem takingItem operandOf isLaidOut itemOf
 each-is = refl
 
--- document 01's listing
+-- the listing of examples/scope.trace
 abbrev pub listing : List ℕ
 listing =
     0x65 ∷ 0x76 ∷ 0x65 ∷ 0x6e ∷ 0x74 ∷ 0x20 ∷ 0x6c ∷ 0x69 ∷ 0x6e ∷ 0x65 ∷ 0x20 ∷ 0x61 ∷ 0x6e ∷ 0x73 ∷ 0x77 ∷ 0x65 ∷ 0x72 ∷ 0x20 ∷ 0x72 ∷ 0x65 ∷ 0x70 ∷ 0x6c ∷ 0x79 ∷ 0x0a ∷

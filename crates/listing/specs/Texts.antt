@@ -22,7 +22,7 @@ space = 0x20
 abbrev pub newline : ℕ
 newline = 0x0a
 
--- `event line answer reply`
+-- `event line answer reply` [T7]
 abbrev pub headerText : List ℕ
 headerText =
     0x65 ∷ 0x76 ∷ 0x65 ∷ 0x6e ∷ 0x74 ∷ space
@@ -38,7 +38,7 @@ taken = 8
 abbrev pub noDigits : Digits
 noDigits = record { high = 0x2d; low = 0x2d }
 
--- a reply as two hex digits
+-- a reply as two hex digits [T7]
 abbrev pub replyIn : Reply → Digits
 replyIn Silence = noDigits
 replyIn (Byte b) = digitsOf b
@@ -46,7 +46,7 @@ replyIn (Byte b) = digitsOf b
 abbrev pub replyDigits : ℕ → Digits
 replyDigits number = replyIn (replyOf number)
 
--- the last column: the length of an entry taken, and the reply to any other answer
+-- the last column: the length of an entry taken, and the reply to any other answer [T8]
 unfoldable pub lastText : ℕ → ℕ → List ℕ
 lastText number size = cond (is taken number) (decimalOf size) (replyDigits number .high ∷ replyDigits number .low ∷ [])
 
@@ -54,7 +54,7 @@ lastText number size = cond (is taken number) (decimalOf size) (replyDigits numb
 unfoldable pub wordText : ℕ → List ℕ
 wordText n = decimalOf n ++ (space ∷ [])
 
--- the row of an event or a taking: its number, its line, the answer's number, and the reply or the length of the entry taken
+-- the row of an event or a taking: its number, its line, the answer's number, and the reply or the length of the entry taken [T7]
 unfoldable pub rowText : ℕ → ℕ → ℕ → ℕ → List ℕ
 rowText event line number size = wordText event ++ (wordText line ++ (wordText number ++ (lastText number size ++ (newline ∷ []))))
 
@@ -62,7 +62,7 @@ rowText event line number size = wordText event ++ (wordText line ++ (wordText n
 abbrev pub eventsText : List ℕ
 eventsText = space ∷ 0x65 ∷ 0x76 ∷ 0x65 ∷ 0x6e ∷ 0x74 ∷ 0x73 ∷ newline ∷ []
 
--- the last line of a listing that ran to its end: `3 events`
+-- the last line of a listing that ran to its end: `3 events` [T9]
 unfoldable pub totalText : ℕ → List ℕ
 totalText events = decimalOf events ++ eventsText
 
@@ -77,7 +77,7 @@ noEventText =
     ∷ 0x61 ∷ 0x6e ∷ space
     ∷ 0x65 ∷ 0x76 ∷ 0x65 ∷ 0x6e ∷ 0x74 ∷ newline ∷ []
 
--- the last line of one that ends at a line that is not an event: `line 7: not an event`
+-- the last line of one that ends at a line that is not an event: `line 7: not an event` [T10]
 unfoldable pub faultText : ℕ → List ℕ
 faultText line = lineText ++ (decimalOf line ++ noEventText)
 

@@ -1,4 +1,4 @@
--- The answer that a verdict gives.
+-- The answer that a verdict gives. [A0]
 -- Assumes nothing.
 use Rattle.answers.specs.declared.Answer.{Answer}
 use Rattle.answers.specs.declared.Answer.the-variants.{Nothing, Opened, Accepted, Stored}

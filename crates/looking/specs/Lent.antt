@@ -1,4 +1,4 @@
--- The sizes of the three memories that an event is lent.
+-- The sizes of the three memories that an event is lent. [A41]
 -- Assumes nothing.
 use Prim.Native.Nat.{ℕ}
 use mathlib.Core.Bool.{Bool, _&&_}

@@ -35,13 +35,13 @@ use Rattle.looking.specs.declared.Look.{Look}
 use Rattle.looking.specs.declared.Look.the-variants.{Done, Decides}
 use Rattle.looking.specs.declared.Verdict.the-variants.{Left, Opens, Closes, Begins, Counts, Collects, Refuses, Accepts}
 
--- a frame in turn, by its end: an ETB frame never ends a message; at an ETX frame the joined text has to end with CR (29),
--- and the message is decided if its last record begins with L
+-- a frame in turn, by its end: with ETB it is only accepted; with ETX the joined text has to end with CR (29),
+-- and the message is decided if its last record begins with L [F7, F8, A2, A29]
 abbrev pub endLook : End → ℕ → List ℕ → Look
 endLook Etb n text = Done (Accepts n)
 endLook Etx n text = unless (endsWithCr text) (Done (Refuses NoCr)) (cond (endsWithL text) (Decides n) (Done (Accepts n)))
 
--- a whole frame, by its turn: 26, 3, 27, 28
+-- a whole frame, by its turn: 26, 3, 27, 28 [O4]
 abbrev pub turnLook : Turn → End → ℕ → List ℕ → Look
 turnLook Refused end n text = Done (Refuses Refusing)
 turnLook Again end n text = Done (Refuses Repeated)
@@ -49,7 +49,7 @@ turnLook Missed end n text = Done (Refuses OutOfTurn)
 turnLook Overlong end n text = Done (Refuses TooLong)
 turnLook InTurn end n text = endLook end n text
 
--- a frame, by its shape: 21 to 25
+-- a frame, by its shape: 21 to 25 [O4]
 abbrev pub shapeLook : Shape → Line → List ℕ → List ℕ → Look
 shapeLook NotEnded l texts frames = Done (Refuses Unended)
 shapeLook IsTorn l texts frames = Done (Refuses Torn)
@@ -62,28 +62,30 @@ shapeLook (Whole number end n) l texts frames = turnLook (turnOf l number n) end
 unfoldable pub frameLook : Line → ℕ → List ℕ → List ℕ → Look
 frameLook l b texts frames = shapeLook (shapeOf frameLimit (frameBytes l b frames)) l texts frames
 
--- a byte on a neutral line, on a waiting one, and inside a frame
+-- a byte on a neutral line, on a waiting one, and inside a frame [E5, A1]
 unfoldable pub neutralLook : ℕ → Look
 neutralLook b = cond (is enq b) (Done Opens) (Done (Left Nothing))
 
+-- on a waiting line: STX, EOT, ENQ, or ignored [E6, A5, A6, A20]
 unfoldable pub waitingLook : Line → ℕ → Look
 waitingLook l b =
     cond (is stx b) (Done Begins)
     (cond (is eot b) (Done (Closes (cond (eqb (l .joined) 0) Ended Dropped)))
     (cond (is enq b) (Done (Left Busy)) (Done (Left Nothing))))
 
--- a frame is judged at its first LF, or at the last byte of its line's limit
+-- a frame is judged at its first LF, or at the last byte of its line's limit [E7]
 unfoldable pub insideLook : Line → ℕ → List ℕ → List ℕ → Look
 insideLook l b texts frames =
     cond (is lf b) (frameLook l b texts frames)
     (cond (eqb (l .collected) (mostCollected l)) (frameLook l b texts frames) (Done Collects))
 
+-- by the line's state [E2]
 abbrev pub byState : {A : Type 0} → State → A → A → A → A
 byState Neutral neutral waiting inside = neutral
 byState Waiting neutral waiting inside = waiting
 byState Inside neutral waiting inside = inside
 
--- seconds on an open line
+-- seconds on an open line [A7]
 abbrev pub passedLook : Passed → Look
 passedLook (Counted n) = Done (Counts n)
 passedLook RanOut = Done (Closes TimedOut)
@@ -92,14 +94,16 @@ passedLook RanOut = Done (Closes TimedOut)
 unfoldable pub byteLook : Line → ℕ → List ℕ → List ℕ → Look
 byteLook l b texts frames = byState (l .state) (neutralLook b) (waitingLook l b) (insideLook l b texts frames)
 
+-- seconds, on an open line [E8, E10]
 unfoldable pub secondsLook : Line → ℕ → Look
 secondsLook l s = byState (l .state) (Done (Left Nothing)) (passedLook (passedOf l s)) (passedLook (passedOf l s))
 
+-- an event, by its kind [E4]
 abbrev pub lookOf : Line → Kind → List ℕ → List ℕ → Look
 lookOf l (Byte b) texts frames = byteLook l b texts frames
 lookOf l (Seconds s) texts frames = secondsLook l s
 
--- 40, 41, 42, then the look: of the journal only its length is asked
+-- 40, 41, 42, then the look: of the journal only its length is asked [A40, O3]
 unfoldable pub lookAlone : Line → Event → ℕ → List ℕ → List ℕ → Look
 lookAlone l e journal unfinished frames =
     unless (ltb (e .line) lines) (Done (Left NoLine))

@@ -24,7 +24,7 @@ hasGap d at gap end = leb end (length d) && leb (at + gap) end
 abbrev pub later : List ℕ → ℕ → ℕ → ℕ → List ℕ
 later d at gap end = part d (at + gap) (end - (at + gap))
 
--- d after the gap is closed up: the later bytes stand in its place, and from the new end on every byte keeps its value
+-- d after the gap is closed up: the later bytes stand in its place, and from the new end on every byte keeps its value [J12]
 unfoldable pub closedUp : List ℕ → ℕ → ℕ → ℕ → List ℕ
 closedUp d at gap end = cond (hasGap d at gap end) (splice d at (later d at gap end)) d
 

@@ -3,7 +3,7 @@ ghost use Rattle.memory.specs.Moves.{Copied, ClosedUp};
 
 mod moving; // moving.rt: pieces of memory moved at once
 
-// The sizes that document 01 fixes; specs/Sizes.antt says what each is.
+// The sizes, each named once; specs/Sizes.antt says what each is.
 pub const LINES: usize = 8;
 
 pub const MESSAGE_LIMIT: usize = 4000;

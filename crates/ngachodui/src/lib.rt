@@ -107,7 +107,7 @@ pub extern "C" fn ngachodui_unescape(component: &[u8], out: &mut [u8]) -> Made
     texts::unescape(component, out)
 }
 
-// Reads a message: each record's type (its letter), offset, length without CR, and owner (its number from 1, or 0).
+// Reads a message: of each record its letter, where it starts, how long it is before its CR, and the number of its owner, from 1, or 0.
 #[no_mangle]
 pub extern "C" fn ngachodui_read(
     text: &[u8],

@@ -47,7 +47,7 @@ stateNumber Neutral = 0
 stateNumber Waiting = waiting
 stateNumber Inside = inside
 
--- the last accepted number: 0 for none, else one more than it
+-- the last accepted number: 0 for none, else one more than it [H2]
 abbrev pub lastOf : ℕ → Last
 lastOf zero = NoneYet
 lastOf (suc n) = Number n
@@ -59,7 +59,7 @@ lastNumber (Number n) = n + 1
 abbrev pub flag : Bool → ℕ
 flag b = cond b 1 0
 
--- the record that a line's first seven numbers stand for
+-- the record that a line's first seven numbers stand for [H1]
 abbrev pub lineOf : List ℕ → ℕ → Line
 lineOf ns i = record {
   state = stateOf (firstAt ns i);
@@ -71,7 +71,7 @@ lineOf ns i = record {
   refusing = eqb (numberAt ns i refusingAt) 1;
 }
 
--- they are those of a record within its limits; the eighth, a serial, may be any
+-- they are those of a record within its limits; the eighth, a serial, may be any [A42, H3]
 unfoldable pub withinNumbers : List ℕ → ℕ → Bool
 withinNumbers ns i =
     leb (firstAt ns i) inside && (leb (numberAt ns i collectedAt) (mostCollected (lineOf ns i)) && (leb (numberAt ns i joinedAt) messageLimit && (leb (numberAt ns i secondsAt) mostSeconds
@@ -119,7 +119,7 @@ abbrev pub serialsFrom : List ℕ → ℕ → ℕ → List ℕ
 serialsFrom ns i zero = []
 serialsFrom ns i (suc n) = numberAt ns i serialAt ∷ serialsFrom ns (suc i) n
 
--- the ledger that they stand for
+-- the ledger that they stand for [H1]
 unfoldable pub ledgerOf : List ℕ → List ℕ → Ledger
 ledgerOf ns us = record { in_use = getD us lines 0; used = usedFrom us 0 lines; serials = serialsFrom ns 0 lines }
 
@@ -142,6 +142,6 @@ abbrev pub replyByte : Reply → ℕ
 replyByte Silence = 0
 replyByte (Sent b) = b
 
--- the answer to an event carries no values
+-- the answer to an event carries no values [H5]
 unfoldable pub inNumbers : Answer → Answered
 inNumbers a = record { number = numberOf a; reply = replyByte (replyOf (numberOf a)); serial = 0; place = 0; digits = 0; length = 0 }

@@ -13,7 +13,7 @@ use looking::Kind;
 
 mod plain; // plain.rt: the tests of a line's numbers, and each number read and put
 
-// An answer: its number in document 01's table, the byte to send back (0 for none), and for 8 the serial and the text's length.
+// An answer: its number, the byte to send back (0 for none), and for 8 the serial and the text's length.
 // The place of a fault and the case of check digits are 0 in this version. With them no byte is left unnamed, so that an answer
 // is made in registers: bytes without a name are left out of stores, and a load over such a store waits for it.
 #[repr(C)]

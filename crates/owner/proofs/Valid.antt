@@ -1,4 +1,4 @@
--- In a message each record's type may follow, so the owners that the readers find are those that document 01 names.
+-- In a message each record's type may follow, so the owners that the readers find are those of rule R13.
 -- Assumes nothing.
 use mathlib.Core.Path.{_≡_, refl, ap, _∙_}
 use mathlib.Core.Bool.{true, cond}
@@ -50,7 +50,7 @@ pub header-kind : (b : ℕ) → b ≡ letterOf Header → kindOf b ≡ Known Hea
 unfolding kindOf
 header-kind b e = rw e
 
--- the owners that the readers find are those that document 01 names
+-- the owners that the readers find are those of rule R13
 owners-chained : (r : List ℕ) (rs : List (List ℕ)) → getD r 0 0 ≡ letterOf Header → Chain Header rs → nearestOwners (typesOf (r ∷ rs)) ≡ ownersOf (r ∷ rs)
 unfolding ownersOf nearestOwner
 owners-chained r rs h c =

@@ -11,7 +11,7 @@ use Rattle.kinds.specs.declared.Kind.the-variants.{Header, Patient, Order, Resu
 use Rattle.kinds.specs.declared.Letter.{Letter}
 use Rattle.kinds.specs.declared.Letter.the-variants.{Known, Unknown}
 
--- H and L 0, P and Q 1, O 2, R 3; C and M one below the last other record, whose level is given
+-- H and L stand at 0, P and Q at 1, O at 2, R at 3; C and M stand below the last other record, whose level is given [R12]
 abbrev pub levelOf : ℕ → Kind → ℕ
 levelOf other Header = 0
 levelOf other Patient = 1
@@ -38,7 +38,7 @@ otherLevel other (Known Comment) = other
 otherLevel other (Known Manufacturer) = other
 otherLevel other Unknown = other
 
--- the levels of records with these types
+-- the levels of records with these types [R12]
 abbrev pub levelsFrom : ℕ → List ℕ → List ℕ
 levelsFrom other [] = []
 levelsFrom other (b ∷ bs) = levelBy other (kindOf b) ∷ levelsFrom (otherLevel other (kindOf b)) bs

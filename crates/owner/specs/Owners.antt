@@ -11,7 +11,7 @@ use Rattle.kinds.specs.declared.Letter.{Letter}
 use Rattle.kinds.specs.declared.Letter.the-variants.{Known, Unknown}
 use Rattle.kinds.specs.declared.Kind.the-variants.{Header, Patient, Order, Result, Query, Terminator, Comment, Manufacturer}
 
--- a record's type is its first byte (an empty record, which no message has, would show its CR)
+-- a record's type is its first byte (an empty record, which no message has, would show its CR) [R14]
 abbrev pub typesOf : List (List ℕ) → List ℕ
 typesOf [] = []
 typesOf (r ∷ rs) = getD r 0 cr ∷ typesOf rs
@@ -25,7 +25,7 @@ pub record Seen : Type 0 where
 abbrev pub unseen : Seen
 unseen = record { patient = 0; order = 0; other = 0 }
 
--- P and Q belong to H, O to the last P, or to H where none came, R to the last O, C and M to the last other record; H and L have no owner
+-- H owns P and Q, and an O where no P came; else the last P owns it; the last O owns an R, the last other record a C and an M; H and L have no owner [R13]
 abbrev pub ownerBy : Seen → Letter → ℕ
 ownerBy s (Known Header) = 0
 ownerBy s (Known Patient) = 1
@@ -54,5 +54,6 @@ abbrev pub ownersBy : Seen → ℕ → List ℕ → List ℕ
 ownersBy s n [] = []
 ownersBy s n (b ∷ bs) = ownerBy s (kindOf b) ∷ ownersBy (seenBy s (kindOf b) (n + 1)) (n + 1) bs
 
+-- of all records of a message [R13]
 unfoldable pub ownersOf : List (List ℕ) → List ℕ
 ownersOf rs = ownersBy unseen 0 (typesOf rs)

@@ -1,4 +1,4 @@
--- What reading a message gives for each record: type, offset, length without CR, owner.
+-- What reading a message gives for each record: type, offset, length without CR, owner. [R14]
 -- Assumes nothing.
 use Prim.Native.Nat.{ℕ, _+_}
 use mathlib.Core.Path.{_≡_}
@@ -19,7 +19,7 @@ abbrev pub lengthsOf : List (List ℕ) → List ℕ
 lengthsOf [] = []
 lengthsOf (r ∷ rs) = length r ∷ lengthsOf rs
 
--- where each record starts, the first at `at`
+-- where each record starts, the first at `at` [R14]
 abbrev pub offsetsOf : ℕ → List (List ℕ) → List ℕ
 offsetsOf at [] = []
 offsetsOf at (r ∷ rs) = at ∷ offsetsOf (at + (length r + 1)) rs
@@ -28,25 +28,25 @@ offsetsOf at (r ∷ rs) = at ∷ offsetsOf (at + (length r + 1)) rs
 unfoldable pub roomFor : ℕ → ℕ → ℕ → ℕ → ℕ → Bool
 roomFor n types offsets lengths owners = leb n types && leb n offsets && leb n lengths && leb n owners
 
--- the answer: 46 for what is no message, then 47 where one of four memories of these lengths is too short, else the number of records
+-- the answer: 46 for what is no message, then 47 where one of four memories of these lengths is too short, else the number of records [A46, A47, O6, R14]
 unfoldable pub readingOf : Delimiters → List ℕ → ℕ → ℕ → ℕ → ℕ → Reading
 readingOf d text types offsets lengths owners =
     unless (isMessageBy d text) Malformed
     (unless (roomFor (length (records text)) types offsets lengths owners) NotFitting (Read (length (records text))))
 
--- a memory after an answer: these numbers at its start and its rest kept where the message was read, else as it was
+-- a memory after an answer: these numbers at its start and its rest kept where the message was read, else as it was [R21]
 abbrev pub laid : Reading → List ℕ → List ℕ → List ℕ
 laid (Read n) old new = splice old 0 new
 laid Malformed old new = old
 laid NotFitting old new = old
 
--- the paper's number of a refusal; none for a reading
+-- the number of a refusal; none for a reading
 abbrev pub paper : Reading → List ℕ
 paper (Read n) = []
 paper Malformed = 46 ∷ []
 paper NotFitting = 47 ∷ []
 
--- what reading says: the answer, and each of the four memories after it
+-- what reading says: the answer, and each of the four memories after it [R14]
 pub record ReadAs (d : Delimiters) (text ts os ls ws ts′ os′ ls′ ws′ : List ℕ) (r : Reading) : Type 0 where
   pub answer : r ≡ readingOf d text (length ts) (length os) (length ls) (length ws)
   pub types : ts′ ≡ laid r ts (typesOf (records text))

@@ -29,7 +29,7 @@ fn has_room(n: usize, types: usize, offsets: usize, lengths: usize, owners: usiz
     n <= owners
 }
 
-// Reads a message: each record's type (its letter), offset, length without CR, and owner (its number from 1, or 0).
+// Reads a message: of each record its letter, where it starts, how long it is before its CR, and the number of its owner, from 1, or 0.
 pub fn read(
     d: Delimiters,
     text: &[u8],

@@ -1,4 +1,4 @@
-// Owners: a record owns the run of deeper records behind it, and each of those owns a run in the same way.
+// Owners: a record owns the run of deeper records behind it, and so does each of these.
 ghost use mathlib.Core.Path.{_≡_};
 ghost use Prim.Native.Nat.{_+_, _<_, _≤_};
 ghost use lib.ListN.{length};

@@ -15,13 +15,13 @@ abbrev pub width : List ℕ → ℕ
 width [] = 0
 width (w ∷ ws) = w + width ws
 
--- the number that has these packed fields
+-- the number that has these packed fields [J2]
 abbrev pub pack : List ℕ → List ℕ → ℕ
 pack [] xs = 0
 pack (w ∷ ws) [] = 0
 pack (w ∷ ws) (x ∷ xs) = x * 2 ^ width ws + pack ws xs
 
--- the packed fields of a number
+-- the packed fields of a number [J2]
 abbrev pub unpack : List ℕ → ℕ → List ℕ
 unpack [] n = []
 unpack (w ∷ ws) n = n / 2 ^ width ws % 2 ^ w ∷ unpack ws n

@@ -1,4 +1,4 @@
--- The frauds that document 01 wants tried, and the promise that each breaks. They are told of any runner, so that no particular one is meant.
+-- The frauds of rule P4, and the promise that each breaks. They are told of any runner, so that no particular one is meant.
 -- Assumes nothing.
 use mathlib.Core.Path.{_≡_, refl, sym, ap, subst, _∙_}
 use mathlib.Core.Logic.{_≢_, _⊎_, inl, inr}

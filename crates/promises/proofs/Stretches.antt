@@ -1,4 +1,4 @@
--- Demand 3, of the gateway: any mix of events on lines 0 to 7 and takings, from fresh, told stretch by stretch, has the same answers and the same final state.
+-- Demand 3, of the gateway: events of the eight lines and takings in any order, from fresh, told stretch by stretch, have the same answers and the same final state.
 -- Assumes nothing.
 use mathlib.Core.Path.{_≡_, refl, sym, ap, _∙_}
 use mathlib.Core.Bool.{Bool, false}

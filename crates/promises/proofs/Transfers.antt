@@ -290,7 +290,7 @@ module _ (limit : ℕ) (usable : Usable limit) (i : ℕ) (h : i < lines) where
 own-limit : Usable frameLimit
 own-limit = record { some = omega arith; most = omega arith }
 
--- a message that is cut and sent to a fresh line, with room for it: 1, then 0 to each byte within a frame, 2 to each frame but the last and 4 to the last;
+-- a message, cut, on a fresh line that has the room: 1, then 0 to each byte within a frame, 2 to each frame but the last and 4 to the last;
 -- it is stored byte for byte, once, under the line's next serial
 pub sent : Demand2 step
 sent = sent-within frameLimit own-limit

@@ -21,7 +21,7 @@ abbrev pub numberTo : State → ℕ → Kind → ℕ
 numberTo s i k = answered ((step s (came i k)) .0)
 
 -- the text is stored (4) exactly if it is a message and there is room for it, crowded out (31) exactly if it is one and there is none,
--- and objected to exactly if it is no message
+-- and objected to exactly if it is no message [P6]
 pub record DecidedExactly (s : State) (i : ℕ) (k : Kind) (text : List ℕ) : Type 0 where
   pub stored : Exactly (numberTo s i k ≡ 4) ((isMessage text ≡ true) × (hasSpace s i (length text) ≡ true))
   pub crowded : Exactly (numberTo s i k ≡ 31) ((isMessage text ≡ true) × (hasSpace s i (length text) ≡ false))

@@ -1,4 +1,4 @@
--- The thirteen examples that document 01 wants shown of the definitions, as one list: what the definitions give, and what the document says.
+-- The thirteen examples of rule P5, as one list: what the definitions give, and what is expected.
 -- Assumes nothing.
 use Prim.Native.Nat.{ℕ}
 use mathlib.Core.Bool.{Bool, cond}
@@ -47,6 +47,7 @@ pub record Example : Type 0 where
 abbrev pub example : List ℕ → List ℕ → Example
 example gives says = record { gives = gives; says = says }
 
+-- what the definitions give, and what is expected [P5]
 abbrev pub examples : List Example
 examples =
     example (checkDigits 0x31 terminator etx) (0x30 ∷ 0x34 ∷ [])

@@ -14,7 +14,7 @@ use Rattle.promises.specs.Queue.{allStored}
 abbrev pub takenThen : State → ℕ → List ℕ → List GatewayItem → State
 takenThen s l b fs = final step ((step s (taking l b)) .1) fs
 
--- the taking gives a text of n bytes (8), and none of the items behind it stores a message
+-- the taking gives a text of n bytes (8), and none of the items behind it stores a message [J8]
 pub record Frees (s : State) (l : ℕ) (b : List ℕ) (n : ℕ) (fs : List GatewayItem) : Type 0 where
   pub serial : ℕ
   pub gives : (step s (taking l b)) .0 .answer ≡ Taken n serial

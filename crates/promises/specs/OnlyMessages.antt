@@ -26,7 +26,7 @@ use Rattle.promises.specs.Queue.{allTaken}
 abbrev pub IsMessage : List ℕ → Type 0
 IsMessage text = isMessage text ≡ true
 
--- the run es, from a fresh gateway with the memory m
+-- the run es, from a fresh gateway with the memory m [P7]
 pub record OnlyMessages (m : Memory) (es : List GatewayItem) : Type 0 where
   pub entries : List Entry
   pub whole : chain (final step (fresh m) es .gateway .ledger) (final step (fresh m) es .memory .journal) ≡ some entries

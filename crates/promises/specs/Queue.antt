@@ -54,7 +54,7 @@ abbrev pub allTaken : ℕ → State → List GatewayItem → List Numbered
 allTaken l s [] = []
 allTaken l s (e ∷ es) = takenOn l s e ++ allTaken l ((step s e) .1) es
 
--- what was stored on a line is what was taken from it, in order and byte for byte, and then what waits in the journal
+-- what was stored on a line is what was taken from it, in order and byte for byte, and then what waits in the journal [P2]
 pub record NothingLost (m : Memory) (es : List GatewayItem) : Type 0 where
   pub entries : List Entry
   pub held : Held todaysShares (final step (fresh m) es .gateway .ledger) (final step (fresh m) es .memory .journal) entries

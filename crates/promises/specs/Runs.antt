@@ -32,7 +32,7 @@ pub record RightSizes (m : Memory) : Type 0 where
 abbrev pub fresh : Memory → State
 fresh m = record { gateway = freshGateway; memory = m }
 
--- the paper's number of an answer, and the byte that the analyzer gets, if any
+-- the number of an answer, and the byte that the analyzer gets, if any
 abbrev pub answered : Response → ℕ
 answered t = numberOf (t .answer)
 
@@ -68,7 +68,7 @@ usedBy s i = getD (s .gateway .ledger .used) i 0
 abbrev pub usedWith : State → ℕ → ℕ → ℕ
 usedWith s i n = usedBy s i + entrySize n
 
--- it exceeds what is left of the line's own share
+-- it exceeds what is left of the line's own share [J14]
 abbrev pub Overfull : State → ℕ → Kind → Type 0
 Overfull s i k = Completes s i k (λ n. share < usedWith s i n)
 
@@ -87,6 +87,6 @@ Space s i k = Completes s i k (λ n. hasSpace s i n ≡ true)
 abbrev pub Larger : State → ℕ → Kind → ℕ → Type 0
 Larger s i k m = Completes s i k (λ n. entrySize m < entrySize n)
 
--- what one line can use where the others use nothing: all but their shares
+-- what one line can use where the others use nothing: all but their shares [J7]
 abbrev pub mostAlone : ℕ
 mostAlone = 18432

@@ -33,7 +33,7 @@ use Rattle.promises.specs.Machine.{State, Response, response, GatewayIte
 abbrev pub bytesOn : ℕ → List ℕ → List GatewayItem
 bytesOn i bs = map (λ (b : ℕ). came i (Byte b)) bs
 
--- what runs items: the gateway's is `step`; the promise can be asked of any (proofs/Frauds)
+-- what runs items: the gateway's is `step`; the promise can be asked of any (proofs/Frauds) [P4]
 abbrev pub Runner : Type 0
 Runner = State → GatewayItem → Response × State
 
@@ -55,7 +55,7 @@ pub record Usable (limit : ℕ) : Type 0 where
   pub some : aroundText < limit
   pub most : limit ≤ frameLimit
 
--- one message: ENQ, and its frames as we cut them within the limit
+-- one message: ENQ, and its frames as we cut them within the limit [C5]
 abbrev pub sending : ℕ → List ℕ → List ℕ
 sending limit m = enq ∷ cutOf limit m
 
@@ -107,7 +107,7 @@ pub record Intact (s : State) : Type 0 where
   pub whole : chain (s .gateway .ledger) (s .memory .journal) ≡ some entries
 
 -- the bytes bs on line i, from a state whose journal holds the entries es, get these answers; the journal then holds es and, behind them, one entry for each of
--- the texts ms; and every other line has what it had
+-- the texts ms; and every other line has what it had [P4]
 pub record DeliversBy (f : Runner) (s : State) (i : ℕ) (bs : List ℕ) (answers : List Response) (ms : List (List ℕ)) (es : List Entry) : Type 0 where
   pub answered : answersBy f s (bytesOn i bs) ≡ answers
   pub held : Held todaysShares (final f s (bytesOn i bs) .gateway .ledger) (final f s (bytesOn i bs) .memory .journal) (es ++ newEntries (s .gateway .ledger) i ms)
@@ -116,7 +116,7 @@ pub record DeliversBy (f : Runner) (s : State) (i : ℕ) (bs : List ℕ) (answer
 abbrev pub Delivers : State → ℕ → List ℕ → List Response → List (List ℕ) → List Entry → Type 0
 Delivers s i bs answers ms es = DeliversBy step s i bs answers ms es
 
--- Demand 2, of any runner: a message that is cut and sent to a fresh line, whatever the other lines are at, with room for it
+-- Demand 2, of any runner: a message that is cut and sent to a fresh line, whatever the other lines are at, with room for it [C5]
 abbrev pub Demand2 : Runner → Type 0
 Demand2 f =
     (i : ℕ) → i < lines → (s : State) (w : Intact s) → lineAt (s .gateway) i ≡ freshLine → (m : List ℕ) → isMessage m ≡ true → HasRoom s i (m ∷ [])

@@ -29,32 +29,32 @@ pub record Row : Type 0 where
 
 -- the rows, one for each kind of answer
 abbrev pub rowOf : Verdict → Row
--- an ignored event (0), 20 and 40 to 43: nothing changes
+-- an ignored event (0), 20 and 40 to 43: nothing changes [L1]
 rowOf (Left a) = record { line = λ l. l; adds = false; writes = none; stores = false }
--- 1: the line waits; its counts are 0, its next number is 1, it has no last number and does not refuse
+-- 1: the line waits; its counts are 0, its next number is 1, it has no last number and does not refuse [L5]
 rowOf Opens = record { line = openedLine; adds = false; writes = none; stores = false }
--- 5, 6 and 7: the same, but the line is neutral
+-- 5, 6 and 7: the same, but the line is neutral [L6]
 rowOf (Closes a) = record { line = closedLine; adds = false; writes = none; stores = false }
--- STX (0): the line is inside a frame, and nothing else changes
+-- STX (0): the line is inside a frame, and nothing else changes [L4]
 rowOf Begins = record { line = begunLine; adds = false; writes = none; stores = false }
--- seconds (0): n are counted now
+-- seconds (0): n are counted now [L3]
 rowOf (Counts n) = record { line = λ l. countedLine l n; adds = false; writes = none; stores = false }
--- a collected byte (0): it is added, and counted
+-- a collected byte (0): it is added, and counted [L2]
 rowOf Collects = record { line = λ l. collectedLine l (l .collected + 1); adds = true; writes = none; stores = false }
--- 3 and 21 to 29, as every judged frame: its last byte is added, and the line waits with nothing collected and no seconds
+-- 3 and 21 to 29, as every judged frame: its last byte is added, and the line waits with nothing collected and no seconds [L7]
 rowOf (Refuses a) = record { line = waitingLine; adds = true; writes = none; stores = false }
--- 2: besides, the n bytes of the frame's text are written and counted as joined; the number advances
+-- 2: besides, the n bytes of the frame's text are written and counted as joined; the number advances [L8]
 rowOf (Accepts n) = record { line = λ l. acceptedLine l (l .joined + n); adds = true; writes = some n; stores = false }
--- 4: besides, they are written and the whole text is stored; nothing is joined any more; the number advances
+-- 4: besides, they are written and the whole text is stored; nothing is joined any more; the number advances [F9, L9]
 rowOf (Stores n) = record { line = λ l. acceptedLine l 0; adds = true; writes = some n; stores = true }
--- 30 and 31: besides, they are written; nothing is joined any more; the line refuses
+-- 30 and 31: besides, they are written; nothing is joined any more; the line refuses [L10]
 rowOf (Against a n) = record { line = refusingLine; adds = true; writes = some n; stores = false }
 
 -- the line's record
 abbrev pub lineAfter : Verdict → Line → Line
 lineAfter v l = rowOf v .line l
 
--- the frames: a byte is added behind the line's collected ones
+-- the frames: a byte is added behind the line's collected ones [L2, L11]
 abbrev pub withByte : Kind → Line → ℕ → List ℕ → List ℕ
 withByte (Byte b) l i frames = set frames (frameStart i + l .collected) b
 withByte (Seconds s) l i frames = frames
@@ -67,7 +67,7 @@ abbrev pub byLength : {A : Type 0} → Option ℕ → A → (ℕ → A) → A
 byLength none old new = old
 byLength (some n) old new = new n
 
--- the unfinished texts: the frame's text is written behind the line's joined one
+-- the unfinished texts: the frame's text is written behind the line's joined one [L8, L11]
 abbrev pub withText : Line → ℕ → ℕ → List ℕ → List ℕ → List ℕ
 withText l i n unfinished frames = splice unfinished (textStart i + l .joined) (frameText n (framesOf i frames))
 

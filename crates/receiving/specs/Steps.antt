@@ -49,6 +49,6 @@ pub record Leaves (s : AfterStep) (r : Stepped) (m : Memory) : Type 0 where
 abbrev pub memoryOf : List ℕ → List ℕ → List ℕ → Memory
 memoryOf j u f = record { journal = j; unfinished = u; frames = f }
 
--- what a step says
+-- what a step says [E13]
 abbrev pub Stepping : Line → Ledger → Event → Memory → Stepped → Memory → Type 0
 Stepping l d e m r m′ = Leaves (stepOf todaysShares l d e m) r m′

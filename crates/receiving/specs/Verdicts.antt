@@ -24,7 +24,7 @@ use Rattle.looking.specs.declared.Look.the-variants.{Done, Decides}
 use Rattle.looking.specs.declared.Verdict.{Verdict}
 use Rattle.looking.specs.declared.Verdict.the-variants.{Left, Stores, Against}
 
--- what the journal says of a message: 43, 31, or it is stored. That it has no line, no right size or no text is never asked here.
+-- what the journal says of a message: 43, 31, or it is stored. That it has no line, no right size or no text is never asked here. [A31, A43]
 abbrev pub roomVerdict : Judgement → ℕ → Verdict
 roomVerdict Judgement.Fits n = Stores n
 roomVerdict Judgement.NoRoom n = Against NoRoom n
@@ -33,11 +33,11 @@ roomVerdict Judgement.NoLine n = Left NoLine
 roomVerdict Judgement.WrongSize n = Left WrongSize
 roomVerdict Judgement.Malformed n = Against NoMessage n
 
--- why a complete text is no message, as the line is answered: 30, whatever is wrong with it
+-- why a complete text is no message, as the line is answered: 30, whatever is wrong with it [A30, R11]
 unfoldable pub objectionTo : List ℕ → Answer
 objectionTo text = NoMessage
 
--- a complete text: the records, then the journal
+-- a complete text: the records, then the journal [A4, A30, O4]
 unfoldable pub decisionOf : List ℕ → Ledger → ℕ → ℕ → List ℕ → List ℕ → Verdict
 decisionOf shares d i n text journal =
     unless (isMessage text) (Against (objectionTo text) n) (roomVerdict (judgeOf d shares i (length text) journal) n)
@@ -54,6 +54,7 @@ abbrev pub workOf : List ℕ → Line → Ledger → Event → List ℕ → List
 workOf shares l d e journal unfinished frames =
     ownWork shares l d (e .line) (e .kind) journal (textsOf (e .line) unfinished) (framesOf (e .line) frames)
 
+-- 40, 41, 42, then the work [O3]
 unfoldable pub verdictOf : List ℕ → Line → Ledger → Event → List ℕ → List ℕ → List ℕ → Verdict
 verdictOf shares l d e journal unfinished frames =
     unless (ltb (e .line) lines) (Left NoLine)

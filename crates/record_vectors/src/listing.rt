@@ -55,7 +55,7 @@ fn message(text: &[u8]) {
     rows(d, text);
 }
 
-// What the check of a text finds, by document 02's numbers.
+// What the check of a text finds, by the numbers of request [1].
 fn found(c: Checked) {
     match c {
         Checked::Message => no_fault(),

@@ -12,7 +12,7 @@ before b r = take (find (is b) r) r
 abbrev pub behind : ℕ → List ℕ → List ℕ
 behind b r = drop (find (is b) r + 1) r
 
--- the field with a number, counted from 1; an absent field is empty, and so is one with number 0
+-- the field with a number, counted from 1; an absent field is empty, and so is one with number 0 [R4]
 abbrev pub fieldOf : ℕ → ℕ → List ℕ → List ℕ
 fieldOf b zero r = []
 fieldOf b (suc zero) r = before b r

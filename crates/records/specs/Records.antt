@@ -16,7 +16,7 @@ abbrev pub onto : ℕ → List (List ℕ) → List (List ℕ)
 onto b [] = (b ∷ []) ∷ []
 onto b (r ∷ rs) = (b ∷ r) ∷ rs
 
--- the records of a text, without their CRs; bytes behind the last CR count as a record too
+-- the records of a text, without their CRs; bytes behind the last CR count as a record too [R1]
 abbrev pub records : List ℕ → List (List ℕ)
 records [] = []
 records (b ∷ bs) = cond (is cr b) ([] ∷ records bs) (onto b (records bs))
@@ -30,6 +30,7 @@ abbrev pub none : {A : Type 0} → List A → Bool
 none [] = true
 none (x ∷ xs) = false
 
+-- the last byte is CR: of an empty text there is none [A29]
 abbrev pub endsWithCr : List ℕ → Bool
 endsWithCr text = is cr (getD text (length text - 1) 0)
 
@@ -41,7 +42,7 @@ abbrev pub behindLastCr : List ℕ → List ℕ
 behindLastCr [] = []
 behindLastCr (b ∷ bs) = cond (isNotCr b && all isNotCr bs) (b ∷ bs) (behindLastCr bs)
 
--- of a text that ends with CR: what stands between the last CR but one, or the start, and the last CR
+-- of a text that ends with CR: what stands between the last CR but one, or the start, and the last CR [F8]
 unfoldable pub lastRecord : List ℕ → List ℕ
 lastRecord text = behindLastCr (take (length text - 1) text)
 
@@ -49,7 +50,7 @@ lastRecord text = behindLastCr (take (length text - 1) text)
 abbrev pub beginsWithL : List ℕ → Bool
 beginsWithL r = is (letterOf Terminator) (getD r 0 0)
 
--- the text ends with CR and its last record begins with L: the message is decided now
+-- the text ends with CR and its last record begins with L: the message is decided now [F8]
 unfoldable pub endsWithL : List ℕ → Bool
 endsWithL text = endsWithCr text && beginsWithL (lastRecord text)
 

@@ -17,7 +17,7 @@ abbrev pub decimal : ℕ → List ℕ → ℕ
 decimal n [] = n
 decimal n (b ∷ bs) = decimal (n * 10 + (b - 0x30)) bs
 
--- a number from 1 to 999999 in decimal, no leading zero; 0 for any other field
+-- a number from 1 to 999999 in decimal, no leading zero; 0 for any other field [R8]
 unfoldable pub numberOf : List ℕ → ℕ
 numberOf f = cond (between 1 6 (length f) && not (is 0x30 (getD f 0 0)) && all isDigit f) (decimal 0 f) 0
 
@@ -25,7 +25,7 @@ numberOf f = cond (between 1 6 (length f) && not (is 0x30 (getD f 0 0)) && all i
 abbrev pub started : Counts
 started = record { other = Header; patients = 0; queries = 0; orders = 0; results = 0; comments = 0; manufacturers = 0 }
 
--- the number that a type has reached; L always has 1
+-- the number that a type has reached; L always has 1 [R9]
 abbrev pub countOf : Counts → Kind → ℕ
 countOf s Header = 0
 countOf s Patient = s .patients
@@ -41,8 +41,8 @@ abbrev pub restarted : Counts → Kind → Counts
 restarted s k =
     record { other = k; patients = s .patients; queries = s .queries; orders = s .orders; results = s .results; comments = 0; manufacturers = 0 }
 
--- the counts after a record of a type with number n: P and Q count through the message, O restarts at each P, R at each O,
--- C and M count apart and restart at each other record
+-- the counts after a record of a type with number n: P and Q are never set back, O is by a P, R by an O;
+-- C and M have a count each, and every other record sets both back [R7, R9, R10]
 abbrev pub counted : Counts → Kind → ℕ → Counts
 counted s Header n = s
 counted s Patient n =

@@ -29,7 +29,7 @@ module _ {S P J K N A : Type 0} (lineOf : S → ℕ → P) (journalOf : S → J)
     known : Every (OnLine lines) (items (annotate step s es))
     known = rw items-annotate (on-lines es o)
 
-    -- every event and every taking has the same answer, and the final state is the same
+    -- no answer differs, to an event or a taking, nor does the state at the end
     pub demand : NothingElse lineOf journalOf Sound → (zs : List (Item K N × A)) → Rearranged decides lines order (annotate step s es) zs → GoesAlike step s es zs
     demand nothing zs r =
         rw (rearranged-is decides lines order each (annotate step s es) zs known r)

@@ -63,7 +63,7 @@ pub record Whole {K N A : Type 0} (decides : A → Bool) (order : List ℕ) (zs 
   pub made : zs ≡ allItems parts (rests rest order)
 
 -- zs is xs put in serial order: each line's events are those of xs, in their order; stretches are whole and rests are at the end;
--- and the last events of the stretches and the takings follow each other as in xs.
+-- and the last events of the stretches and the takings follow each other as in xs. [P3]
 pub record Rearranged {K N A : Type 0} (decides : A → Bool) (lines : ℕ) (order : List ℕ) (xs zs : List (Item K N × A)) : Type 0 where
   pub each-line : (i : ℕ) → i < lines → only (λ x. isOf i (x .0)) zs ≡ only (λ x. isOf i (x .0)) xs
   pub ends : only (isEnd decides) zs ≡ only (isEnd decides) xs

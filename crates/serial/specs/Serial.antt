@@ -1,6 +1,6 @@
 -- Demand 3, as definitions: a run over several lines, and the same run put one stretch after the other.
 -- A run is a list of items: events of lines, and takings. Its history is the list of its items, each with the answer that it got.
--- `serialize` cuts each line's events behind each one whose answer decides a message, and puts these stretches whole, in the order of their last events;
+-- `serialize` cuts each line's events behind each one whose answer decides a message, and puts each such stretch in one piece, where its last event stood;
 -- takings stay in place among them, and the unfinished rests of the lines come at the end, in any order of the lines that is given.
 -- The theorem: of a machine that is `Lined` (specs/Inner/Machine), that history is `GoesAlike` (proofs/Theorem), and so is every history that the demand's words allow (`Rearranged` of
 -- specs/Kept; proofs/Demand). What the demand leaves open is settled in docs/DECISIONS.md, "Runs".
@@ -38,7 +38,7 @@ abbrev pub Every : {X : Type 0} → (X → Type 0) → List X → Type 0
 Every Q [] = Unit {0}
 Every Q (x ∷ xs) = Q x × Every Q xs
 
--- The statement: in the order of zs the run es goes alike. The items of zs, run from s in the order of zs, get the very answers that zs has, and end in the same state.
+-- The statement: in the order of zs the run es goes alike. The items of zs, run from s in the order of zs, get the very answers that zs has, and end in the same state. [P3]
 pub record GoesAlike {S I A : Type 0} (step : S → I → A × S) (s : S) (es : List I) (zs : List (I × A)) : Type 0 where
   pub answers : annotate step s (items zs) ≡ zs
   pub state : final step s (items zs) ≡ final step s es

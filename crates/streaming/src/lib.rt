@@ -1,5 +1,5 @@
 // A trace that comes in pieces: all that is done between a read and the write behind it, in lent memory.
-// A program reads, calls `fed`, calls `turn`, and writes what the turn has put at the start of the output.
+// A program reads, calls `feed`, calls `turn`, and writes what the turn has put at the start of the output.
 ghost use Prim.Native.Nat.{_≤_};
 ghost use mathlib.Core.Path.{_≡_};
 ghost use lib.ListN.{length};

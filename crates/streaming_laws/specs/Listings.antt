@@ -9,7 +9,7 @@ use Rattle.replaying.specs.Listed.{Listed, inFront, listingOf}
 use Rattle.replaying.specs.declared.Stop.{Stop}
 use Rattle.replaying.specs.declared.Stop.the-variants.{Input, Output, NotAnEvent}
 
--- a last line without a newline counts: where the whole lines of a trace are run and some bytes are left, they are run with a newline behind them
+-- a last line without a newline counts: where the whole lines of a trace are run and some bytes are left, they are run with a newline behind them [T11]
 abbrev pub byRest : Stop → List ℕ → Listed → Listed
 byRest Input [] l = l
 byRest Input (b ∷ rest) l = inFront (l .rows) (listingOf (l .rest ++ (newline ∷ [])) (l .events) (l .desk))
@@ -31,6 +31,6 @@ closingOf NotAnEvent n = faultText (following n)
 abbrev pub textOf : Listed → List ℕ
 textOf l = l .rows ++ closingOf (l .stop) (l .events)
 
--- the listing of a trace, from a desk
+-- the listing of a trace, from a desk [T11]
 abbrev pub listingText : List ℕ → Desk → List ℕ
 listingText trace d = headerText ++ textOf (wholeOf trace 0 d)

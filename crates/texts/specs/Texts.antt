@@ -24,11 +24,11 @@ use Rattle.answers.specs.declared.Answer.{Answer}
 use Rattle.answers.specs.declared.Answer.the-variants.{Malformed, NotFitting}
 use Rattle.texts.specs.declared.Made.{Made}
 
--- done, and so much written; document 01 has no number for it
+-- done, and so much written: 0, which is the number of no refusal [H5]
 abbrev pub done : ℕ → Made
 done n = record { number = 0; spare = 0; place = 0; value = 0; length = n }
 
--- refused with this answer's number, and nothing written
+-- refused with this answer's number, and nothing written [H5]
 abbrev pub refusedWith : Answer → Made
 refusedWith a = record { number = numberOf a; spare = 0; place = 0; value = 0; length = 0 }
 

@@ -42,7 +42,7 @@ pub fn unescape(component: &[u8], out: &mut [u8]) -> Made
     made_by_putting(put)
 }
 
-// Reads a message: each record's type (its letter), offset, length without CR, and owner (its number from 1, or 0).
+// Reads a message: of each record its letter, where it starts, how long it is before its CR, and the number of its owner, from 1, or 0.
 pub fn read(
     text: &[u8],
     types: &mut [u8],

@@ -67,7 +67,7 @@ impl Counts {
         }
     }
 
-    /// The answers and outcomes of document 01 that have not come up.
+    /// The answers and outcomes that have not come up.
     pub fn missing(&self) -> Vec<String> {
         let mut missing = Vec::new();
         for number in (0..=8).chain(20..=31).chain(40..=45) {

@@ -1,4 +1,4 @@
-//! Compares the library with the model of document 01, operation by operation.
+//! Compares the library with the model, operation by operation.
 //!
 //!     diff 10000000 SEED     so many events: bytes, seconds and takings
 //!     diff 5s SEED           so many seconds

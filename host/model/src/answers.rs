@@ -1,4 +1,4 @@
-//! The answers and the reply that goes with each: document 01, "The answers and their order".
+//! The answers and the reply that goes with each (docs/RULES.md, A and O).
 //!
 //! The code names an answer by its number in that table.
 
@@ -33,7 +33,7 @@ impl Answer {
     }
 }
 
-/// The table's third column: the byte sent back, or none.
+/// The table's third column: the byte sent back, or none. [O1]
 pub fn reply(number: u8) -> Option<u8> {
     match number {
         1..=4 => Some(ACK),

@@ -1,14 +1,15 @@
-//! A message cut into frames: document 01, "Cutting into frames".
+//! A message cut into frames (docs/RULES.md, C).
 
 use crate::frames::{after, write};
 use crate::records::read;
 use crate::texts::{ETB, ETX};
 
-/// The text of one frame: a longer record goes on in the next.
+/// The text of one frame: a longer record goes on in the next. [C2]
 pub const PIECE: usize = 240;
 
 /// The frames of a message written to the start of `out`, and how many bytes they are; 46 where
 /// the text is no message, then 47 where they do not fit. A refusal changes nothing.
+/// [O6, C1, C2, C3, C4]
 pub fn cut(text: &[u8], out: &mut [u8]) -> Result<usize, u8> {
     // What can be cut: messages, and nothing else.
     let records = read(text)?;

@@ -1,5 +1,5 @@
 //! Worked examples from outside: whole dialogues of source documents 002 (PLEDIA), 003 (ADVIA) and
-//! 004 (MODULAR), as sent between ENQ and EOT, with the answers document 01 has for them.
+//! 004 (MODULAR), as sent between ENQ and EOT, with the answers that the rules give them.
 
 use crate::records::{field, result_fields};
 use crate::texts::{ENQ, EOT, LF};

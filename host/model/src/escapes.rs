@@ -1,6 +1,6 @@
-//! Field text with its delimiters escaped, and back: document 01, "Records".
+//! Field text with its delimiters escaped, and back (docs/RULES.md, R17 to R21).
 
-/// The escapes: what each of the four delimiters is written as.
+/// The escapes: what each of the four delimiters is written as. [R17]
 const ESCAPES: [(u8, &[u8; 3]); 4] = [
     (b'|', b"&F&"),
     (b'^', b"&S&"),
@@ -9,7 +9,7 @@ const ESCAPES: [(u8, &[u8; 3]); 4] = [
 ];
 
 /// The text with each delimiter escaped, written to the start of `out`, and its length; 47 where
-/// it does not fit. Every text can be escaped: 46 is only for what is unescaped.
+/// it does not fit. Every text can be escaped: 46 is only for what is unescaped. [R19]
 pub fn escape(text: &[u8], out: &mut [u8]) -> Result<usize, u8> {
     let mut bytes = Vec::new();
     for &byte in text {
@@ -22,7 +22,7 @@ pub fn escape(text: &[u8], out: &mut [u8]) -> Result<usize, u8> {
 }
 
 /// The component with each escape undone, written to the start of `out`, and its length; 46 where
-/// any of it is malformed, then 47 where it does not fit.
+/// any of it is malformed, then 47 where it does not fit. [R18]
 pub fn unescape(component: &[u8], out: &mut [u8]) -> Result<usize, u8> {
     let mut bytes = Vec::new();
     let mut place = 0;

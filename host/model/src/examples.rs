@@ -1,4 +1,4 @@
-//! Document 01's own examples, each answer of its table, and the limits from both sides.
+//! The examples of rule P5, each answer, and the limits from both sides.
 
 use crate::frames::{check, write};
 use crate::journal::{fits, serial_after};

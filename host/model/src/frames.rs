@@ -13,7 +13,7 @@ pub struct Frame<'a> {
 }
 
 /// The check: the low byte of the sum of `counted`, in two hex digits with capitals. Counted are
-/// the number digit, the text, and the ETB or ETX behind it.
+/// the number digit, the text, and the ETB or ETX behind it. [F2, F3]
 pub fn check(counted: &[u8]) -> [u8; 2] {
     let mut sum: u32 = 0;
     for &byte in counted {
@@ -28,7 +28,7 @@ fn digit(value: u32) -> u8 {
 }
 
 /// The collected bytes of a frame, from the number digit to the byte it is judged at, taken
-/// apart; or the first of 21 to 25 that applies.
+/// apart; or the first of 21 to 25 that applies. [A21, A22, A23, A24, A25]
 pub fn take_apart(bytes: &[u8]) -> Result<Frame<'_>, u8> {
     let count = bytes.len();
     // 21: as long as a frame can be, and not ended.
@@ -69,7 +69,7 @@ pub fn take_apart(bytes: &[u8]) -> Result<Frame<'_>, u8> {
 }
 
 /// A frame, byte for byte, with its STX in front and its check behind the end byte. Texts over 240
-/// bytes are written just as well: the traffic needs over-long frames too.
+/// bytes are written just as well: the traffic needs over-long frames too. [F1]
 pub fn write(number: u8, text: &[u8], end: u8) -> Vec<u8> {
     let mut frame = vec![STX, b'0' + number];
     frame.extend_from_slice(text);
@@ -80,7 +80,7 @@ pub fn write(number: u8, text: &[u8], end: u8) -> Vec<u8> {
     frame
 }
 
-/// Numbers: 0 comes after 7.
+/// Numbers: 0 comes after 7. [F4]
 pub fn after(number: u8) -> u8 {
     (number + 1) % 8
 }

@@ -14,13 +14,13 @@ pub struct Ledger {
     pub serials: [u16; LINES],
 }
 
-/// Bytes of an entry in front of its text.
+/// Bytes of an entry in front of its text. [J1]
 pub const HEADER: usize = 4;
 
-/// The longest text of an entry.
+/// The longest text of an entry. [R1]
 pub const TEXT_LIMIT: usize = 4_000;
 
-/// What every line is sure of.
+/// What every line is sure of. [J5]
 pub const SHARE: usize = 2_048;
 
 /// One entry of the journal, as its header tells.
@@ -40,7 +40,7 @@ impl Entry {
 }
 
 /// The header: 3 bits for the line, a bit that is 0, 12 for the length, 16 for the serial, the
-/// highest bit of each in front.
+/// highest bit of each in front. [J2]
 pub fn header(line: usize, length: usize, serial: u16) -> [u8; HEADER] {
     let [high, low] = serial.to_be_bytes();
     [
@@ -78,7 +78,7 @@ fn entry_at(journal: &[u8], in_use: usize, start: usize) -> Option<Entry> {
     Some(entry)
 }
 
-/// Room: each line counts with its share, or with what it uses where that is more.
+/// Room: each line counts with its share, or with what it uses where that is more. [J6]
 pub fn fits(used: &[usize; LINES]) -> bool {
     let mut sum: u128 = 0;
     for &count in used {
@@ -87,7 +87,7 @@ pub fn fits(used: &[usize; LINES]) -> bool {
     sum <= JOURNAL as u128
 }
 
-/// Serials: 16 bits, round and round.
+/// Serials: 16 bits, round and round. [J3]
 pub fn serial_after(serial: u16) -> u16 {
     serial.wrapping_add(1)
 }
@@ -118,7 +118,7 @@ impl Ledger {
         Some(entries)
     }
 
-    /// Answer 43: no whole chain, or one that comes to other used counts.
+    /// Answer 43: no whole chain, or one that comes to other used counts. [J9]
     pub fn is_broken(&self, journal: &[u8]) -> bool {
         let entries = match self.chain(journal) {
             None => return true,
@@ -132,14 +132,14 @@ impl Ledger {
     }
 
     /// Room for an entry: it is asked of the used counts as they would be with it. The chain is whole:
-    /// 43 comes first.
+    /// 43 comes first. [J6]
     pub fn has_room(&self, line: usize, length: usize) -> bool {
         let mut used = self.used;
         used[line] += HEADER + length;
         fits(&used)
     }
 
-    /// Storing: behind all entries that wait. The chain is whole and there is room.
+    /// Storing: behind all entries that wait. The chain is whole and there is room. [L9, J3]
     pub fn store(&mut self, journal: &mut [u8], line: usize, text: &[u8]) {
         let start = self.in_use;
         let serial = self.serials[line];
@@ -156,14 +156,14 @@ impl Ledger {
         self.serials[line] = serial_after(serial);
     }
 
-    /// The entry that a taking gives: the line's first. The chain is whole: 43 comes first.
+    /// The entry that a taking gives: the line's first. The chain is whole: 43 comes first. [J11]
     pub fn oldest(&self, journal: &[u8], line: usize) -> Option<Entry> {
         let entries = self.chain(journal)?;
         entries.into_iter().find(|entry| entry.line == line)
     }
 
     /// What a taking leaves: the entries behind it move up over it, and behind the new end stands what
-    /// stood there before.
+    /// stood there before. [J12]
     pub fn remove(&mut self, journal: &mut [u8], entry: Entry) {
         journal.copy_within(entry.end()..self.in_use, entry.start);
         self.in_use -= HEADER + entry.length;

@@ -1,4 +1,4 @@
-//! What is left after each answer: by its number alone, document 01 says all that has changed. Here
+//! What is left after each answer: by its number alone, the rules L1 to L12 say all that has changed. Here
 //! that is written once more, by the answers and not by the events, and compared with the model byte
 //! for byte under traffic of all mixes.
 

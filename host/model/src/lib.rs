@@ -1,11 +1,11 @@
-//! A model of document 01: the eight lines, their frames and messages, the journal with its
+//! A model of the rules in docs/RULES.md: the eight lines, their frames and messages, the journal with its
 //! shares, cutting, escaping and the replay listing.
 //!
-//! It is written from the document alone and for reading beside it: answers are the document's
+//! It is written without the crates, for reading beside that page: answers are their
 //! numbers, a comment names the subject of each rule where it is applied, and where the rules leave
 //! a choice it says which reading was taken. It uses nothing but the standard library.
 //!
-//! The caller owns the memories and lends them to each call, as the document has it; `Model`
+//! The caller owns the memories and lends them to each call, as hosts do; `Model`
 //! holds only the eight records and the ledger, all of it open, so that a test can also set
 //! what no run reaches.
 

@@ -2,7 +2,7 @@
 
 use crate::texts::{ENQ, EOT, LF, STX};
 
-/// Where a line is: without a transfer, in one between frames, or in a frame.
+/// Where a line is: without a transfer, in one between frames, or in a frame. [E2]
 #[derive(Clone, Copy, PartialEq, Eq, Debug)]
 pub enum State {
     Neutral,
@@ -10,7 +10,7 @@ pub enum State {
     Inside,
 }
 
-/// What can happen on a line.
+/// What can happen on a line. [E4]
 #[derive(Clone, Copy, PartialEq, Eq, Debug)]
 pub enum Kind {
     Byte(u8),
@@ -35,7 +35,7 @@ pub struct Line {
     pub refusing: bool,
 }
 
-/// The limits of a record; each value itself is within.
+/// The limits of a record; each value itself is within. [E11]
 pub const COLLECTED_LIMIT: usize = 245;
 pub const JOINED_LIMIT: usize = 4_000;
 pub const SECONDS_LIMIT: usize = 29;
@@ -53,7 +53,7 @@ pub enum Step {
 }
 
 impl Line {
-    /// What the start and the end of a transfer leave of a record, besides its state.
+    /// What the start and the end of a transfer leave of a record, besides its state. [L5, L6]
     fn cleared(state: State) -> Line {
         Line {
             state,
@@ -66,12 +66,12 @@ impl Line {
         }
     }
 
-    /// A line of a fresh gateway: as after answer 5.
+    /// A line of a fresh gateway: as after answer 5. [E3]
     pub fn fresh() -> Line {
         Line::cleared(State::Neutral)
     }
 
-    /// Answer 42 is given where this fails. State and counts need not agree.
+    /// Answer 42 is given where this fails. State and counts need not agree. [E11]
     pub fn is_within_limits(&self) -> bool {
         self.collected <= COLLECTED_LIMIT
             && self.joined <= JOINED_LIMIT
@@ -92,6 +92,7 @@ impl Line {
         }
     }
 
+    /// A byte on a neutral line. [E5]
     fn byte_while_neutral(&mut self, byte: u8) -> Step {
         if byte == ENQ {
             // Neutral, ENQ: a transfer opens; memory stays as it is.
@@ -102,6 +103,7 @@ impl Line {
         Step::Done(0)
     }
 
+    /// A byte on a waiting line. [E6]
     fn byte_while_waiting(&mut self, byte: u8) -> Step {
         match byte {
             STX => {
@@ -122,6 +124,7 @@ impl Line {
         }
     }
 
+    /// A byte inside a frame. [E7]
     fn byte_inside(&mut self, byte: u8) -> Step {
         // Inside, the end of a frame: LF, or as many bytes as one can have.
         if byte == LF || self.collected + 1 == 246 {
@@ -131,6 +134,7 @@ impl Line {
         Step::Collect
     }
 
+    /// Seconds while a transfer is open. [E8, E9, E10]
     fn pass(&mut self, seconds: u8) -> Step {
         let total = self.seconds + usize::from(seconds);
         if total >= 30 {

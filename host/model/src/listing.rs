@@ -1,4 +1,4 @@
-//! The replay listing: a trace in, one row for each event out. Document 01, "Replay listing".
+//! The replay listing: a trace in, one row for each event out (docs/RULES.md, T).
 
 use crate::answers::{reply, Answer};
 use crate::lines::Kind;
@@ -15,7 +15,7 @@ pub enum Call {
     Take { line: u8, buffer: usize },
 }
 
-/// The whole output for a whole input.
+/// The whole output for a whole input. [T7, T9, T10]
 pub fn listing(input: &[u8]) -> String {
     let mut model = Model::fresh();
     // Fresh memory may hold anything; nothing in the listing tells.
@@ -57,7 +57,7 @@ pub fn listing(input: &[u8]) -> String {
     output
 }
 
-/// The last column: the length of a message taken, else the reply byte, or `--` for none.
+/// The last column: the length of a message taken, else the reply byte, or `--` for none. [T8]
 fn last_column(answer: Answer) -> String {
     if answer.number == 8 {
         return answer.length.to_string();
@@ -80,6 +80,7 @@ fn input_lines(input: &[u8]) -> Vec<&[u8]> {
 /// An input line: a digit for the line, a letter and its operand (two hex digits, seconds, or the
 /// length of a buffer), with one space between the parts and nothing else. A line digit 8 or 9 is an
 /// event, for the gateway to refuse; leading zeros and small hex digits are no fault.
+/// [T1, T2, T3, T4, T5]
 pub fn parse(text: &[u8]) -> Option<Call> {
     if text.len() > LINE_LIMIT {
         return None;

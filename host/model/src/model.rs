@@ -25,7 +25,7 @@ impl Model {
         }
     }
 
-    /// One byte, or seconds passed, on one line.
+    /// One byte, or seconds passed, on one line. [O3]
     pub fn event(
         &mut self,
         line: u8,
@@ -62,7 +62,7 @@ impl Model {
         Answer::plain(number)
     }
 
-    /// The frame that ends with this byte: its answer, and what it leaves.
+    /// The frame that ends with this byte: its answer, and what it leaves. [L7, L8, L10]
     fn judge(
         &mut self,
         line: usize,
@@ -119,7 +119,7 @@ impl Model {
         number
     }
 
-    /// The answer of a frame that passed 21 to 25, with `before` as the line's joined text.
+    /// The answer of a frame that passed 21 to 25, with `before` as the line's joined text. [O4]
     fn weigh(&self, line: usize, frame: &Frame, before: &[u8], journal: &[u8]) -> u8 {
         let record = &self.lines[line];
         // 26: a message of this transfer was refused.
@@ -166,7 +166,7 @@ impl Model {
         4
     }
 
-    /// A taking, with any buffer. Of the memories only the journal is lent to it.
+    /// A taking, with any buffer. Of the memories only the journal is lent to it. [O5, L12]
     pub fn take(&mut self, line: u8, journal: &mut [u8], buffer: &mut [u8]) -> Answer {
         // The order of a taking's tests: line, journal's size, chain, entry, buffer.
         let line = usize::from(line);

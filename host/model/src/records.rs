@@ -1,4 +1,4 @@
-//! Messages and their records: document 01, "Records".
+//! Messages and their records (docs/RULES.md, R).
 
 use crate::texts::{is_allowed, CR};
 
@@ -15,14 +15,14 @@ pub struct Record {
     pub owner: usize,
 }
 
-/// The longest message.
+/// The longest message. [R1]
 pub const MESSAGE_LIMIT: usize = 4_000;
 
-/// How a message begins: the letter of its header, and the delimiters that it names.
+/// How a message begins: the letter of its header, and the delimiters that it names. [R3]
 pub const HEAD: &[u8] = b"H|\\^&";
 
 /// What may follow: `before` is the last record that is neither C nor M, so that any number of these
-/// may stand between; they themselves are refused behind L alone.
+/// may stand between; they themselves are refused behind L alone. [R6, R7]
 fn may_follow(before: u8, kind: u8) -> bool {
     let followers: &[u8] = match before {
         b'H' => b"POQLCM",
@@ -119,7 +119,7 @@ impl Owners {
     }
 }
 
-/// The records of a message, in order; a text that is no message gives 46.
+/// The records of a message, in order; a text that is no message gives 46. [R13, R14]
 pub fn read(text: &[u8]) -> Result<Vec<Record>, u8> {
     // A message: its length.
     if text.is_empty() || text.len() > MESSAGE_LIMIT {
@@ -183,7 +183,7 @@ fn following(record: &[u8], before: u8, counts: &mut Counts) -> Result<u8, u8> {
     Ok(letter[0])
 }
 
-/// A sequence number: one to six digits, the first of them not 0.
+/// A sequence number: one to six digits, the first of them not 0. [R8]
 fn sequence(digits: &[u8]) -> Option<u32> {
     if digits.is_empty() || digits.len() > 6 || digits[0] == b'0' {
         return None;
@@ -209,19 +209,19 @@ pub fn read_into(text: &[u8], slots: &mut [Record]) -> Result<usize, u8> {
     Ok(found.len())
 }
 
-/// Whether a text is a message.
+/// Whether a text is a message. [R11]
 pub fn is_message(text: &[u8]) -> bool {
     read(text).is_ok()
 }
 
-/// The first byte of the last record of a text that ends with CR, if that record has one.
+/// The first byte of the last record of a text that ends with CR, if that record has one. [F8]
 pub fn last_record_begins_with(text: &[u8]) -> Option<u8> {
     let records = &text[..text.len() - 1];
     let last = records.rsplit(|&byte| byte == CR).next()?;
     last.first().copied()
 }
 
-/// A field, from 1; what a record does not have is empty.
+/// A field, from 1; what a record does not have is empty. [R4]
 pub fn field(record: &[u8], number: usize) -> &[u8] {
     if number == 0 {
         return b"";
@@ -241,7 +241,7 @@ pub struct ResultFields<'a> {
     pub completion: &'a [u8],
 }
 
-/// The six fields of an R record.
+/// The six fields of an R record. [R15]
 pub fn result_fields(record: &[u8]) -> ResultFields<'_> {
     ResultFields {
         test: field(record, 3),
@@ -254,7 +254,7 @@ pub fn result_fields(record: &[u8]) -> ResultFields<'_> {
 }
 
 /// The end of a component: the next delimiter or CR, but not &, which is part of an escape. With
-/// none, the end is the text's; a start past it is left there.
+/// none, the end is the text's; a start past it is left there. [R16]
 pub fn component_end(text: &[u8], start: usize) -> usize {
     let mut place = start;
     while place < text.len() {

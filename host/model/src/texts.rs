@@ -11,6 +11,7 @@ pub const NAK: u8 = 0x15;
 pub const ETB: u8 = 0x17;
 
 /// The bytes that E1394 lets a text hold: five control bytes, and all from 20 on but 7F and FF.
+/// [F5]
 pub fn is_allowed(byte: u8) -> bool {
     matches!(byte, 0x07 | 0x09 | 0x0B | 0x0C | 0x0D | 0x20..=0x7E | 0x80..=0xFE)
 }

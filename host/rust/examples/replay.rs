@@ -1,4 +1,4 @@
-//! Replays a trace through the library and writes document 01's listing.
+//! Replays a trace through the library and writes its listing.
 //!
 //!     replay < TRACE > LISTING
 //!

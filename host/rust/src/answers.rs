@@ -4,7 +4,7 @@ use crate::boundary::Answered;
 use std::error::Error;
 use std::fmt;
 
-/// What an event or a taking was answered: document 01's table, each answer with its number.
+/// What an event or a taking was answered: each answer with its number, which is that of its rule in `docs/RULES.md`.
 ///
 /// [`Answer::reply`] is the byte to send back to the analyzer. After any answer from
 /// [`Answer::NoLine`] on nothing has changed.
@@ -72,7 +72,7 @@ pub enum Answer {
 }
 
 impl Answer {
-    /// The answer's number in document 01.
+    /// The answer's number.
     pub fn number(self) -> u8 {
         match self {
             Answer::Nothing => 0,
@@ -165,7 +165,7 @@ pub enum Refusal {
 }
 
 impl Refusal {
-    /// The refusal's number in document 01.
+    /// The refusal's number.
     pub fn number(self) -> u8 {
         match self {
             Refusal::Malformed => 46,

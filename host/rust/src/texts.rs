@@ -26,7 +26,7 @@ fn outcome(made: Made) -> Result<usize, Refusal> {
 }
 
 /// Whether a text is a message: 1 to 4,000 allowed bytes, records ended by CR from H to L, in an order
-/// and with sequence numbers as document 01 has them.
+/// and with sequence numbers by the rules R1 to R11 of `docs/RULES.md`.
 ///
 /// ```
 /// assert!(ngachodui::is_message(b"H|\\^&\rL|1|N\r"));

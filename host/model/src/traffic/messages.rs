@@ -1,6 +1,6 @@
 //! Texts to send, cut or read: right messages, and messages with one fault.
 //!
-//! The rules of document 01 are written here a second time, from the sender's side, so that the
+//! The rules of messages (R) are written here a second time, from the sender's side, so that the
 //! reader in `records` and this writer check each other.
 
 use super::random::Random;

@@ -1,4 +1,4 @@
--- `receiving::settling::settle` meets its contract: each arm is a row of document 01, and no look decides a message.
+-- `receiving::settling::settle` meets its contract: each arm is a row of the rules L1 to L8, and no look decides a message.
 -- Assumes nothing.
 use borrow.Author.Needs.{needs}
 use mathlib.Core.Path.{refl}
