@@ -30,7 +30,7 @@ pub record AfterCall : Type 0 where
   pub answered : Answered
   pub state : HostState
 
--- nothing changed
+-- nothing changed [L1]
 abbrev pub refused : Answer → HostState → AfterCall
 refused a s = record { answered = inNumbers a; state = s }
 
@@ -45,7 +45,7 @@ putBack s i x = record {
   };
 }
 
--- an event: 40, 41, 42, or the gateway's step of its line
+-- an event: 40, 41, 42, or the gateway's step of its line [A40, O3, H3, H4]
 unfoldable pub callOf : HostState → Event → AfterCall
 callOf s e =
     unless (ltb (e .line) lines) (refused NoLine s)
@@ -53,7 +53,7 @@ callOf s e =
     (unless (withinNumbers (s .numbers) (e .line)) (refused BeyondLimits s)
     (putBack s (e .line) (stepOf todaysShares (lineOf (s .numbers) (e .line)) (ledgerOf (s .numbers) (s .counts)) e (s .memory)))))
 
--- what an event says: its answer, and every number and byte that the host keeps then
+-- what an event says: its answer, and every number and byte that the host keeps then [P1]
 pub record Called (c : AfterCall) (r : Answered) (t : HostState) : Type 0 where
   pub result : r ≡ c .answered
   pub state : t ≡ c .state
@@ -61,7 +61,7 @@ pub record Called (c : AfterCall) (r : Answered) (t : HostState) : Type 0 where
 abbrev pub Calling : HostState → Event → Answered → HostState → Type 0
 Calling s e r t = Called (callOf s e) r t
 
--- the answer to a taking: for 8 the text's length and the serial
+-- the answer to a taking: for 8 the text's length and the serial [H5]
 unfoldable pub takingInNumbers : Took → Answered
 takingInNumbers (Took.Taken n serial) = record { number = numberOf (Answer.Taken n serial); reply = 0; serial = serial; place = 0; digits = 0; length = n }
 takingInNumbers Took.NothingWaiting = inNumbers (tookAnswer Took.NothingWaiting)
@@ -92,7 +92,7 @@ takingOf numbers i s =
       state = record { counts = usedAfter (s .counts) i t; journal = t .journal; buffer = t .buffer };
     }
 
--- what a taking says
+-- what a taking says [H4]
 pub record Taken (numbers : List ℕ) (i : ℕ) (s : TakeState) (r : Answered) (t : TakeState) : Type 0 where
   pub result : r ≡ takingOf numbers i s .answered
   pub state : t ≡ takingOf numbers i s .state

@@ -35,7 +35,7 @@ use Rattle.ngachodui_laws.specs.Sending.{CanSend, sentTo, Delivered, Giv
 use Rattle.ngachodui_laws.specs.Texts.{Cut, Readable}
 use Rattle.ngachodui_laws.specs.Freed.{takenThen, Frees, Alone}
 
--- each field is one promise; its type says what it assumes
+-- each field is one promise; its type says what it assumes [P8]
 pub record Demands : Type 0 where
   -- ---- 1. Every call has one outcome
 

@@ -34,7 +34,7 @@ pub record HostResponse : Type 0 where
 abbrev pub lentOf : HostState → List ℕ → TakeState
 lentOf s b = record { counts = s .counts; journal = s .memory .journal; buffer = b }
 
--- an event is a call of `ngachodui_byte` or `ngachodui_seconds`, a taking one of `ngachodui_take`: what their contracts say
+-- an event is a call of `ngachodui_byte` or `ngachodui_seconds`, a taking one of `ngachodui_take`: what their contracts say [H4]
 abbrev pub hostStep : HostState → GatewayItem → HostResponse × HostState
 hostStep s (event i k) = let c = callOf s (onLine i k) in (record { answered = c .answered; buffer = [] }, c .state)
 hostStep s (taking i b) =

@@ -27,7 +27,7 @@ pub record Asked : Type 0 where
   pub answered : Answered
   pub desk : Desk
 
--- an event: it is not lent the buffer
+-- an event: it is not lent the buffer [T11]
 abbrev pub lentToEvent : Desk → HostState
 lentToEvent d = record { numbers = d .numbers; counts = d .counts; memory = record { journal = d .journal; unfinished = d .unfinished; frames = d .frames } }
 
@@ -37,7 +37,7 @@ eventAsked e d =
     let s = c .state in
     record { answered = c .answered; desk = deskOf (s .numbers) (s .counts) (s .memory .journal) (s .memory .unfinished) (s .memory .frames) (d .buffer) }
 
--- a taking: it is lent the first n bytes of the buffer
+-- a taking: it is lent the first n bytes of the buffer [T11]
 abbrev pub lentToTaking : ℕ → Desk → TakeState
 lentToTaking n d = record { counts = d .counts; journal = d .journal; buffer = take n (d .buffer) }
 

@@ -33,7 +33,7 @@ inFront rows l = record { rows = rows ++ l .rows; events = l .events; desk = l .
 abbrev pub rowThen : ℕ → ℕ → Asked → (Desk → Listed) → Listed
 rowThen number line a go = inFront (rowOf number line (a .answered)) (go (a .desk))
 
--- by what the first line asks
+-- by what the first line asks; at one that is no event the rows end [T10]
 abbrev pub byItem : Item → List ℕ → ℕ → Desk → (Desk → Listed) → Listed
 byItem (Event e) text n d go = rowThen (following n) (e .line) (eventAsked e d) go
 byItem (Taking line k) text n d go = rowThen (following n) line (takingAsked line k d) go
@@ -48,6 +48,6 @@ unfoldable pub listed : ℕ → List ℕ → ℕ → Desk → Listed
 listed zero text n d = noRows Input text n d
 listed (suc most) text n d = byLine (firstLine text 0) text n d (λ behind e. listed most (drop behind text) (following n) e)
 
--- a text has no more lines than bytes
+-- the whole text, which has no more lines than bytes [T11]
 abbrev pub listingOf : List ℕ → ℕ → Desk → Listed
 listingOf text n d = listed (length text) text n d
