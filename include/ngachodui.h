@@ -91,8 +91,8 @@ enum {
 
 /* ---- Answers ---- */
 
-/* What an event or a taking is answered, by number: 22 is rule A22 of docs/RULES.md. With 1 to 4 the byte to send
- * back is ACK (06), with 20 to 31 it is NAK (15), and with the others there is none. */
+/* What an event or a taking is answered, by number: 22 is rule A22 of docs/RULES.md. With 1 to 4 the
+ * byte to send back is ACK (06), with 20 to 31 it is NAK (15), and with the others there is none. */
 enum ngachodui_number {
     NGACHODUI_NOTHING = 0,          /* the byte was ignored or collected, or the seconds were counted */
     NGACHODUI_OPENED = 1,           /* ENQ: a transfer is open */
@@ -179,7 +179,8 @@ typedef struct ngachodui_numbers {
     ngachodui_line lines[NGACHODUI_LINES];
 } ngachodui_numbers;
 
-/* The counts: how much of the journal is used, in bytes. Counts that do not agree with the journal are answered 43. */
+/* The counts: how much of the journal is used, in bytes. Counts that do not agree with the journal are
+ * answered 43. */
 typedef struct ngachodui_counts {
     uint32_t used[NGACHODUI_LINES];  /* by each line's messages, 4 counted for each besides its text */
     uint32_t in_use;                 /* by all of them together */
