@@ -10,7 +10,6 @@ use lib.Dec.{ltb, leb, eqb}
 use lib.ListN.{length}
 use Rattle.memory.specs.Sizes.{lines, journalSize}
 use Rattle.memory.specs.Tests.{unless}
-use Rattle.faults.specs.Message.{isMessage}
 use Rattle.header.specs.Entry.{Entry}
 use Rattle.journal.specs.Entries.{sizes, before, from}
 use Rattle.journal.specs.Chain.{chain}
@@ -28,13 +27,15 @@ use Rattle.calls.specs.Inner.Steps.{Narrow}
 use Rattle.line.specs.Line.{withinLimits}
 use Rattle.line.specs.declared.Line.{Line}
 use Rattle.looking.specs.Views.{framesOf, textsOf, joinedText}
-use Rattle.receiving.specs.Verdicts.{objectionTo, roomVerdict, decisionOf}
+use Rattle.deciding.specs.Decisions.{roomOutcome}
+use Rattle.deciding.proofs.Decisions.{outcome-cases}
+use Rattle.receiving.specs.Verdicts.{outcomeVerdict, decisionOf}
 use Rattle.looking.specs.Lent.{rightSizes}
 use Rattle.receiving.specs.Settled.{ledgerAfter}
 use Rattle.receiving.specs.Steps.{Memory}
 use Rattle.receiving.specs.Alone.{completed, completionOf, decideOf}
 use Rattle.looking.specs.declared.Event.{Event}
-use Rattle.looking.specs.declared.Verdict.the-variants.{Left, Against}
+use Rattle.looking.specs.declared.Verdict.the-variants.{Left}
 use Rattle.looking.specs.Fitting.{textFits}
 use Rattle.answers.specs.declared.Answer.the-variants.{NoLine, WrongSize, BeyondLimits}
 
@@ -52,7 +53,7 @@ module _ (d : Ledger) (i : ℕ) (j : List ℕ) (w : Narrow d) where
       omega (arith, k .whole .room, f .long, f .high, head-size-high n)
 
   module _ (text : ℕ → List ℕ) (n : ℕ) where
-    room-narrow : (q : Judgement) → judgeOf d todaysShares i (length (text n)) j ≡ q → Narrow (ledgerAfter (roomVerdict q n) d i text)
+    room-narrow : (q : Judgement) → judgeOf d todaysShares i (length (text n)) j ≡ q → Narrow (ledgerAfter (outcomeVerdict (roomOutcome q) n) d i text)
     room-narrow Judgement.Fits e = grown-narrow (length (text n)) (ap isFits e)
     room-narrow Judgement.NoRoom e = w
     room-narrow Judgement.Broken e = w
@@ -61,12 +62,7 @@ module _ (d : Ledger) (i : ℕ) (j : List ℕ) (w : Narrow d) where
     room-narrow Judgement.Malformed e = w
 
     decision-narrow : Narrow (ledgerAfter (decisionOf todaysShares d i n (text n) j) d i text)
-    unfolding decisionOf
-    decision-narrow = by-message (isMessage (text n))
-      where
-        by-message : (b : Bool) → Narrow (ledgerAfter (unless b (Against (objectionTo (text n)) n) (roomVerdict (judgeOf d todaysShares i (length (text n)) j) n)) d i text)
-        by-message true = room-narrow (judgeOf d todaysShares i (length (text n)) j) refl
-        by-message false = w
+    decision-narrow = outcome-cases todaysShares d i (text n) j (λ o. Narrow (ledgerAfter (outcomeVerdict o n) d i text)) w (room-narrow (judgeOf d todaysShares i (length (text n)) j) refl)
 
 module _ (l : Line) (d : Ledger) (e : Event) (m : Memory) (w : Narrow d) where
   abbrev own-text : ℕ → List ℕ

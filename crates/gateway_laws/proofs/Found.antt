@@ -17,6 +17,7 @@ use Rattle.answers.specs.declared.Answer.the-variants.{NoLine, WrongSize, Beyon
 use Rattle.looking.specs.Views.{framesOf, textsOf, joinedText}
 use Rattle.looking.specs.Inner.Ready.{Ready}
 use Rattle.looking.specs.Looks.{lookOf}
+use Rattle.deciding.specs.Decisions.{outcomeOf}
 use Rattle.receiving.specs.Verdicts.{decided, ownWork, workOf, verdictOf}
 use Rattle.looking.specs.Lent.{rightSizes}
 use Rattle.looking.specs.Inner.Fitting.{Fitting}
@@ -49,7 +50,7 @@ module _ (shares : List ℕ) (l : Line) (d : Ledger) (e : Event) (j u f : List �
     where
       by-look : (k : Look) → LookFits k l → Fitting (decided k shares l d (e .line) j (textsOf (e .line) u) (framesOf (e .line) f)) l
       by-look (Done v) h = h .0
-      by-look (Decides n) h = decision-fits l shares d (e .line) n (joinedText l n (textsOf (e .line) u) (framesOf (e .line) f)) j h
+      by-look (Decides n) h = decision-fits l (outcomeOf shares d (e .line) (joinedText l n (textsOf (e .line) u) (framesOf (e .line) f)) j) n h
 
   pub verdict-found : Found (verdictOf shares l d e j u f)
   unfolding verdictOf

@@ -1,11 +1,9 @@
 -- Every verdict gives an answer of its own row.
 -- Assumes nothing.
 use mathlib.Core.Path.{_≡_, refl, sym, subst}
-use mathlib.Core.Bool.{Bool, true, false, cond}
 use mathlib.Core.List.{List}
 use Prim.Native.Nat.{ℕ}
 use lib.ListN.{length}
-use Rattle.faults.specs.Message.{isMessage}
 use Rattle.journal.specs.Verdicts.{judgeOf}
 use Rattle.journal.specs.declared.Ledger.{Ledger}
 use Rattle.journal.specs.declared.Verdict.{Verdict as Judgement}
@@ -13,7 +11,9 @@ use Rattle.line.specs.declared.Line.{Line}
 use Rattle.looking.specs.Views.{framesOf, textsOf, joinedText}
 use Rattle.looking.specs.Inner.Ready.{Ready}
 use Rattle.looking.specs.Looks.{lookOf}
-use Rattle.receiving.specs.Verdicts.{objectionTo, roomVerdict, decisionOf, decided, ownWork, workOf, verdictOf}
+use Rattle.deciding.specs.Decisions.{objectionTo, roomOutcome}
+use Rattle.deciding.proofs.Decisions.{outcome-cases}
+use Rattle.receiving.specs.Verdicts.{outcomeVerdict, decided, ownWork, workOf, verdictOf}
 use Rattle.looking.specs.Answers.{answerOf}
 use Rattle.looking.specs.declared.Event.{Event}
 use Rattle.looking.specs.declared.Look.{Look}
@@ -58,7 +58,7 @@ proper l = record {
   decides = λ n t. tt;
 }
 
-room-proper : (q : Judgement) (n : ℕ) → Proper (roomVerdict q n)
+room-proper : (q : Judgement) (n : ℕ) → Proper (outcomeVerdict (roomOutcome q) n)
 room-proper Judgement.Fits n = refl
 room-proper Judgement.NoRoom n = refl
 room-proper Judgement.Broken n = refl
@@ -71,17 +71,12 @@ pub objection-against : (text : List ℕ) → classOf (objectionTo text) ≡ aga
 unfolding objectionTo
 objection-against text = refl
 
-verdict-by-test : (t : Bool) (x y : Verdict) → Proper x → Proper y → Proper (cond t x y)
-verdict-by-test true x y p q = p
-verdict-by-test false x y p q = q
-
 module _ (shares : List ℕ) (l : Line) (d : Ledger) (e : Event) (j u f : List ℕ) where
   decided-proper : (texts frames : List ℕ) (k : Look) → LookProper k → Proper (decided k shares l d (e .line) j texts frames)
-  unfolding decisionOf
   decided-proper texts frames (Done v) p = p
   decided-proper texts frames (Decides n) p =
       let text = joinedText l n texts frames in
-      verdict-by-test (isMessage text) _ _ (room-proper (judgeOf d shares (e .line) (length text) j) n) (objection-against text)
+      outcome-cases shares d (e .line) text j (λ o. Proper (outcomeVerdict o n)) (objection-against text) (room-proper (judgeOf d shares (e .line) (length text) j) n)
 
   work-proper : Ready l (e .line) u f → Proper (workOf shares l d e j u f)
   unfolding ownWork

@@ -5,7 +5,7 @@ use mathlib.Core.List.{List}
 use mathlib.Core.Option.{some}
 use Prim.Native.Nat.{ℕ, _<_}
 use Rattle.memory.specs.Sizes.{lines}
-use Rattle.receiving.specs.Verdicts.{objectionTo}
+use Rattle.deciding.specs.Decisions.{objectionTo}
 use Rattle.looking.specs.declared.Kind.{Kind}
 use Rattle.promises.specs.Machine.{came, step}
 use Rattle.promises.specs.Runs.{answered, offered}

@@ -23,7 +23,8 @@ use Rattle.answers.specs.declared.Answer.the-variants.{NoRoom}
 use Rattle.answers.proofs.Paper.{every-answer, Objects, objection-objects}
 use Rattle.looking.specs.Views.{joinedText}
 use Rattle.looking.specs.Looks.{lookOf}
-use Rattle.receiving.specs.Verdicts.{objectionTo, roomVerdict, decisionOf, decided, ownWork}
+use Rattle.deciding.specs.Decisions.{objectionTo, roomOutcome}
+use Rattle.receiving.specs.Verdicts.{outcomeVerdict, decided, ownWork}
 use Rattle.looking.specs.Answers.{answerOf}
 use Rattle.looking.specs.declared.Kind.{Kind}
 use Rattle.looking.specs.declared.Look.{Look}
@@ -34,7 +35,7 @@ use Rattle.looking.proofs.Views.{own-parts}
 use Rattle.looking.proofs.Cases.{Cases, every-look}
 use Rattle.looking.proofs.Fits.{LookFits, look-fits}
 use Rattle.receiving.proofs.Fits.{quiet-keeps}
-use Rattle.receiving.proofs.Decisions.{objection-number}
+use Rattle.deciding.proofs.Decisions.{objection-number, is-objection, is-room}
 use Rattle.gateway_laws.specs.Classes.{classOf}
 use Rattle.gateway_laws.proofs.Proper.{objection-against}
 use Rattle.promises.specs.Machine.{State, Response, response, step, isDecision, decides, Parts, partsOf, storeOf, came}
@@ -133,16 +134,14 @@ module _ (s : State) (w : Intact s) (i : ℕ) (k : Kind) (line : i < lines) wher
     }
 
     no-message : isMessage text ≡ false → work s w i k line ≡ Against (objectionTo text) n
-    unfolding decisionOf
-    no-message m = work-is (Decides n) is ∙ rw m
+    no-message m = work-is (Decides n) is ∙ rw (is-objection todaysShares (s .gateway .ledger) i text (s .memory .journal) m)
 
     module _ (m : isMessage text ≡ true) where
-      judged : (room : Bool) → hasSpace s i (length text) ≡ room → work s w i k line ≡ roomVerdict (cond room Fits Full) n
-      unfolding decisionOf
+      judged : (room : Bool) → hasSpace s i (length text) ≡ room → work s w i k line ≡ outcomeVerdict (roomOutcome (cond room Fits Full)) n
       judged room has =
           let d = s .gateway .ledger in
           work-is (Decides n) is
-          ∙ rw (m, ← (judged-room d todaysShares i (length text) (s .memory .journal) line (w .journal) (message-some _ text m) (message-short _ text m) room (ap isSome (w .whole)) has))
+          ∙ rw (is-room todaysShares d i text (s .memory .journal) m, ← (judged-room d todaysShares i (length text) (s .memory .journal) line (w .journal) (message-some _ text m) (message-short _ text m) room (ap isSome (w .whole)) has))
 
       by-space : (room : Bool) → hasSpace s i (length text) ≡ room → Came s i k
       by-space true has = stored text m has (settles (Stores n) (judged true has) refl (λ c. c ≡ 4) refl)

@@ -12,7 +12,7 @@ use lib.ListN.{length}
 use Rattle.memory.specs.Sizes.{lines}
 use Rattle.memory.proofs.Tests.{clash, never-both}
 use Rattle.faults.specs.Message.{isMessage}
-use Rattle.receiving.specs.Verdicts.{objectionTo}
+use Rattle.deciding.specs.Decisions.{objectionTo}
 use Rattle.looking.specs.declared.Kind.{Kind}
 use Rattle.promises.specs.Machine.{State, Sound}
 use Rattle.promises.specs.Runs.{offered, hasSpace}

@@ -27,6 +27,7 @@ use Rattle.journal.specs.Verdicts.{judgeOf}
 use Rattle.journal_laws.specs.Runs.{State as Store}
 use Rattle.journal.specs.declared.Verdict.the-variants.{Fits}
 use Rattle.looking.specs.Views.{joinedText}
+use Rattle.deciding.specs.Decisions.{outcomeOf}
 use Rattle.receiving.specs.Verdicts.{decisionOf, decided}
 use Rattle.looking.specs.declared.Kind.the-variants.{Byte}
 use Rattle.looking.specs.declared.Verdict.{Verdict}
@@ -83,7 +84,7 @@ module _ (limit : ℕ) (usable : Usable limit) (i : ℕ) (j : Store) where
       message = ap (λ (u : List ℕ). isMessage (x ++ u)) (sym (append-nil t)) ∙ g .message
 
       decided-is : decisionOf todaysShares (j .ledger) i (length t) (x ++ t) (j .journal) ≡ Stores (length t)
-      unfolding decisionOf
+      unfolding outcomeOf
       decided-is = rw (message, fits)
 
       stored-is : decided (Decides (length t)) todaysShares (inner .line) (j .ledger) i (j .journal) texts (inner .frames) ≡ Stores (length t)

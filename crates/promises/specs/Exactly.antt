@@ -7,7 +7,7 @@ use mathlib.Core.List.{List}
 use lib.ListN.{length}
 use Rattle.faults.specs.Message.{isMessage}
 use Rattle.answers.specs.Paper.{numberOf}
-use Rattle.receiving.specs.Verdicts.{objectionTo}
+use Rattle.deciding.specs.Decisions.{objectionTo}
 use Rattle.looking.specs.declared.Kind.{Kind}
 use Rattle.promises.specs.Machine.{State, came, step}
 use Rattle.promises.specs.Runs.{answered, hasSpace}

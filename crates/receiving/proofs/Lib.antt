@@ -1,6 +1,5 @@
 pub mod Rows
 pub mod Pieces
-pub mod Decisions
 pub mod Fits
 pub mod Steps
 pub mod OneOutcome

@@ -36,20 +36,6 @@ module _ (l : Line) (i n : ℕ) (u f : List ℕ) (ready : Ready l i u f) (fits :
       copied-fits u at (frameText n (framesOf i f)) (lent-back u at (frameText n (framesOf i f)) m b r here e c₁) here .1
       ∙ ap (λ (k : ℕ). splice u k (frameText n (framesOf i f))) p
 
--- two texts copied one behind the other into a place that holds both
-pub both-copied : (z old new x y : List ℕ) (q r : Bool) → length old + length new ≤ length z → Copied z 0 old q x → Copied x (length old) new r y
-    → (length y ≡ length z) × (take (length old + length new) y ≡ old ++ new)
-both-copied z old new x y q r h c d =
-    let first : x ≡ splice z 0 old = copied-fits z 0 old c (omega arith) .1 in
-    let long : length x ≡ length z = ap length first ∙ length-splice z 0 old (omega arith) in
-    let second : y ≡ splice x (length old) new = copied-fits x (length old) new d (omega arith) .1 in
-    let joined : y ≡ splice z 0 (old ++ new) =
-    second ∙ ap (λ (l : List ℕ). splice l (length old) new) first ∙ ap (λ (k : ℕ). splice (splice z 0 old) k new) (sym (zero-add (length old))) ∙ splice-join z 0 old new (omega arith) in
-    let fits : 0 + length (old ++ new) ≤ length z = rw length-append (omega arith) in (
-      ap length joined ∙ length-splice z 0 (old ++ new) fits,
-      rw (← length-append old new, joined, ← part-start (splice z 0 (old ++ new)) (length (old ++ new))) (part-splice z 0 (old ++ new) fits),
-    )
-
 -- the line's two pieces, as they are lent
 module _ (l : Line) (i n : ℕ) (u f : List ℕ) (ready : Ready l i u f) (fits : TextFits l n) where
   abbrev oldLent : List ℕ

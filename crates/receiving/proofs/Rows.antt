@@ -8,8 +8,8 @@ use Rattle.line.specs.declared.Line.{Line}
 use Rattle.looking.specs.Inner.Ready.{Ready}
 use Rattle.looking.specs.Inner.Fitting.{Fitting, Quiet, writes}
 use Rattle.receiving.specs.Inner.Settled.{Settled}
-use Rattle.receiving.specs.Inner.Decided.{outcomeVerdict}
-use Rattle.receiving.specs.declared.deciding.Outcome.{Outcome}
+use Rattle.deciding.specs.declared.Outcome.{Outcome}
+use Rattle.receiving.specs.Verdicts.{outcomeVerdict}
 use Rattle.looking.specs.declared.Kind.{Kind}
 use Rattle.looking.specs.declared.Verdict.{Verdict}
 

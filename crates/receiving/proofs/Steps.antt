@@ -1,7 +1,7 @@
 -- What each way out of a step says, and of its two parts: the line alone, and the deciding.
 -- Assumes nothing.
 use mathlib.Core.Path.{_≡_, refl, sym, ap, subst, _∙_}
-use mathlib.Core.Bool.{Bool, true, false, cond, _&&_}
+use mathlib.Core.Bool.{Bool, true, false, _&&_}
 use mathlib.Core.List.{List}
 use Prim.Native.Nat.{ℕ, _+_, _≤_, _<_}
 use native.Mathlib.Omega.{arith}
@@ -11,11 +11,11 @@ use lib.Dec.{ltb, leb}
 use Rattle.memory.specs.Sizes.{lines, messageLimit}
 use Rattle.memory.specs.Tests.{unless}
 use Rattle.memory.proofs.Tests.{and-left, and-right}
-use Rattle.faults.specs.Message.{isMessage}
 use Rattle.room.specs.Room.{todaysShares}
-use Rattle.journal.specs.Verdicts.{judgeOf}
 use Rattle.journal.specs.declared.Ledger.{Ledger}
-use Rattle.journal.specs.declared.Verdict.{Verdict as Judgement}
+use Rattle.deciding.specs.Decisions.{outcomeOf, outcomeAnswer, ledgerBy, journalBy}
+use Rattle.deciding.specs.declared.Outcome.{Outcome}
+use Rattle.deciding.specs.declared.Decided.{Decided}
 use Rattle.line.specs.Line.{withinLimits}
 use Rattle.line.specs.declared.Line.{Line}
 use Rattle.answers.specs.declared.Answer.{Answer}
@@ -27,48 +27,32 @@ use Rattle.looking.specs.Looks.{lookOf, lookAlone}
 use Rattle.looking.specs.Answers.{answerOf}
 use Rattle.looking.specs.Fitting.{textFits}
 use Rattle.looking.specs.Inner.Fitting.{TextFits}
-use Rattle.receiving.specs.Verdicts.{objectionTo, roomVerdict, decisionOf, decided, ownWork, verdictOf}
+use Rattle.receiving.specs.Verdicts.{outcomeVerdict, decided, ownWork, verdictOf}
 use Rattle.receiving.specs.Settled.{lineAfter, textsAfter, framesAfter, ledgerAfter, journalAfter}
 use Rattle.receiving.specs.Inner.Settled.{Settled}
 use Rattle.receiving.specs.declared.completing.Tested.{Tested}
 use Rattle.receiving.specs.declared.completing.Tested.the-variants.{Refused}
-use Rattle.receiving.specs.Inner.Decided.{outcomeVerdict, Completion}
 use Rattle.receiving.specs.Steps.{Memory, AfterStep, settle, stepOf, Leaves, memoryOf, Stepping}
 use Rattle.receiving.specs.Alone.{lineAlone, textsAlone, framesAlone, SteppingAlone, completed, completionOf, decideOf, Deciding}
-use Rattle.receiving.specs.Inner.Completing.{testOf, Completing}
+use Rattle.receiving.specs.Inner.Completing.{testOf, Completion, Completing}
 use Rattle.receiving.specs.declared.Alone.{Alone}
-use Rattle.receiving.specs.declared.deciding.Decided.{Decided}
 use Rattle.looking.specs.declared.Event.{Event}
 use Rattle.looking.specs.declared.Look.{Look}
 use Rattle.looking.specs.declared.Look.the-variants.{Done, Decides}
 use Rattle.receiving.specs.declared.Stepped.{Stepped}
 use Rattle.looking.specs.declared.Verdict.{Verdict}
-use Rattle.looking.specs.declared.Verdict.the-variants.{Left, Against}
+use Rattle.looking.specs.declared.Verdict.the-variants.{Left}
 use Rattle.looking.proofs.Alone.{Acts, alone-acts, ready}
 use Rattle.receiving.proofs.Fits.{quiet-keeps}
 
 -- a decision stores the text of its own frame: what the line would have with another length does not matter
-room-text : (q : Judgement) (d : Ledger) (i n : ℕ) (text : ℕ → List ℕ) (j : List ℕ)
-    → (ledgerAfter (roomVerdict q n) d i (λ m. text n) ≡ ledgerAfter (roomVerdict q n) d i text)
-    × (journalAfter (roomVerdict q n) d i (λ m. text n) j ≡ journalAfter (roomVerdict q n) d i text j)
-room-text Judgement.Fits d i n text j = (refl, refl)
-room-text Judgement.NoRoom d i n text j = (refl, refl)
-room-text Judgement.Broken d i n text j = (refl, refl)
-room-text Judgement.NoLine d i n text j = (refl, refl)
-room-text Judgement.WrongSize d i n text j = (refl, refl)
-room-text Judgement.Malformed d i n text j = (refl, refl)
-
-decision-text : (shares : List ℕ) (d : Ledger) (i n : ℕ) (text : ℕ → List ℕ) (j : List ℕ)
-    → (ledgerAfter (decisionOf shares d i n (text n) j) d i (λ m. text n) ≡ ledgerAfter (decisionOf shares d i n (text n) j) d i text)
-    × (journalAfter (decisionOf shares d i n (text n) j) d i (λ m. text n) j ≡ journalAfter (decisionOf shares d i n (text n) j) d i text j)
-unfolding decisionOf
-decision-text shares d i n text j = by-message (isMessage (text n)) (judgeOf d shares i (length (text n)) j)
-  where
-    by-message : (b : Bool) (q : Judgement)
-        → (ledgerAfter (cond b (roomVerdict q n) (Against (objectionTo (text n)) n)) d i (λ m. text n) ≡ ledgerAfter (cond b (roomVerdict q n) (Against (objectionTo (text n)) n)) d i text)
-        × (journalAfter (cond b (roomVerdict q n) (Against (objectionTo (text n)) n)) d i (λ m. text n) j ≡ journalAfter (cond b (roomVerdict q n) (Against (objectionTo (text n)) n)) d i text j)
-    by-message true q = room-text q d i n text j
-    by-message false q = (refl, refl)
+outcome-row : (o : Outcome) (d : Ledger) (i n : ℕ) (text : ℕ → List ℕ) (j : List ℕ)
+    → (ledgerBy o d i (text n) ≡ ledgerAfter (outcomeVerdict o n) d i text)
+    × (journalBy o d i (text n) j ≡ journalAfter (outcomeVerdict o n) d i text j)
+    × (outcomeAnswer o ≡ answerOf (outcomeVerdict o n))
+outcome-row Outcome.Stored d i n text j = (refl, refl, refl)
+outcome-row (Outcome.Against a) d i n text j = (refl, refl, refl)
+outcome-row (Outcome.Left a) d i n text j = (refl, refl, refl)
 
 -- lent memory is known by its three parts
 memory-is : {a b : Memory} → a .journal ≡ b .journal → a .unfinished ≡ b .unfinished → a .frames ≡ b .frames → a ≡ b
@@ -220,14 +204,16 @@ module _ (l : Line) (d : Ledger) (e : Event) (n : ℕ) (j u f : List ℕ) where
   module _ (r : Stepped) where
     -- what the decision and its row leave
     pub decision-settled : (c : Decided) (k : Line) (a : Answer) (j′ u′ f′ : List ℕ) → Completion l d (e .line) n j u f c j′
-        → Settled (outcomeVerdict (c .outcome) n) (e .kind) l (e .line) u f k u′ f′ → ((m : ℕ) → a ≡ answerOf (outcomeVerdict (c .outcome) m)) → r ≡ record { line = k; ledger = c .ledger; answer = a } → Completing l d e n (memoryOf j u f) r (memoryOf j′ u′ f′)
+        → Settled (outcomeVerdict (c .outcome) n) (e .kind) l (e .line) u f k u′ f′ → a ≡ outcomeAnswer (c .outcome) → r ≡ record { line = k; ledger = c .ledger; answer = a } → Completing l d e n (memoryOf j u f) r (memoryOf j′ u′ f′)
     decision-settled c k a j′ u′ f′ t s p q =
         let text : ℕ → List ℕ = λ m. joinedText l m (textsOf (e .line) u) (framesOf (e .line) f) in
-        let v : Verdict = decisionOf todaysShares d (e .line) n (text n) j in
-        let (ledger, journal) = decision-text todaysShares d (e .line) n text j in
-        let is : outcomeVerdict (c .outcome) n ≡ v = t .verdict n in
-        let booked : c .ledger ≡ ledgerAfter v d (e .line) text = t .ledger n ∙ ledger in
+        let o : Outcome = outcomeOf todaysShares d (e .line) (text n) j in
+        let v : Verdict = outcomeVerdict o n in
+        let (ledger, journal, answer) = outcome-row o d (e .line) n text j in
+        let is : outcomeVerdict (c .outcome) n ≡ v = ap (λ (x : Outcome). outcomeVerdict x n) (t .outcome) in
+        let booked : c .ledger ≡ ledgerAfter v d (e .line) text = t .ledger ∙ ledger in
+        let says : a ≡ answerOf v = p ∙ ap outcomeAnswer (t .outcome) ∙ answer in
         record {
-          result = q ∙ rw (s .line, p n, booked) (ap (λ (x : Verdict). record { line = lineAfter x l; ledger = ledgerAfter v d (e .line) text; answer = answerOf x }) is);
-          memory = memory-is (t .journal n ∙ journal) (s .texts ∙ ap (λ (x : Verdict). textsAfter x l (e .line) u f) is) (s .frames ∙ ap (λ (x : Verdict). framesAfter x (e .kind) l (e .line) f) is);
+          result = q ∙ rw (s .line, says, booked) (ap (λ (x : Verdict). record { line = lineAfter x l; ledger = ledgerAfter v d (e .line) text; answer = answerOf v }) is);
+          memory = memory-is (t .journal ∙ journal) (s .texts ∙ ap (λ (x : Verdict). textsAfter x l (e .line) u f) is) (s .frames ∙ ap (λ (x : Verdict). framesAfter x (e .kind) l (e .line) f) is);
         }

@@ -1,3 +1,2 @@
 pub mod Settled
-pub mod Decided
 pub mod Completing

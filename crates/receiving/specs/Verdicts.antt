@@ -2,18 +2,15 @@
 -- Assumes nothing.
 use Prim.Native.Nat.{ℕ}
 use mathlib.Core.List.{List}
-use lib.ListN.{length}
 use lib.Dec.{ltb}
 use Rattle.memory.specs.Sizes.{lines}
 use Rattle.memory.specs.Tests.{unless}
-use Rattle.faults.specs.Message.{isMessage}
-use Rattle.journal.specs.Verdicts.{judgeOf}
 use Rattle.journal.specs.declared.Ledger.{Ledger}
-use Rattle.journal.specs.declared.Verdict.{Verdict as Judgement}
+use Rattle.deciding.specs.Decisions.{outcomeOf}
+use Rattle.deciding.specs.declared.Outcome.{Outcome}
 use Rattle.line.specs.Line.{withinLimits}
 use Rattle.line.specs.declared.Line.{Line}
-use Rattle.answers.specs.declared.Answer.{Answer}
-use Rattle.answers.specs.declared.Answer.the-variants.{NoMessage, NoRoom, NoLine, WrongSize, BeyondLimits, Broken}
+use Rattle.answers.specs.declared.Answer.the-variants.{NoLine, WrongSize, BeyondLimits}
 use Rattle.looking.specs.Views.{framesOf, textsOf, joinedText}
 use Rattle.looking.specs.Looks.{lookOf}
 use Rattle.looking.specs.Lent.{rightSizes}
@@ -24,23 +21,15 @@ use Rattle.looking.specs.declared.Look.the-variants.{Done, Decides}
 use Rattle.looking.specs.declared.Verdict.{Verdict}
 use Rattle.looking.specs.declared.Verdict.the-variants.{Left, Stores, Against}
 
--- what the journal says of a message: 43, 31, or it is stored. That it has no line, no right size or no text is never asked here. [A31, A43]
-abbrev pub roomVerdict : Judgement → ℕ → Verdict
-roomVerdict Judgement.Fits n = Stores n
-roomVerdict Judgement.NoRoom n = Against NoRoom n
-roomVerdict Judgement.Broken n = Left Broken
-roomVerdict Judgement.NoLine n = Left NoLine
-roomVerdict Judgement.WrongSize n = Left WrongSize
-roomVerdict Judgement.Malformed n = Against NoMessage n
+-- the verdict that an outcome of deciding is, where the text ends with n bytes of its frame
+abbrev pub outcomeVerdict : Outcome → ℕ → Verdict
+outcomeVerdict Outcome.Stored n = Stores n
+outcomeVerdict (Outcome.Against a) n = Against a n
+outcomeVerdict (Outcome.Left a) n = Left a
 
--- why a complete text is no message, as the line is answered: 30, whatever is wrong with it [A30, R11]
-unfoldable pub objectionTo : List ℕ → Answer
-objectionTo text = NoMessage
-
--- a complete text: the records, then the journal [A4, A30, O4]
-unfoldable pub decisionOf : List ℕ → Ledger → ℕ → ℕ → List ℕ → List ℕ → Verdict
-decisionOf shares d i n text journal =
-    unless (isMessage text) (Against (objectionTo text) n) (roomVerdict (judgeOf d shares i (length text) journal) n)
+-- a complete text is decided: the records, then the journal
+abbrev pub decisionOf : List ℕ → Ledger → ℕ → ℕ → List ℕ → List ℕ → Verdict
+decisionOf shares d i n text journal = outcomeVerdict (outcomeOf shares d i text journal) n
 
 abbrev pub decided : Look → List ℕ → Line → Ledger → ℕ → List ℕ → List ℕ → List ℕ → Verdict
 decided (Done v) shares l d i journal texts frames = v

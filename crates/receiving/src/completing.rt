@@ -5,11 +5,11 @@ ghost use Rattle.line.specs.Line.{withinLimits};
 ghost use Rattle.looking.specs.Inner.Ready.{Ready};
 ghost use Rattle.looking.specs.Fitting.{textFits};
 ghost use Rattle.looking.specs.Inner.Fitting.{TextFits};
-ghost use Rattle.receiving.specs.Inner.Completing.{testOf, Completing};
+ghost use Rattle.receiving.specs.Inner.Completing.{testOf, Completion, Completing};
 use super::Stepped;
-use super::deciding;
 use super::settling;
 use answers::Answer;
+use deciding::Decided;
 use journal::Ledger;
 use line::Line;
 use looking::Event;
@@ -31,7 +31,7 @@ pub fn by_decision(
 {
     let i = e.line as usize;
     let kind = e.kind;
-    let decided = deciding::complete(line, ledger, i, n, journal, unfinished, frames);
+    let decided = complete(line, ledger, e.line, n, journal, unfinished, frames);
     let outcome = decided.outcome;
     let booked = decided.ledger;
     let after = settling::close(line, i, kind, n, outcome, unfinished, frames);
@@ -41,6 +41,33 @@ pub fn by_decision(
         ledger: booked,
         answer,
     }
+}
+
+// The two pieces of the line's text are lent and decided: both are read, and only the journal is written.
+fn complete(
+    line: Line,
+    ledger: Ledger,
+    i: u8,
+    n: usize,
+    journal: &mut [u8],
+    unfinished: &[u8],
+    frames: &[u8],
+) -> Decided
+    requires { ⌜ Ready line i (now unfinished) (now frames) × TextFits line n ⌝ }
+    ensures { λ r. ⌜ Completion line ledger i n (now (journal .entry)) (now (unfinished .entry)) (now (frames .entry)) r (now (journal .exit)) ⌝ }
+{
+    let at = i as usize;
+    let text = at * memory::MESSAGE_LIMIT;
+    let end = text + line.joined as usize;
+    let start = at * memory::FRAME_PART + 1;
+    let stop = start + n;
+    deciding::decide(
+        ledger,
+        i,
+        &unfinished[text..end],
+        &frames[start..stop],
+        journal,
+    )
 }
 
 // What 40, 41 and 42 say of an event that is to complete a message.

@@ -9,7 +9,6 @@ use looking::Event;
 use looking::Look;
 
 mod completing; // completing.rt: a complete message decided, and what is left after that
-mod deciding; // deciding.rt: its decision
 mod settling; // settling.rt: what a look and a decision leave
 
 // The line's record and the ledger after an event, with its answer.

@@ -10,7 +10,7 @@ use Rattle.faults.specs.Message.{isMessage}
 use Rattle.journal.specs.Storage.{grown, appended}
 use Rattle.journal_laws.specs.Runs.{State as Store}
 use Rattle.answers.specs.Paper.{numberOf}
-use Rattle.receiving.specs.Verdicts.{objectionTo}
+use Rattle.deciding.specs.Decisions.{objectionTo}
 use Rattle.looking.specs.declared.Kind.{Kind}
 use Rattle.promises.specs.Machine.{State, Response, step, decides, partsOf, storeOf, came}
 use Rattle.promises.specs.Inner.ByParts.{onEvent}

@@ -1,26 +1,26 @@
--- `receiving::deciding::by_room` meets its contract.
+-- `deciding::by_room` meets its contract.
 -- Assumes nothing.
 use borrow.Author.Needs.{needs}
-use Rattle.receiving.proofs.deciding.by_room.Statement.{statement}
-use Rattle.receiving.proofs.deciding.by_room.Tie as tie
+use Rattle.deciding.proofs.by_room.Statement.{statement}
+use Rattle.deciding.proofs.by_room.Tie as tie
 
 returns : tie.Need-returns
-returns c = λ n. rw (c .enum-told .given .1)
+returns c = rw (c .enum-told .given .1)
 
 returns-2 : tie.Need-returns-2
-returns-2 c = λ n. rw (c .enum-told2 .given .1)
+returns-2 c = rw (c .enum-told2 .given .1)
 
 returns-3 : tie.Need-returns-3
-returns-3 c = λ n. rw (c .enum-told3 .given .1)
+returns-3 c = rw (c .enum-told3 .given .1)
 
 returns-4 : tie.Need-returns-4
-returns-4 c = λ n. rw (c .enum-told4 .given .1)
+returns-4 c = rw (c .enum-told4 .given .1)
 
 returns-5 : tie.Need-returns-5
-returns-5 c = λ n. rw (c .enum-told5 .given .1)
+returns-5 c = rw (c .enum-told5 .given .1)
 
 returns-6 : tie.Need-returns-6
-returns-6 c = λ n. rw (c .enum-told6 .given .1)
+returns-6 c = rw (c .enum-told6 .given .1)
 
 pub by-room-spec : {M : Type 1} → statement M
 by-room-spec =

@@ -1,0 +1,62 @@
+-- A complete text is decided, by the records and then by the journal: 30, 43, 31, 4. Only one that is stored changes the ledger and the journal.
+-- Assumes nothing.
+use Prim.Native.Nat.{ℕ}
+use mathlib.Core.Path.{_≡_}
+use mathlib.Core.List.{List}
+use lib.ListN.{length}
+use Rattle.memory.specs.Tests.{unless}
+use Rattle.room.specs.Room.{todaysShares}
+use Rattle.faults.specs.Message.{isMessage}
+use Rattle.journal.specs.Verdicts.{judgeOf}
+use Rattle.journal.specs.Storage.{grown, appended}
+use Rattle.journal.specs.declared.Ledger.{Ledger}
+use Rattle.journal.specs.declared.Verdict.{Verdict as Judgement}
+use Rattle.answers.specs.declared.Answer.{Answer}
+use Rattle.answers.specs.declared.Answer.the-variants.{Stored as IsStored, NoMessage, NoRoom, NoLine, WrongSize, Broken}
+use Rattle.deciding.specs.declared.Outcome.{Outcome}
+use Rattle.deciding.specs.declared.Outcome.the-variants.{Stored, Against, Left}
+use Rattle.deciding.specs.declared.Decided.{Decided}
+
+-- what the journal says of a message: 43, 31, or it is stored. That it has no line, no right size or no text is never asked here. [A31, A43]
+abbrev pub roomOutcome : Judgement → Outcome
+roomOutcome Judgement.Fits = Stored
+roomOutcome Judgement.NoRoom = Against NoRoom
+roomOutcome Judgement.Broken = Left Broken
+roomOutcome Judgement.NoLine = Left NoLine
+roomOutcome Judgement.WrongSize = Left WrongSize
+roomOutcome Judgement.Malformed = Against NoMessage
+
+-- why a complete text is no message, as the line is answered: 30, whatever is wrong with it [A30, R11]
+unfoldable pub objectionTo : List ℕ → Answer
+objectionTo text = NoMessage
+
+-- a complete text: the records, then the journal [A4, A30, O4]
+unfoldable pub outcomeOf : List ℕ → Ledger → ℕ → List ℕ → List ℕ → Outcome
+outcomeOf shares d i text journal = unless (isMessage text) (Against (objectionTo text)) (roomOutcome (judgeOf d shares i (length text) journal))
+
+-- the answer
+abbrev pub outcomeAnswer : Outcome → Answer
+outcomeAnswer Stored = IsStored
+outcomeAnswer (Against a) = a
+outcomeAnswer (Left a) = a
+
+-- the ledger
+abbrev pub ledgerBy : Outcome → Ledger → ℕ → List ℕ → Ledger
+ledgerBy Stored d i text = grown d i (length text)
+ledgerBy (Against a) d i text = d
+ledgerBy (Left a) d i text = d
+
+-- the journal
+abbrev pub journalBy : Outcome → Ledger → ℕ → List ℕ → List ℕ → List ℕ
+journalBy Stored d i text journal = appended d i text journal
+journalBy (Against a) d i text journal = journal
+journalBy (Left a) d i text journal = journal
+
+-- what deciding a text says, with the outcome o
+pub record DecidedBy (o : Outcome) (d : Ledger) (i : ℕ) (text j : List ℕ) (r : Decided) (j′ : List ℕ) : Type 0 where
+  pub outcome : r .outcome ≡ o
+  pub ledger : r .ledger ≡ ledgerBy o d i text
+  pub journal : j′ ≡ journalBy o d i text j
+
+abbrev pub Decision : Ledger → ℕ → List ℕ → List ℕ → Decided → List ℕ → Type 0
+Decision d i text j r j′ = DecidedBy (outcomeOf todaysShares d i text j) d i text j r j′
