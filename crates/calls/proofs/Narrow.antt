@@ -1,21 +1,16 @@
--- How many bytes are in use stays a number of 32 bits.
+-- After an event the bytes in use are still a number of 32 bits.
 -- Assumes nothing.
 use mathlib.Core.Path.{_≡_, refl, ap}
 use mathlib.Core.Bool.{Bool, true, false, _&&_}
-use mathlib.Core.List.{List, [], _∷_}
-use mathlib.Core.Option.{Option, none, some}
+use mathlib.Core.List.{List}
 use Prim.Native.Nat.{ℕ}
 use native.Mathlib.Omega.{arith}
-use lib.Dec.{ltb, leb, eqb}
+use lib.Dec.{ltb}
 use lib.ListN.{length}
-use Rattle.memory.specs.Sizes.{lines, journalSize}
+use Rattle.memory.specs.Sizes.{lines}
 use Rattle.memory.specs.Tests.{unless}
-use Rattle.header.specs.Entry.{Entry}
-use Rattle.journal.specs.Entries.{sizes, before, from}
-use Rattle.journal.specs.Chain.{chain}
 use Rattle.room.specs.Room.{todaysShares}
 use Rattle.journal.specs.Storage.{grown}
-use Rattle.journal.specs.Removal.{AfterTaking, shrunk, takeAt, takeOldest, takeFrom, takeOf}
 use Rattle.journal.specs.Answers.{isFits}
 use Rattle.journal.specs.Verdicts.{judgeOf}
 use Rattle.journal.specs.declared.Ledger.{Ledger}
@@ -23,7 +18,7 @@ use Rattle.journal.specs.declared.Verdict.{Verdict as Judgement}
 use Rattle.header.proofs.Heads.{head-size-high}
 use Rattle.journal.proofs.Judged.{fits-facts}
 use Rattle.journal.proofs.Wholes.{kept}
-use Rattle.calls.specs.Inner.Steps.{Narrow}
+use Rattle.numbers.specs.Changes.{Narrow}
 use Rattle.line.specs.Line.{withinLimits}
 use Rattle.line.specs.declared.Line.{Line}
 use Rattle.looking.specs.Views.{framesOf, textsOf, joinedText}
@@ -38,10 +33,6 @@ use Rattle.looking.specs.declared.Event.{Event}
 use Rattle.looking.specs.declared.Verdict.the-variants.{Left}
 use Rattle.looking.specs.Fitting.{textFits}
 use Rattle.answers.specs.declared.Answer.the-variants.{NoLine, WrongSize, BeyondLimits}
-
-either : (t : Bool) (a b : AfterTaking) → Narrow (a .taking .ledger) → Narrow (b .taking .ledger) → Narrow (unless t a b .taking .ledger)
-either true a b p q = q
-either false a b p q = p
 
 module _ (d : Ledger) (i : ℕ) (j : List ℕ) (w : Narrow d) where
   -- an entry that fits leaves fewer bytes in use than the journal and one entry have
@@ -79,25 +70,3 @@ module _ (l : Line) (d : Ledger) (e : Event) (m : Memory) (w : Narrow d) where
       by-tests true true false = w
       by-tests true false c = w
       by-tests false b c = w
-
--- a taking
-module _ (d : Ledger) (i : ℕ) (j b : List ℕ) (w : Narrow d) where
-  shrunk-narrow : (e : Entry) → Narrow (shrunk d i e)
-  unfolding shrunk
-  shrunk-narrow e = omega arith
-
-  at-narrow : (at : ℕ) (e : Entry) → Narrow (takeAt d i at e j b .taking .ledger)
-  unfolding takeAt
-  at-narrow at e = either (leb (length (e .text)) (length b)) _ _ w (shrunk-narrow e)
-
-  oldest-narrow : (at : ℕ) (es : List Entry) → Narrow (takeOldest d i at es j b .taking .ledger)
-  oldest-narrow at [] = w
-  oldest-narrow at (e ∷ es) = at-narrow at e
-
-  from-narrow : (o : Option (List Entry)) → Narrow (takeFrom d i o j b .taking .ledger)
-  from-narrow none = w
-  from-narrow (some es) = oldest-narrow (sizes (before i es)) (from i es)
-
-  pub taking-narrow : Narrow (takeOf d i j b .taking .ledger)
-  unfolding takeOf
-  taking-narrow = either (ltb i lines) _ _ w (either (eqb (length j) journalSize) _ _ w (from-narrow (chain d j)))

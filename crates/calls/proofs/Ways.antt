@@ -27,8 +27,6 @@ use Rattle.looking.specs.Answers.{answerOf}
 use Rattle.looking.specs.declared.Look.the-variants.{Done, Decides}
 use Rattle.receiving.specs.declared.Stepped.{Stepped}
 use Rattle.journal.specs.declared.Ledger.{Ledger}
-use Rattle.journal.specs.declared.Taking.{Taking}
-use Rattle.journal.specs.Removal.{takeOf, TakenFrom}
 use Rattle.line.specs.declared.State.the-variants.{Inside}
 use Rattle.looking.specs.declared.Event.{Event}
 use Rattle.looking.specs.declared.Kind.{Kind}
@@ -36,15 +34,14 @@ use Rattle.looking.specs.declared.Kind.the-variants.{Byte, Seconds}
 use Rattle.looking.specs.declared.Verdict.{Verdict}
 use Rattle.looking.specs.declared.Verdict.the-variants.{Collects, Begins}
 use Rattle.numbers.specs.Plain.{waiting, inside, begins, insideAt, firstAt, numberAt, stateOf, withLine, withSerial, withUsed, withinNumbers, onlyCollects, oneMore, quick, lineOf, ledgerOf, inNumbers}
-use Rattle.calls.specs.Calls.{HostState, AfterCall, refused, putBack, callOf, Called, Calling, TakeState, usedAfter, Taken, takingInNumbers}
-use Rattle.calls.specs.Inner.Steps.{Stepping, Deciding, PutBack, Narrow}
-use Rattle.numbers.specs.Changes.{isWithin, recordOf, isCollected, Collected, isBegun, Begun, recordAfter, serialAfter, countsAfter}
+use Rattle.calls.specs.Calls.{HostState, AfterCall, refused, putBack, callOf, Called, Calling}
+use Rattle.calls.specs.Inner.Steps.{Stepping, Deciding, PutBack}
+use Rattle.numbers.specs.Changes.{isWithin, recordOf, isCollected, Collected, isBegun, Begun, recordAfter, serialAfter, countsAfter, Narrow}
 use Rattle.numbers.specs.declared.Answered.{Answered}
-use Rattle.numbers.proofs.Changes.{within-facts}
+use Rattle.numbers.proofs.Changes.{within-facts, there}
 use Rattle.numbers.proofs.Numbers.{line-within, used-back, serial-back, count-back, begun-back}
-use Rattle.journal.proofs.Takings.{taken-line}
 use Rattle.receiving.proofs.Steps.{step-after, alone-asks, step-decides}
-use Rattle.calls.proofs.Narrow.{decide-narrow, taking-narrow}
+use Rattle.calls.proofs.Narrow.{decide-narrow}
 
 as-called : {c d : AfterCall} {r : Answered} {t : HostState} → c ≡ d → Called d r t → Called c r t
 as-called {c} {d} {r} {t} q x = subst (λ (y : AfterCall). Called y r t) (sym q) x
@@ -122,10 +119,6 @@ module _ (s : HostState) (l : Line) (e : Event) where
   put-decided n {d} {p} {ns} {us} {m} q x o =
       let y : Leaves (decideOf todaysShares l (ledger s) e n (s .memory)) p m = rw (← q) x in
       put-back y o
-
--- on a line that is there, what is put is put
-there : {A : Type 0} (i : ℕ) (x y : A) → i < lines → unless (ltb i lines) x y ≡ y
-there i x y h = rw (lt-ltb i lines h)
 
 pub put-record-there : (ns : List ℕ) (i : ℕ) (l : Line) {ns′ : List ℕ} → i < lines → ns′ ≡ recordAfter ns i l → ns′ ≡ withLine ns i l
 put-record-there ns i l h e = e ∙ there i ns (withLine ns i l) h
@@ -264,30 +257,3 @@ pub by-record : (s : HostState) (e : Event) {l : Line} {r : Answered} {t : HostS
 by-record s e {l} {r} {t} w q c =
     let k : l ≡ lineOf (s .numbers) (e .line) = q ∙ rw w in
     subst (λ (x : Line). Stepping s x e r t) k c
-
--- a taking
-module _ (ns : List ℕ) (i : ℕ) (s : TakeState) where
-  pub narrow-taken : (d : Ledger) {t : Taking} → t ≡ takeOf d i (s .journal) (s .buffer) .taking → Narrow d → Narrow (t .ledger)
-  narrow-taken d q w = subst (λ (x : Taking). Narrow (x .ledger)) (sym q) (taking-narrow d i (s .journal) (s .buffer) w)
-
-  -- 40, before the ledger is read
-  pub taken-nowhere : {r : Answered} → lines ≤ i → r ≡ inNumbers NoLine → Taken ns i s r s
-  unfolding takingInNumbers
-  taken-nowhere h a =
-      let n = taken-line (ledgerOf ns (s .counts)) i (s .journal) (s .buffer) h in
-      let counts : s .counts ≡ usedAfter (s .counts) i (takeOf (ledgerOf ns (s .counts)) i (s .journal) (s .buffer)) = rw (le-ltb i lines h) in
-      record {
-        result = a ∙ ap (λ (z : Taking). takingInNumbers (z .answer)) (n .result);
-        state = λ x. record { counts = counts x; journal = n .after x; buffer = n .lent x };
-      }
-
-  pub taken-there : {d : Ledger} {t : Taking} {us j b : List ℕ} {r : Answered} → i < lines → d ≡ ledgerOf ns (s .counts) → TakenFrom d i (s .journal) (s .buffer) t j b → r ≡ takingInNumbers (t .answer)
-      → us ≡ countsAfter (s .counts) i (getD (t .ledger .used) i 0) (t .ledger .in_use) → Taken ns i s r (record { counts = us; journal = j; buffer = b })
-  taken-there {d} {t} {us} {j} {b} {r} h p x q o =
-      let y : TakenFrom (ledgerOf ns (s .counts)) i (s .journal) (s .buffer) t j b = rw (← p) x in
-      let counts : us ≡ usedAfter (s .counts) i (takeOf (ledgerOf ns (s .counts)) i (s .journal) (s .buffer)) =
-      rw (lt-ltb i lines h) (o ∙ there i (s .counts) (withUsed (s .counts) i (t .ledger)) h ∙ ap (λ (z : Taking). withUsed (s .counts) i (z .ledger)) (y .result)) in
-      record {
-        result = q ∙ ap (λ (z : Taking). takingInNumbers (z .answer)) (y .result);
-        state = λ x. record { counts = counts x; journal = y .after x; buffer = y .lent x };
-      }

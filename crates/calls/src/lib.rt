@@ -1,4 +1,4 @@
-// A host's calls: an event, and a taking, over the state that a host keeps in plain numbers (`layout` says where each stands).
+// A host's events, over the state that it keeps in plain numbers (`layout` says where each stands).
 ghost use Prim.Native.Nat.{_<_};
 ghost use mathlib.Core.Path.{_≡_};
 ghost use mathlib.Core.Bool.{true};
@@ -8,11 +8,10 @@ ghost use Rattle.looking.specs.Lent.{rightLengths};
 ghost use Rattle.looking.specs.Answers.{answerOf};
 ghost use Rattle.memory.specs.Sizes.{lines};
 ghost use Rattle.numbers.specs.Plain.{inNumbers as Plain·inNumbers, lineOf, withLine};
-ghost use Rattle.numbers.specs.Changes.{isWithin};
-ghost use Rattle.calls.specs.Calls.{Calling, Taken, takingInNumbers};
-ghost use Rattle.calls.specs.Inner.Steps.{Stepping, Deciding, PutBack, Narrow};
+ghost use Rattle.numbers.specs.Changes.{isWithin, Narrow};
+ghost use Rattle.calls.specs.Calls.{Calling};
+ghost use Rattle.calls.specs.Inner.Steps.{Stepping, Deciding, PutBack};
 use answers::Answer;
-use journal::Took;
 use layout::COUNTS;
 use layout::NUMBERS;
 use line::Line;
@@ -22,9 +21,6 @@ use looking::Look;
 use looking::Verdict;
 use numbers::Answered;
 use receiving::Stepped;
-
-// An entry taken, the only answer with values.
-const TAKEN: u8 = 8;
 
 // A byte has come on a line. Most bytes are only collected: that changes one number and one byte, and copies nothing.
 pub fn byte(
@@ -186,49 +182,4 @@ fn put_back(
     numbers::put_serial(numbers, i, booked.serials[i]);
     numbers::put_used(counts, i, booked.used[i], booked.in_use as u32);
     numbers::in_numbers(answer)
-}
-
-// The text of a line's oldest entry goes to the start of the buffer.
-pub fn take(
-    line: u8,
-    numbers: &[u16; NUMBERS],
-    counts: &mut [u32; COUNTS],
-    journal: &mut [u8],
-    buffer: &mut [u8],
-) -> Answered
-    ensures { λ r. ⌜ Taken (now (numbers .entry)) line
-        (record { counts = now (counts .entry); journal = now (journal .entry); buffer = now (buffer .entry) })
-        r (record { counts = now (counts .exit); journal = now (journal .exit); buffer = now (buffer .exit) }) ⌝ }
-{
-    let i = line as usize;
-    if memory::LINES <= i {
-        return numbers::in_numbers(Answer::NoLine);
-    }
-    let ledger = numbers::ledger_of(numbers, counts);
-    let taking = journal::take(ledger, line, journal, buffer);
-    let booked = taking.ledger;
-    let took = taking.answer;
-    numbers::put_used(counts, i, booked.used[i], booked.in_use as u32);
-    taking_in_numbers(took)
-}
-
-// The answer to a taking; only 8 has values.
-fn taking_in_numbers(took: Took) -> Answered
-    ensures { λ r. ⌜ r ≡ takingInNumbers took ⌝ }
-{
-    match took {
-        Took::Taken(length, serial) => Answered {
-            number: TAKEN,
-            reply: 0,
-            serial,
-            place: 0,
-            digits: 0,
-            length,
-        },
-        Took::NothingWaiting => numbers::in_numbers(taking::answer_to(took)),
-        Took::BufferShort => numbers::in_numbers(taking::answer_to(took)),
-        Took::Broken => numbers::in_numbers(taking::answer_to(took)),
-        Took::NoLine => numbers::in_numbers(taking::answer_to(took)),
-        Took::WrongSize => numbers::in_numbers(taking::answer_to(took)),
-    }
 }

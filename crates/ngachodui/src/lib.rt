@@ -4,7 +4,8 @@ ghost use mathlib.Core.Path.{_≡_};
 ghost use Rattle.looking.specs.declared.Kind.the-variants.{Byte, Seconds};
 ghost use Rattle.faults.specs.Message.{isMessage};
 ghost use Rattle.layout.specs.Layout.{layout, Fresh};
-ghost use Rattle.calls.specs.Calls.{Calling, Taken};
+ghost use Rattle.calls.specs.Calls.{Calling};
+ghost use Rattle.reader.specs.Takings.{Taken};
 ghost use Rattle.texts.specs.Texts.{CutFrames, Escaped, Unescaped, RecordsRead};
 use layout::Layout;
 use numbers::Answered;
@@ -61,7 +62,7 @@ pub extern "C" fn ngachodui_take(
         (record { counts = now (counts .entry); journal = now (journal .entry); buffer = now (buffer .entry) })
         r (record { counts = now (counts .exit); journal = now (journal .exit); buffer = now (buffer .exit) }) ⌝ }
 {
-    calls::take(line, numbers, counts, journal, buffer)
+    reader::take(line, numbers, counts, journal, buffer)
 }
 
 // Every line fresh, the journal empty. The version of the layout ends the name: an object of another version finds no such function.

@@ -28,7 +28,8 @@ use Rattle.looking.specs.declared.Event.{Event}
 use Rattle.gateway_laws.proofs.Laws.{unchanged, left-unchanged, limits-kept}
 use Rattle.layout.specs.Layout.{freshNumbers, Fresh}
 use Rattle.numbers.specs.Plain.{lineOf, ledgerOf, withinNumbers, withUsed, inNumbers}
-use Rattle.calls.specs.Calls.{HostState, AfterCall, refused, putBack, callOf, Calling, TakeState, Taken, takingInNumbers}
+use Rattle.calls.specs.Calls.{HostState, AfterCall, refused, putBack, callOf, Calling}
+use Rattle.reader.specs.Takings.{TakeState, Taken, takingInNumbers}
 use Rattle.ngachodui_laws.specs.Hosting.{linesOf, gatewayOf, Ordered}
 use Rattle.ngachodui_laws.specs.HostRuns.{InOrder}
 use Rattle.ngachodui_laws.specs.Inner.Hosting.{Hosts, answerInNumbers, HostsTaking}

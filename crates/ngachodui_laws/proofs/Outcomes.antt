@@ -39,8 +39,10 @@ use Rattle.serial.specs.Serial.{event, taking}
 use Rattle.promises.specs.Machine.{GatewayItem, came, onLine}
 use Rattle.layout.specs.Layout.{Fresh}
 use Rattle.numbers.specs.Plain.{lineOf, ledgerOf, withinNumbers, withUsed}
-use Rattle.calls.specs.Calls.{HostState, putBack, TakeState, takingOf}
-use Rattle.calls.proofs.OneOutcome.{call-once, take-once}
+use Rattle.calls.specs.Calls.{HostState, putBack}
+use Rattle.reader.specs.Takings.{TakeState, takingOf}
+use Rattle.calls.proofs.OneOutcome.{call-once}
+use Rattle.reader.proofs.OneOutcome.{take-once}
 use Rattle.ngachodui_laws.specs.Hosting.{isRefusal}
 use Rattle.ngachodui_laws.specs.HostRuns.{freshHost, HostResponse, lentOf, hostStep, numberTo, after}
 use Rattle.ngachodui_laws.specs.Outcomes.{Allows, ignores, lineIn, LineKept}

@@ -25,7 +25,8 @@ use Rattle.gateway_laws.specs.Classes.{Class, classOf, quiet, opening, closing,
 use Rattle.gateway_laws.proofs.Laws.{unchanged, left-unchanged, refused-unchanged}
 use Rattle.gateway_laws.proofs.Takings.{taking-refused}
 use Rattle.numbers.specs.Plain.{lineOf, ledgerOf, withinNumbers, withUsed, inNumbers}
-use Rattle.calls.specs.Calls.{HostState, AfterCall, refused, putBack, callOf, TakeState, Taken as TakenBy}
+use Rattle.calls.specs.Calls.{HostState, AfterCall, refused, putBack, callOf}
+use Rattle.reader.specs.Takings.{TakeState, Taken as TakenBy}
 use Rattle.ngachodui_laws.specs.Hosting.{gatewayOf, isRefusal}
 use Rattle.numbers.specs.declared.Answered.{Answered}
 use Rattle.numbers.proofs.Numbers.{numbers-back, used-back}

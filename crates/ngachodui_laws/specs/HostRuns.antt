@@ -11,7 +11,8 @@ use Rattle.serial.specs.Serial.{event, taking, annotate, final, Every}
 use Rattle.promises.specs.Machine.{State, GatewayItem, onLine, May}
 use Rattle.promises.specs.Runs.{RightSizes}
 use Rattle.layout.specs.Layout.{freshNumbers}
-use Rattle.calls.specs.Calls.{HostState, callOf, TakeState, takingOf}
+use Rattle.calls.specs.Calls.{HostState, callOf}
+use Rattle.reader.specs.Takings.{TakeState, takingOf}
 use Rattle.ngachodui_laws.specs.Hosting.{gatewayOf, Ordered}
 use Rattle.numbers.specs.declared.Answered.{Answered}
 

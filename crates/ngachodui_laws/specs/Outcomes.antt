@@ -17,7 +17,8 @@ use Rattle.serial.specs.Serial.{event, taking}
 use Rattle.promises.specs.Machine.{GatewayItem, onLine}
 use Rattle.layout.specs.Layout.{fields, serialAt}
 use Rattle.numbers.specs.Plain.{numberAt}
-use Rattle.calls.specs.Calls.{HostState, Calling, Taken}
+use Rattle.calls.specs.Calls.{HostState, Calling}
+use Rattle.reader.specs.Takings.{Taken}
 use Rattle.ngachodui_laws.specs.HostRuns.{HostResponse, lentOf}
 
 -- what the contract of `ngachodui_take` allows: the lines' numbers are lent to it to read, and neither the unfinished texts nor the frames are lent at all

@@ -8,6 +8,7 @@ use borrow.Author.Tests.{lt-ltb, le-ltb, ltb-true, eq-eqb, ne-eqb}
 use lib.Dec.{ltb}
 use lib.ListN.{length, set}
 use Rattle.memory.specs.Sizes.{lines, framesSize}
+use Rattle.memory.specs.Tests.{unless}
 use Rattle.memory.proofs.Tests.{and-left, and-right}
 use Rattle.looking.specs.Views.{frameStart}
 use Rattle.looking.specs.declared.Kind.{Kind}
@@ -71,3 +72,7 @@ module _ (ns : List ℕ) (i : ℕ) where
 
   pub not-within : i < lines → isWithin ns i ≡ false → withinNumbers ns i ≡ false
   not-within h e = within-there h refl ∙ e
+
+-- on a line that is there, what is put is put
+pub there : {A : Type 0} (i : ℕ) (x y : A) → i < lines → unless (ltb i lines) x y ≡ y
+there i x y h = rw (lt-ltb i lines h)

@@ -42,10 +42,14 @@ pub record Begun (ns : List ℕ) (i : ℕ) (k : Kind) (r : Bool) (ns′ : List �
   pub result : r ≡ isBegun ns i k
   pub numbers : ns′ ≡ unless (isBegun ns i k) ns (insideAt ns i)
 
--- the ledger that the numbers stand for; its bytes in use are a number of 32 bits
+-- the bytes in use are a number of 32 bits
+abbrev pub Narrow : Ledger → Type 0
+Narrow d = d .in_use < 2 ^ 32
+
+-- the ledger that the numbers stand for
 pub record LedgerRead (ns us : List ℕ) (d : Ledger) : Type 0 where
   pub result : d ≡ ledgerOf ns us
-  pub narrow : d .in_use < 2 ^ 32
+  pub narrow : Narrow d
 
 -- another record, another serial, and other counts
 abbrev pub recordAfter : List ℕ → ℕ → Line → List ℕ

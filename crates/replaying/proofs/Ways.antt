@@ -22,7 +22,8 @@ use Rattle.listing.proofs.Columns.{length-row}
 use Rattle.decimal.proofs.Digits.{most-digits, twenty}
 use Rattle.looking.specs.declared.Event.{Event as GatewayEvent}
 use Rattle.looking.specs.declared.Kind.{Kind}
-use Rattle.calls.specs.Calls.{HostState, Calling, TakeState, Taken}
+use Rattle.calls.specs.Calls.{HostState, Calling}
+use Rattle.reader.specs.Takings.{TakeState, Taken}
 use Rattle.numbers.specs.declared.Answered.{Answered}
 use Rattle.replaying.specs.Lines.{nextOf}
 use Rattle.replaying.specs.Desk.{rowRoom, Desk, deskOf, lentToEvent, eventAsked, lentToTaking, takingAsked}

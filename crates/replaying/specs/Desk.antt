@@ -4,7 +4,8 @@ use Prim.Native.Nat.{ℕ}
 use mathlib.Core.List.{List, _++_}
 use lib.ListN.{take, drop}
 use Rattle.looking.specs.declared.Event.{Event}
-use Rattle.calls.specs.Calls.{HostState, callOf, TakeState, takingOf}
+use Rattle.calls.specs.Calls.{HostState, callOf}
+use Rattle.reader.specs.Takings.{TakeState, takingOf}
 use Rattle.numbers.specs.declared.Answered.{Answered}
 
 -- the longest row: 20 digits, 3, 3 and 20, with three spaces and the newline

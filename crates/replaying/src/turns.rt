@@ -72,7 +72,7 @@ fn ask(
         }
         Item::Taking(line, n) => {
             let lent = least(n, buffer.len());
-            let answered = calls::take(line, numbers, counts, journal, &mut buffer[..lent]);
+            let answered = reader::take(line, numbers, counts, journal, &mut buffer[..lent]);
             Columns::Row(line, answered.number, answered.length)
         }
         Item::NotAnEvent => Columns::NoRow,

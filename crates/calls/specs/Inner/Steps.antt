@@ -1,10 +1,9 @@
 -- The parts of an event past 40 to 42: the step of its line, the deciding of a message, and an outcome put back into the numbers.
 -- Assumes nothing.
-use Prim.Native.Nat.{ℕ, _^_, _<_}
+use Prim.Native.Nat.{ℕ}
 use mathlib.Core.Path.{_≡_}
 use mathlib.Core.List.{List}
 use Rattle.room.specs.Room.{todaysShares}
-use Rattle.journal.specs.declared.Ledger.{Ledger}
 use Rattle.line.specs.declared.Line.{Line}
 use Rattle.looking.specs.declared.Event.{Event}
 use Rattle.receiving.specs.Steps.{stepOf}
@@ -22,10 +21,7 @@ Stepping s l e r t = Called (putBack s (e .line) (stepOf todaysShares l (ledgerO
 abbrev pub Deciding : HostState → Line → Event → ℕ → Answered → HostState → Type 0
 Deciding s l e n r t = Called (putBack s (e .line) (decideOf todaysShares l (ledgerOf (s .numbers) (s .counts)) e n (s .memory))) r t
 
--- the outcome of a decision in the numbers, where its bytes in use are a number of 32 bits
-abbrev pub Narrow : Ledger → Type 0
-Narrow d = d .in_use < 2 ^ 32
-
+-- the outcome of a decision in the numbers
 pub record PutBack (ns us : List ℕ) (i : ℕ) (s : Stepped) (r : Answered) (ns′ us′ : List ℕ) : Type 0 where
   pub result : r ≡ inNumbers (s .answer)
   pub numbers : ns′ ≡ withSerial (withLine ns i (s .line)) i (s .ledger)

@@ -9,7 +9,8 @@ use Rattle.answers.specs.declared.Answer.{Answer}
 use Rattle.gateway.specs.Events.{AfterEvent, AfterTake}
 use Rattle.numbers.specs.Plain.{replyByte, inNumbers}
 use Rattle.numbers.specs.declared.Answered.{Answered}
-use Rattle.calls.specs.Calls.{AfterCall, TakeState}
+use Rattle.calls.specs.Calls.{AfterCall}
+use Rattle.reader.specs.Takings.{TakeState}
 use Rattle.promises.specs.Machine.{Response, GatewayItem}
 use Rattle.ngachodui_laws.specs.Hosting.{gatewayOf, Ordered}
 use Rattle.ngachodui_laws.specs.HostRuns.{HostResponse}

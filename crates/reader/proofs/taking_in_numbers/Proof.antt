@@ -1,4 +1,4 @@
--- `calls::told_taking` meets its contract: 8 with its values, or the answer that the gateway has for it.
+-- `reader::taking_in_numbers` meets its contract: 8 with its values, or the answer that the gateway has for it.
 -- Assumes nothing.
 use borrow.Author.Needs.{needs}
 use mathlib.Core.Path.{_≡_, sym, ap, _∙_}
@@ -7,9 +7,9 @@ use Rattle.answers.specs.declared.Answer.{Answer}
 use Rattle.taking.specs.Taking.{tookAnswer}
 use Rattle.numbers.specs.declared.Answered.{Answered}
 use Rattle.numbers.specs.Plain.{inNumbers}
-use Rattle.calls.specs.Calls.{takingInNumbers}
-use Rattle.calls.proofs.taking_in_numbers.Statement.{statement}
-use Rattle.calls.proofs.taking_in_numbers.Tie as tie
+use Rattle.reader.specs.Takings.{takingInNumbers}
+use Rattle.reader.proofs.taking_in_numbers.Statement.{statement}
+use Rattle.reader.proofs.taking_in_numbers.Tie as tie
 
 -- the gateway's answer to what became of a taking
 handed-on : (took known : Took) (a : Answer) {r : Answered} → took ≡ known → r ≡ inNumbers a → a ≡ tookAnswer took → r ≡ inNumbers (tookAnswer known)

@@ -1,12 +1,12 @@
--- `calls::take` meets its contract: 40, or the journal's taking of the ledger that the numbers stand for.
+-- `reader::take` meets its contract: 40, or the journal's taking of the ledger that the numbers stand for.
 -- Assumes nothing.
 use borrow.Author.Needs.{needs}
 use native.Mathlib.Omega.{arith}
 use denote.Ref.{now}
-use Rattle.calls.specs.Calls.{TakeState}
-use Rattle.calls.proofs.Ways.{narrow-taken, taken-nowhere, taken-there}
-use Rattle.calls.proofs.take.Statement.{statement}
-use Rattle.calls.proofs.take.Tie as tie
+use Rattle.reader.specs.Takings.{TakeState}
+use Rattle.reader.proofs.Ways.{narrow-taken, taken-nowhere, taken-there}
+use Rattle.reader.proofs.take.Statement.{statement}
+use Rattle.reader.proofs.take.Tie as tie
 
 -- where the function was entered, from behind the ledger; and where the journal was asked, from behind what it left
 abbrev entry : tie.After-ledger-of → tie.Start

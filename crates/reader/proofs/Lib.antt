@@ -1,0 +1,3 @@
+pub mod Narrow
+pub mod Ways
+pub mod OneOutcome
