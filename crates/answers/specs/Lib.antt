@@ -1,2 +1,3 @@
 pub mod Paper
+pub mod InNumbers
 pub mod Inner

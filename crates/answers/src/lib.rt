@@ -1,6 +1,7 @@
 // The answers, their numbers, and the byte that is sent back with each.
 ghost use mathlib.Core.Path.{_≡_};
 ghost use Rattle.answers.specs.Paper.{numberOf, replyOf};
+ghost use Rattle.answers.specs.InNumbers.{replyByte, inNumbers as InNumbers·inNumbers};
 
 pub const ACK: u8 = 0x06;
 
@@ -108,4 +109,41 @@ pub fn reply_to(number: u8) -> Reply
         return Reply::Byte(NAK);
     }
     Reply::Silence
+}
+
+// An answer: its number, the byte to send back (0 for none), and for 8 the serial and the text's length.
+// The place of a fault and the case of check digits are 0 in this version. With them no byte is left unnamed, so that an answer
+// is made in registers: bytes without a name are left out of stores, and a load over such a store waits for it.
+#[repr(C)]
+pub struct Answered {
+    pub number: u8,
+    pub reply: u8,
+    pub serial: u16,
+    pub place: u16,
+    pub digits: u16,
+    pub length: usize,
+}
+
+// The answer to an event.
+pub fn in_numbers(answer: Answer) -> Answered
+    ensures { λ r. ⌜ r ≡ InNumbers·inNumbers answer ⌝ }
+{
+    Answered {
+        number: answer.number(),
+        reply: reply_byte(answer.reply()),
+        serial: 0,
+        place: 0,
+        digits: 0,
+        length: 0,
+    }
+}
+
+// The byte, or 0 for none.
+fn reply_byte(reply: Reply) -> u8
+    ensures { λ r. ⌜ r ≡ replyByte reply ⌝ }
+{
+    match reply {
+        Reply::Silence => 0,
+        Reply::Byte(b) => b,
+    }
 }

@@ -33,13 +33,17 @@ use Rattle.looking.specs.declared.Kind.{Kind}
 use Rattle.looking.specs.declared.Kind.the-variants.{Byte, Seconds}
 use Rattle.looking.specs.declared.Verdict.{Verdict}
 use Rattle.looking.specs.declared.Verdict.the-variants.{Collects, Begins}
-use Rattle.numbers.specs.Plain.{waiting, inside, begins, insideAt, firstAt, numberAt, stateOf, withLine, withSerial, withUsed, withinNumbers, onlyCollects, oneMore, quick, lineOf, ledgerOf, inNumbers}
+use Rattle.layout.specs.Layout.{firstAt, numberAt}
+use Rattle.ledger.specs.Ledgers.{withSerial, withUsed, ledgerOf, serialAfter, countsAfter, Narrow}
+use Rattle.answers.specs.InNumbers.{inNumbers}
+use Rattle.numbers.specs.Plain.{waiting, inside, begins, insideAt, stateOf, withLine, withinNumbers, onlyCollects, oneMore, quick, lineOf}
 use Rattle.calls.specs.Calls.{HostState, AfterCall, refused, putBack, callOf, Called, Calling}
 use Rattle.calls.specs.Inner.Steps.{Stepping, Deciding, PutBack}
-use Rattle.numbers.specs.Changes.{isWithin, recordOf, isCollected, Collected, isBegun, Begun, recordAfter, serialAfter, countsAfter, Narrow}
-use Rattle.numbers.specs.declared.Answered.{Answered}
-use Rattle.numbers.proofs.Changes.{within-facts, there}
-use Rattle.numbers.proofs.Numbers.{line-within, used-back, serial-back, count-back, begun-back}
+use Rattle.numbers.specs.Changes.{isWithin, recordOf, isCollected, Collected, isBegun, Begun, recordAfter}
+use Rattle.answers.specs.declared.Answered.{Answered}
+use Rattle.ledger.proofs.Ledgers.{there, used-back}
+use Rattle.numbers.proofs.Changes.{within-facts}
+use Rattle.numbers.proofs.Numbers.{line-within, serial-back, count-back, begun-back}
 use Rattle.receiving.proofs.Steps.{step-after, alone-asks, step-decides}
 use Rattle.calls.proofs.Narrow.{decide-narrow}
 

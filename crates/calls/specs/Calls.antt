@@ -12,8 +12,10 @@ use Rattle.answers.specs.declared.Answer.the-variants.{NoLine, WrongSize, Beyon
 use Rattle.looking.specs.Lent.{rightSizes}
 use Rattle.receiving.specs.Steps.{Memory, AfterStep, stepOf}
 use Rattle.looking.specs.declared.Event.{Event}
-use Rattle.numbers.specs.Plain.{withinNumbers, lineOf, withLine, ledgerOf, withSerial, withUsed, inNumbers}
-use Rattle.numbers.specs.declared.Answered.{Answered}
+use Rattle.ledger.specs.Ledgers.{ledgerOf, withSerial, withUsed}
+use Rattle.answers.specs.InNumbers.{inNumbers}
+use Rattle.numbers.specs.Plain.{withinNumbers, lineOf, withLine}
+use Rattle.answers.specs.declared.Answered.{Answered}
 
 -- all that a host keeps between its calls, and lends to each event
 pub record HostState : Type 0 where

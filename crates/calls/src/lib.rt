@@ -7,11 +7,14 @@ ghost use lib.ListN.{length};
 ghost use Rattle.looking.specs.Lent.{rightLengths};
 ghost use Rattle.looking.specs.Answers.{answerOf};
 ghost use Rattle.memory.specs.Sizes.{lines};
-ghost use Rattle.numbers.specs.Plain.{inNumbers as Plain·inNumbers, lineOf, withLine};
-ghost use Rattle.numbers.specs.Changes.{isWithin, Narrow};
+ghost use Rattle.answers.specs.InNumbers.{inNumbers as Plain·inNumbers};
+ghost use Rattle.numbers.specs.Plain.{lineOf, withLine};
+ghost use Rattle.ledger.specs.Ledgers.{Narrow};
+ghost use Rattle.numbers.specs.Changes.{isWithin};
 ghost use Rattle.calls.specs.Calls.{Calling};
 ghost use Rattle.calls.specs.Inner.Steps.{Stepping, Deciding, PutBack};
 use answers::Answer;
+use answers::Answered;
 use layout::COUNTS;
 use layout::NUMBERS;
 use line::Line;
@@ -19,7 +22,6 @@ use looking::Event;
 use looking::Kind;
 use looking::Look;
 use looking::Verdict;
-use numbers::Answered;
 use receiving::Stepped;
 
 // A byte has come on a line. Most bytes are only collected: that changes one number and one byte, and copies nothing.
@@ -39,13 +41,13 @@ pub fn byte(
 {
     let i = line as usize;
     if memory::LINES <= i {
-        return numbers::in_numbers(Answer::NoLine);
+        return answers::in_numbers(Answer::NoLine);
     }
     if !looking::are_right(journal.len(), unfinished.len(), frames.len()) {
-        return numbers::in_numbers(Answer::WrongSize);
+        return answers::in_numbers(Answer::WrongSize);
     }
     if numbers::collect(i, byte, numbers, frames) {
-        return numbers::in_numbers(Answer::Nothing);
+        return answers::in_numbers(Answer::Nothing);
     }
     let e = Event {
         line,
@@ -71,10 +73,10 @@ pub fn seconds(
 {
     let i = line as usize;
     if memory::LINES <= i {
-        return numbers::in_numbers(Answer::NoLine);
+        return answers::in_numbers(Answer::NoLine);
     }
     if !looking::are_right(journal.len(), unfinished.len(), frames.len()) {
-        return numbers::in_numbers(Answer::WrongSize);
+        return answers::in_numbers(Answer::WrongSize);
     }
     let e = Event {
         line,
@@ -100,11 +102,11 @@ fn event(
 {
     let i = e.line as usize;
     if !numbers::is_within(numbers, i) {
-        return numbers::in_numbers(Answer::BeyondLimits);
+        return answers::in_numbers(Answer::BeyondLimits);
     }
     let kind = e.kind;
     if numbers::begin(i, kind, numbers) {
-        return numbers::in_numbers(Answer::Nothing);
+        return answers::in_numbers(Answer::Nothing);
     }
     step(e, numbers, counts, journal, unfinished, frames)
 }
@@ -140,7 +142,7 @@ fn leave(i: u8, line: Line, v: Verdict, numbers: &mut [u16; NUMBERS]) -> Answere
     ensures { λ r. ⌜ (now (numbers .exit) ≡ withLine (now (numbers .entry)) i line) × (r ≡ Plain·inNumbers (answerOf v)) ⌝ }
 {
     numbers::put_record(numbers, i as usize, line);
-    numbers::in_numbers(v.answer())
+    answers::in_numbers(v.answer())
 }
 
 // A message that is complete: the ledger read from the numbers, the decision, and its outcome put back into the numbers.
@@ -160,7 +162,7 @@ fn decide(
         line e n r
         (record { numbers = now (numbers .exit); counts = now (counts .exit); memory = record { journal = now (journal .exit); unfinished = now (unfinished .exit); frames = now (frames .exit) } }) ⌝ }
 {
-    let ledger = numbers::ledger_of(numbers, counts);
+    let ledger = ledger::ledger_of(numbers, counts);
     let s = receiving::decide(line, ledger, e, n, journal, unfinished, frames);
     put_back(e.line, s, numbers, counts)
 }
@@ -179,7 +181,7 @@ fn put_back(
     let booked = s.ledger;
     let answer = s.answer;
     numbers::put_record(numbers, i, s.line);
-    numbers::put_serial(numbers, i, booked.serials[i]);
-    numbers::put_used(counts, i, booked.used[i], booked.in_use as u32);
-    numbers::in_numbers(answer)
+    ledger::put_serial(numbers, i, booked.serials[i]);
+    ledger::put_used(counts, i, booked.used[i], booked.in_use as u32);
+    answers::in_numbers(answer)
 }

@@ -3,7 +3,7 @@
 use Prim.Native.Nat.{ℕ, zero, suc, _+_, _*_}
 use mathlib.Core.Path.{_≡_}
 use mathlib.Core.List.{List, [], _∷_, _++_}
-use lib.ListN.{replicate}
+use lib.ListN.{getD, replicate}
 use Rattle.memory.specs.Sizes.{lines, journalSize, unfinishedSize, framesSize}
 use Rattle.layout.specs.declared.Layout.{Layout}
 
@@ -35,6 +35,13 @@ refusingAt = 6
 
 abbrev pub serialAt : ℕ
 serialAt = 7
+
+-- the first number of line i, its state, and the number k places on
+abbrev pub firstAt : List ℕ → ℕ → ℕ
+firstAt ns i = getD ns (start i) 0
+
+abbrev pub numberAt : List ℕ → ℕ → ℕ → ℕ
+numberAt ns i k = getD ns (start i + k) 0
 
 -- higher with each layout that is not the one before: a host compiled for another one must not use this library
 abbrev pub version : ℕ

@@ -7,8 +7,8 @@ ghost use Rattle.layout.specs.Layout.{layout, Fresh};
 ghost use Rattle.calls.specs.Calls.{Calling};
 ghost use Rattle.reader.specs.Takings.{Taken};
 ghost use Rattle.texts.specs.Texts.{CutFrames, Escaped, Unescaped, RecordsRead};
+use answers::Answered;
 use layout::Layout;
-use numbers::Answered;
 use texts::Made;
 
 // A byte has come on a line.

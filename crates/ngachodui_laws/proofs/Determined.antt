@@ -17,9 +17,11 @@ use Rattle.line.specs.declared.Line.{Line}
 use Rattle.gateway.specs.Events.{lineAt}
 use Rattle.gateway.specs.declared.Gateway.{Gateway}
 use Rattle.promises.specs.Machine.{State}
-use Rattle.layout.specs.Layout.{fields, start}
-use Rattle.numbers.specs.Plain.{firstAt, numberAt, stateNumber, lastNumber, flag, lineOf, ledgerOf}
-use Rattle.numbers.proofs.Numbers.{numbers-facts, state-back, last-back, flag-back, used-at, serial-at}
+use Rattle.layout.specs.Layout.{fields, start, firstAt, numberAt}
+use Rattle.ledger.specs.Ledgers.{ledgerOf}
+use Rattle.numbers.specs.Plain.{stateNumber, lastNumber, flag, lineOf}
+use Rattle.ledger.proofs.Ledgers.{used-at, serial-at}
+use Rattle.numbers.proofs.Numbers.{numbers-facts, state-back, last-back, flag-back}
 use Rattle.calls.specs.Calls.{HostState}
 use Rattle.ngachodui_laws.specs.Hosting.{gatewayOf, Ordered}
 use Rattle.ngachodui_laws.specs.HostRuns.{gatewayState, InOrder}

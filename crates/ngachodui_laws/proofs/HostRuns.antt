@@ -27,7 +27,7 @@ use Rattle.serial.specs.Serial.{event, taking, annotate, final, Every}
 use Rattle.promises.specs.Machine.{State, Response, GatewayItem, onLine, step, Sound}
 use Rattle.promises.specs.Runs.{fresh, answered, isFault}
 use Rattle.promises.proofs.Runs.{always-sound, never-faulty}
-use Rattle.numbers.specs.Plain.{inNumbers}
+use Rattle.answers.specs.InNumbers.{inNumbers}
 use Rattle.calls.specs.Calls.{HostState}
 use Rattle.ngachodui_laws.specs.HostRuns.{gatewayState, InOrder, freshHost, HostResponse, lentOf, hostStep, Run, historyOf, endOf}
 use Rattle.ngachodui_laws.specs.Inner.Hosting.{answerInNumbers, inNumbersOf, seenOf}

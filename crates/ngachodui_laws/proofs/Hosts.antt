@@ -27,14 +27,17 @@ use Rattle.taking.specs.Taking.{tookAnswer}
 use Rattle.looking.specs.declared.Event.{Event}
 use Rattle.gateway_laws.proofs.Laws.{unchanged, left-unchanged, limits-kept}
 use Rattle.layout.specs.Layout.{freshNumbers, Fresh}
-use Rattle.numbers.specs.Plain.{lineOf, ledgerOf, withinNumbers, withUsed, inNumbers}
+use Rattle.ledger.specs.Ledgers.{ledgerOf, withUsed}
+use Rattle.answers.specs.InNumbers.{inNumbers}
+use Rattle.numbers.specs.Plain.{lineOf, withinNumbers}
 use Rattle.calls.specs.Calls.{HostState, AfterCall, refused, putBack, callOf, Calling}
 use Rattle.reader.specs.Takings.{TakeState, Taken, takingInNumbers}
 use Rattle.ngachodui_laws.specs.Hosting.{linesOf, gatewayOf, Ordered}
 use Rattle.ngachodui_laws.specs.HostRuns.{InOrder}
 use Rattle.ngachodui_laws.specs.Inner.Hosting.{Hosts, answerInNumbers, HostsTaking}
-use Rattle.numbers.specs.declared.Answered.{Answered}
-use Rattle.numbers.proofs.Numbers.{line-within, numbers-back, used-back}
+use Rattle.answers.specs.declared.Answered.{Answered}
+use Rattle.ledger.proofs.Ledgers.{used-back}
+use Rattle.numbers.proofs.Numbers.{line-within, numbers-back}
 use Rattle.ngachodui_laws.proofs.Stores.{stored, stored-length, within-other, within-own}
 use Rattle.ngachodui_laws.proofs.Touched.{step-touched, taking-lowered}
 use Rattle.ngachodui_laws.proofs.PutBack.{line-at, counts-long, used-long, serials-long, gateway-put, taking-put}

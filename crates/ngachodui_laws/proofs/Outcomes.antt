@@ -38,7 +38,8 @@ use Rattle.gateway_laws.proofs.Laws.{parts-of-others}
 use Rattle.serial.specs.Serial.{event, taking}
 use Rattle.promises.specs.Machine.{GatewayItem, came, onLine}
 use Rattle.layout.specs.Layout.{Fresh}
-use Rattle.numbers.specs.Plain.{lineOf, ledgerOf, withinNumbers, withUsed}
+use Rattle.ledger.specs.Ledgers.{ledgerOf, withUsed}
+use Rattle.numbers.specs.Plain.{lineOf, withinNumbers}
 use Rattle.calls.specs.Calls.{HostState, putBack}
 use Rattle.reader.specs.Takings.{TakeState, takingOf}
 use Rattle.calls.proofs.OneOutcome.{call-once}

@@ -13,10 +13,11 @@ use Rattle.memory.specs.Sizes.{lines}
 use Rattle.journal.specs.declared.Ledger.{Ledger}
 use Rattle.line.specs.declared.Line.{Line}
 use Rattle.gateway.specs.Events.{noRecord}
-use Rattle.layout.specs.Layout.{fields}
-use Rattle.numbers.specs.Plain.{numberAt, lineOf, ledgerOf, withUsed}
+use Rattle.layout.specs.Layout.{fields, numberAt}
+use Rattle.ledger.specs.Ledgers.{ledgerOf, withUsed}
+use Rattle.numbers.specs.Plain.{lineOf}
 use Rattle.ngachodui_laws.specs.Hosting.{linesOf, gatewayOf}
-use Rattle.numbers.proofs.Numbers.{used-at, serial-at}
+use Rattle.ledger.proofs.Ledgers.{used-at, serial-at}
 use Rattle.ngachodui_laws.proofs.Stores.{stored, number-other, serial-own, line-other, line-own}
 use Rattle.ngachodui_laws.proofs.Touched.{Touched, Lowered}
 

@@ -24,12 +24,15 @@ use Rattle.looking.specs.declared.Verdict.the-variants.{Left}
 use Rattle.gateway_laws.specs.Classes.{Class, classOf, quiet, opening, closing, refusing, accepting, storing, against, taking as gives}
 use Rattle.gateway_laws.proofs.Laws.{unchanged, left-unchanged, refused-unchanged}
 use Rattle.gateway_laws.proofs.Takings.{taking-refused}
-use Rattle.numbers.specs.Plain.{lineOf, ledgerOf, withinNumbers, withUsed, inNumbers}
+use Rattle.ledger.specs.Ledgers.{ledgerOf, withUsed}
+use Rattle.answers.specs.InNumbers.{inNumbers}
+use Rattle.numbers.specs.Plain.{lineOf, withinNumbers}
 use Rattle.calls.specs.Calls.{HostState, AfterCall, refused, putBack, callOf}
 use Rattle.reader.specs.Takings.{TakeState, Taken as TakenBy}
 use Rattle.ngachodui_laws.specs.Hosting.{gatewayOf, isRefusal}
-use Rattle.numbers.specs.declared.Answered.{Answered}
-use Rattle.numbers.proofs.Numbers.{numbers-back, used-back}
+use Rattle.answers.specs.declared.Answered.{Answered}
+use Rattle.ledger.proofs.Ledgers.{used-back}
+use Rattle.numbers.proofs.Numbers.{numbers-back}
 use Rattle.ngachodui_laws.proofs.Hosts.{stepFor, put-unchanged, taking-answer}
 
 -- 20 and 40 to 47 are the answers that leave everything, but for an event that is ignored or only collected

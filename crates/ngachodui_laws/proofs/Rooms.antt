@@ -30,7 +30,7 @@ use Rattle.promises.proofs.Runs as runs
 use Rattle.promises.proofs.Freed as freed
 use Rattle.promises.proofs.Alone as alone
 use Rattle.promises.proofs.Acknowledged as acknowledged
-use Rattle.numbers.specs.Plain.{replyByte}
+use Rattle.answers.specs.InNumbers.{replyByte}
 use Rattle.calls.specs.Calls.{HostState}
 use Rattle.ngachodui_laws.specs.HostRuns.{gatewayState, InOrder, HostResponse, hostStep, numberTo, replyTo, after, Run, endOf}
 use Rattle.ngachodui_laws.specs.Outcomes.{StoreKept}

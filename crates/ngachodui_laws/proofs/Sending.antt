@@ -26,9 +26,8 @@ use Rattle.promises.specs.Sending as there
 use Rattle.promises.specs.Queue as queue
 use Rattle.promises.proofs.Transfers as transfers
 use Rattle.promises.proofs.InTurn as turns
-use Rattle.layout.specs.Layout.{serialAt}
-use Rattle.numbers.specs.Plain.{numberAt}
-use Rattle.numbers.proofs.Numbers.{serial-at}
+use Rattle.layout.specs.Layout.{serialAt, numberAt}
+use Rattle.ledger.proofs.Ledgers.{serial-at}
 use Rattle.calls.specs.Calls.{HostState}
 use Rattle.ngachodui_laws.specs.HostRuns.{gatewayState, InOrder, HostResponse, hostStep, after}
 use Rattle.ngachodui_laws.specs.Outcomes.{LineKept}

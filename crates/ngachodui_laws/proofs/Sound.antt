@@ -6,7 +6,8 @@ use Rattle.memory.specs.Sizes.{lines}
 use Rattle.header.specs.Header.{serialCount}
 use Rattle.line.specs.Line.{withinLimits}
 use Rattle.promises.specs.Sending as there
-use Rattle.numbers.proofs.Numbers.{line-within, serial-at}
+use Rattle.ledger.proofs.Ledgers.{serial-at}
+use Rattle.numbers.proofs.Numbers.{line-within}
 use Rattle.calls.specs.Calls.{HostState}
 use Rattle.ngachodui_laws.specs.HostRuns.{gatewayState, Run, endOf}
 use Rattle.ngachodui_laws.specs.Sound.{Intact, Sound}

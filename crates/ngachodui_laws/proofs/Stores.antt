@@ -22,8 +22,9 @@ use Rattle.line.specs.declared.State.the-variants.{Neutral, Waiting, Inside}
 use Rattle.line.specs.declared.Last.{Last}
 use Rattle.line.specs.declared.Last.the-variants.{NoneYet, Number}
 use Rattle.line.proofs.Limits.{within-facts}
-use Rattle.layout.specs.Layout.{fields, start}
-use Rattle.numbers.specs.Plain.{inside, firstAt, numberAt, stateOf, stateNumber, lastOf, lastNumber, flag, withinNumbers, lineOf, withLine, withSerial}
+use Rattle.layout.specs.Layout.{fields, start, firstAt, numberAt}
+use Rattle.ledger.specs.Ledgers.{withSerial}
+use Rattle.numbers.specs.Plain.{inside, stateOf, stateNumber, lastOf, lastNumber, flag, withinNumbers, lineOf, withLine}
 
 -- a run of stores: before it, behind it and in it
 sets-before : (vs l : List ℕ) (i p : ℕ) → p < i → getD (sets l i vs) p 0 ≡ getD l p 0

@@ -22,8 +22,8 @@ use Rattle.serial.specs.Serial.{taking, annotate, final, serialize, count, Ever
 use Rattle.serial.specs.Kept.{Rearranged}
 use Rattle.promises.specs.Machine.{GatewayItem, came, May}
 use Rattle.promises.specs.Runs.{RightSizes, isFault, offered, Completes, Overfull, NoSpace, Space, Larger, usedBy, usedWith, mostAlone}
-use Rattle.layout.specs.Layout.{Fresh, serialAt}
-use Rattle.numbers.specs.Plain.{lineOf, numberAt}
+use Rattle.layout.specs.Layout.{Fresh, serialAt, numberAt}
+use Rattle.numbers.specs.Plain.{lineOf}
 use Rattle.calls.specs.Calls.{HostState}
 use Rattle.ngachodui_laws.specs.Hosting.{isRefusal}
 use Rattle.ngachodui_laws.specs.HostRuns.{gatewayState, freshHost, HostResponse, hostStep, numberTo, replyTo, after, decides, Run, historyOf, endOf}

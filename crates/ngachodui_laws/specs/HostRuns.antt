@@ -14,7 +14,7 @@ use Rattle.layout.specs.Layout.{freshNumbers}
 use Rattle.calls.specs.Calls.{HostState, callOf}
 use Rattle.reader.specs.Takings.{TakeState, takingOf}
 use Rattle.ngachodui_laws.specs.Hosting.{gatewayOf, Ordered}
-use Rattle.numbers.specs.declared.Answered.{Answered}
+use Rattle.answers.specs.declared.Answered.{Answered}
 
 -- the state of the gateway that a host's numbers and memory stand for
 abbrev pub gatewayState : HostState → State

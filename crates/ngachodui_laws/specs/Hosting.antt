@@ -11,7 +11,8 @@ use Rattle.memory.specs.Tests.{between}
 use Rattle.line.specs.declared.Line.{Line}
 use Rattle.gateway.specs.declared.Gateway.{Gateway}
 use Rattle.layout.specs.Layout.{fields}
-use Rattle.numbers.specs.Plain.{withinNumbers, lineOf, ledgerOf}
+use Rattle.ledger.specs.Ledgers.{ledgerOf}
+use Rattle.numbers.specs.Plain.{withinNumbers, lineOf}
 
 -- n lines' records, the first that of line i
 abbrev pub linesOf : List ℕ → ℕ → ℕ → List Line

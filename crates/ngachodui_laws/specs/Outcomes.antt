@@ -15,8 +15,7 @@ use Rattle.looking.specs.declared.Kind.{Kind}
 use Rattle.looking.specs.declared.Kind.the-variants.{Byte, Seconds}
 use Rattle.serial.specs.Serial.{event, taking}
 use Rattle.promises.specs.Machine.{GatewayItem, onLine}
-use Rattle.layout.specs.Layout.{fields, serialAt}
-use Rattle.numbers.specs.Plain.{numberAt}
+use Rattle.layout.specs.Layout.{fields, serialAt, numberAt}
 use Rattle.calls.specs.Calls.{HostState, Calling}
 use Rattle.reader.specs.Takings.{Taken}
 use Rattle.ngachodui_laws.specs.HostRuns.{HostResponse, lentOf}

@@ -15,7 +15,7 @@ use Rattle.journal_laws.specs.Runs.{Numbered, numbered, waiting}
 use Rattle.serial.specs.Serial.{event, taking, Every}
 use Rattle.promises.specs.Machine.{GatewayItem, came}
 use Rattle.promises.specs.Queue.{completed}
-use Rattle.numbers.specs.Plain.{ledgerOf}
+use Rattle.ledger.specs.Ledgers.{ledgerOf}
 use Rattle.calls.specs.Calls.{HostState}
 use Rattle.ngachodui_laws.specs.HostRuns.{gatewayState, freshHost, HostResponse, numberTo, after, Run, historyOf, endOf}
 use Rattle.ngachodui_laws.specs.Sound.{Holds}

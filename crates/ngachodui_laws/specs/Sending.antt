@@ -18,8 +18,8 @@ use Rattle.serial.specs.Serial.{taking, annotate, final}
 use Rattle.promises.specs.Machine.{GatewayItem}
 use Rattle.promises.specs.Runs.{hasSpace}
 use Rattle.promises.specs.Sending.{bytesOn, sending}
-use Rattle.layout.specs.Layout.{serialAt}
-use Rattle.numbers.specs.Plain.{numberAt, lineOf}
+use Rattle.layout.specs.Layout.{serialAt, numberAt}
+use Rattle.numbers.specs.Plain.{lineOf}
 use Rattle.calls.specs.Calls.{HostState}
 use Rattle.ngachodui_laws.specs.HostRuns.{gatewayState, HostResponse, hostStep}
 use Rattle.ngachodui_laws.specs.Outcomes.{LineKept}

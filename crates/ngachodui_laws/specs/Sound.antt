@@ -11,8 +11,8 @@ use Rattle.room.specs.Room.{todaysShares}
 use Rattle.journal.specs.Chain.{chain}
 use Rattle.journal_laws.specs.Held.{Held}
 use Rattle.promises.specs.Runs.{RightSizes}
-use Rattle.layout.specs.Layout.{serialAt}
-use Rattle.numbers.specs.Plain.{numberAt, ledgerOf}
+use Rattle.layout.specs.Layout.{serialAt, numberAt}
+use Rattle.ledger.specs.Ledgers.{ledgerOf}
 use Rattle.calls.specs.Calls.{HostState}
 use Rattle.ngachodui_laws.specs.HostRuns.{InOrder}
 

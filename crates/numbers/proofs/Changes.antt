@@ -8,11 +8,11 @@ use borrow.Author.Tests.{lt-ltb, le-ltb, ltb-true, eq-eqb, ne-eqb}
 use lib.Dec.{ltb}
 use lib.ListN.{length, set}
 use Rattle.memory.specs.Sizes.{lines, framesSize}
-use Rattle.memory.specs.Tests.{unless}
 use Rattle.memory.proofs.Tests.{and-left, and-right}
 use Rattle.looking.specs.Views.{frameStart}
 use Rattle.looking.specs.declared.Kind.{Kind}
-use Rattle.numbers.specs.Plain.{numberAt, quick, onlyCollects, withinNumbers, oneMore, begins, insideAt}
+use Rattle.layout.specs.Layout.{numberAt}
+use Rattle.numbers.specs.Plain.{quick, onlyCollects, withinNumbers, oneMore, begins, insideAt}
 use Rattle.numbers.specs.Changes.{isWithin, isCollected, Collected, isBegun, Begun}
 
 -- a byte: not collected on no line, in frames of another size, or where it is not quick
@@ -72,7 +72,3 @@ module _ (ns : List ℕ) (i : ℕ) where
 
   pub not-within : i < lines → isWithin ns i ≡ false → withinNumbers ns i ≡ false
   not-within h e = within-there h refl ∙ e
-
--- on a line that is there, what is put is put
-pub there : {A : Type 0} (i : ℕ) (x y : A) → i < lines → unless (ltb i lines) x y ≡ y
-there i x y h = rw (lt-ltb i lines h)

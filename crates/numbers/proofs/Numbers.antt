@@ -19,8 +19,10 @@ use Rattle.line.proofs.Limits.{collected-fits, within-of}
 use Rattle.line.specs.declared.Line.{Line}
 use Rattle.line.specs.declared.State.{State}
 use Rattle.line.specs.declared.State.the-variants.{Inside}
-use Rattle.layout.specs.Layout.{start}
-use Rattle.numbers.specs.Plain.{insideAt, inside, firstAt, numberAt, stateOf, stateNumber, lastOf, lastNumber, flag, withinNumbers, lineOf, withLine, ledgerOf, withSerial, withUsed}
+use Rattle.layout.specs.Layout.{start, firstAt, numberAt}
+use Rattle.ledger.specs.Ledgers.{ledgerOf, withSerial}
+use Rattle.ledger.proofs.Ledgers.{again, serial-at}
+use Rattle.numbers.specs.Plain.{insideAt, inside, stateOf, stateNumber, lastOf, lastNumber, flag, withinNumbers, lineOf, withLine}
 
 pub record WithinNumbers (ns : List ℕ) (i : ℕ) : Type 0 where
   pub state : firstAt ns i ≤ inside
@@ -86,43 +88,6 @@ pub put-line : (ns : List ℕ) (i : ℕ) (l : Line) (s t r : ℕ) → s ≡ stat
     → set (set (set (set (set (set (set ns (start i) s) (start i + 1) (l .collected)) (start i + 2) (l .joined)) (start i + 3) (l .seconds)) (start i + 4) (l .next)) (start i + 5) t) (start i + 6) r ≡ withLine ns i l
 unfolding withLine
 put-line ns i l s t r p q e = rw (p, q, e)
-
--- a number stored where it stands changes nothing
-again : (ns : List ℕ) (k v : ℕ) → v ≡ getD ns k 0 → set ns k v ≡ ns
-again ns k v e = ap (λ (x : ℕ). set ns k x) e ∙ set-getD ns k 0
-
--- what the ledger has of a line
-pub used-at : (ns us : List ℕ) (i : ℕ) → i < lines → getD (ledgerOf ns us .used) i 0 ≡ getD us i 0
-unfolding ledgerOf
-used-at ns us zero h = refl
-used-at ns us (suc zero) h = refl
-used-at ns us (suc (suc zero)) h = refl
-used-at ns us (suc (suc (suc zero))) h = refl
-used-at ns us (suc (suc (suc (suc zero)))) h = refl
-used-at ns us (suc (suc (suc (suc (suc zero))))) h = refl
-used-at ns us (suc (suc (suc (suc (suc (suc zero)))))) h = refl
-used-at ns us (suc (suc (suc (suc (suc (suc (suc zero))))))) h = refl
-used-at ns us (suc (suc (suc (suc (suc (suc (suc (suc i)))))))) h = absurd (omega arith)
-
-pub serial-at : (ns us : List ℕ) (i : ℕ) → i < lines → getD (ledgerOf ns us .serials) i 0 ≡ numberAt ns i 7
-unfolding ledgerOf
-serial-at ns us zero h = refl
-serial-at ns us (suc zero) h = refl
-serial-at ns us (suc (suc zero)) h = refl
-serial-at ns us (suc (suc (suc zero))) h = refl
-serial-at ns us (suc (suc (suc (suc zero)))) h = refl
-serial-at ns us (suc (suc (suc (suc (suc zero))))) h = refl
-serial-at ns us (suc (suc (suc (suc (suc (suc zero)))))) h = refl
-serial-at ns us (suc (suc (suc (suc (suc (suc (suc zero))))))) h = refl
-serial-at ns us (suc (suc (suc (suc (suc (suc (suc (suc i)))))))) h = absurd (omega arith)
-
-in-use-at : (ns us : List ℕ) → ledgerOf ns us .in_use ≡ getD us lines 0
-unfolding ledgerOf
-in-use-at ns us = refl
-
--- the ledger that the numbers stand for, put back
-pub used-back : (ns us : List ℕ) (i : ℕ) → i < lines → withUsed us i (ledgerOf ns us) ≡ us
-used-back ns us i h = rw (again us i (getD (ledgerOf ns us .used) i 0) (used-at ns us i h)) (again us lines (ledgerOf ns us .in_use) (in-use-at ns us))
 
 -- with any record of the line
 serial-kept : (ns : List ℕ) (i : ℕ) (l : Line) → getD (withLine ns i l) (start i + 7) 0 ≡ numberAt ns i 7

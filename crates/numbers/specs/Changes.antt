@@ -1,6 +1,6 @@
 -- What each function does to the numbers. On a line that is not there nothing changes.
 -- Assumes nothing.
-use Prim.Native.Nat.{ℕ, _+_, _^_, _<_}
+use Prim.Native.Nat.{ℕ, _+_}
 use mathlib.Core.Path.{_≡_}
 use mathlib.Core.Bool.{Bool, _&&_}
 use mathlib.Core.List.{List}
@@ -8,13 +8,12 @@ use lib.ListN.{length, set}
 use lib.Dec.{ltb, eqb}
 use Rattle.memory.specs.Sizes.{lines, framesSize}
 use Rattle.memory.specs.Tests.{unless}
-use Rattle.journal.specs.declared.Ledger.{Ledger}
 use Rattle.line.specs.Line.{freshLine}
 use Rattle.line.specs.declared.Line.{Line}
 use Rattle.looking.specs.Views.{frameStart}
 use Rattle.looking.specs.declared.Kind.{Kind}
-use Rattle.layout.specs.Layout.{collectedAt}
-use Rattle.numbers.specs.Plain.{numberAt, lineOf, withinNumbers, quick, oneMore, begins, insideAt, ledgerOf, withLine, serialPut, countsPut}
+use Rattle.layout.specs.Layout.{collectedAt, numberAt}
+use Rattle.numbers.specs.Plain.{lineOf, withinNumbers, quick, oneMore, begins, insideAt, withLine}
 
 -- whether a line's numbers stand for a record within its limits
 unfoldable pub isWithin : List ℕ → ℕ → Bool
@@ -42,21 +41,6 @@ pub record Begun (ns : List ℕ) (i : ℕ) (k : Kind) (r : Bool) (ns′ : List �
   pub result : r ≡ isBegun ns i k
   pub numbers : ns′ ≡ unless (isBegun ns i k) ns (insideAt ns i)
 
--- the bytes in use are a number of 32 bits
-abbrev pub Narrow : Ledger → Type 0
-Narrow d = d .in_use < 2 ^ 32
-
--- the ledger that the numbers stand for
-pub record LedgerRead (ns us : List ℕ) (d : Ledger) : Type 0 where
-  pub result : d ≡ ledgerOf ns us
-  pub narrow : Narrow d
-
--- another record, another serial, and other counts
+-- another record
 abbrev pub recordAfter : List ℕ → ℕ → Line → List ℕ
 recordAfter ns i l = unless (ltb i lines) ns (withLine ns i l)
-
-abbrev pub serialAfter : List ℕ → ℕ → ℕ → List ℕ
-serialAfter ns i n = unless (ltb i lines) ns (serialPut ns i n)
-
-abbrev pub countsAfter : List ℕ → ℕ → ℕ → ℕ → List ℕ
-countsAfter us i own all = unless (ltb i lines) us (countsPut us i own all)

@@ -1,36 +1,23 @@
--- A line's record, the ledger and an answer in plain numbers, as a host keeps them.
+-- A line's record in plain numbers, as a host keeps it.
 -- Assumes nothing.
 use Prim.Native.Nat.{ℕ, zero, suc, _+_}
 use mathlib.Core.Bool.{Bool, false, cond, not, _&&_}
-use mathlib.Core.List.{List, [], _∷_}
-use lib.ListN.{getD, set}
+use mathlib.Core.List.{List}
+use lib.ListN.{set}
 use lib.Dec.{leb, eqb}
-use Rattle.memory.specs.Sizes.{lines, messageLimit}
+use Rattle.memory.specs.Sizes.{messageLimit}
 use Rattle.memory.specs.Tests.{is}
 use Rattle.characters.specs.Control.{lf, stx}
 use Rattle.digits.specs.Number.{mostNumber}
-use Rattle.journal.specs.declared.Ledger.{Ledger}
 use Rattle.line.specs.Line.{mostCollected, mostSeconds}
-use Rattle.answers.specs.Paper.{numberOf, replyOf}
 use Rattle.line.specs.declared.Line.{Line}
 use Rattle.line.specs.declared.State.{State}
 use Rattle.line.specs.declared.State.the-variants.{Neutral, Waiting, Inside}
 use Rattle.line.specs.declared.Last.{Last}
 use Rattle.line.specs.declared.Last.the-variants.{NoneYet, Number}
-use Rattle.answers.specs.declared.Reply.{Reply}
-use Rattle.answers.specs.declared.Reply.the-variants.{Silence, Byte as Sent}
-use Rattle.answers.specs.declared.Answer.{Answer}
 use Rattle.looking.specs.declared.Kind.{Kind}
 use Rattle.looking.specs.declared.Kind.the-variants.{Byte, Seconds}
-use Rattle.layout.specs.Layout.{start, collectedAt, joinedAt, secondsAt, nextAt, lastAt, refusingAt, serialAt}
-use Rattle.numbers.specs.declared.Answered.{Answered}
-
--- the first number of line i, its state, and the number k places on
-abbrev pub firstAt : List ℕ → ℕ → ℕ
-firstAt ns i = getD ns (start i) 0
-
-abbrev pub numberAt : List ℕ → ℕ → ℕ → ℕ
-numberAt ns i k = getD ns (start i + k) 0
+use Rattle.layout.specs.Layout.{start, collectedAt, joinedAt, secondsAt, nextAt, lastAt, refusingAt, firstAt, numberAt}
 
 -- a state: 0 neutral, 1 waiting, 2 inside
 abbrev pub waiting : ℕ
@@ -108,40 +95,3 @@ withLine ns i l =
     (start i + nextAt) (l .next))
     (start i + lastAt) (lastNumber (l .last)))
     (start i + refusingAt) (flag (l .refusing))
-
--- n lines' used counts, the first that of line i; behind all of them stand the bytes in use
-abbrev pub usedFrom : List ℕ → ℕ → ℕ → List ℕ
-usedFrom us i zero = []
-usedFrom us i (suc n) = getD us i 0 ∷ usedFrom us (suc i) n
-
--- and their serials, which stand with the lines
-abbrev pub serialsFrom : List ℕ → ℕ → ℕ → List ℕ
-serialsFrom ns i zero = []
-serialsFrom ns i (suc n) = numberAt ns i serialAt ∷ serialsFrom ns (suc i) n
-
--- the ledger that they stand for [H1]
-unfoldable pub ledgerOf : List ℕ → List ℕ → Ledger
-ledgerOf ns us = record { in_use = getD us lines 0; used = usedFrom us 0 lines; serials = serialsFrom ns 0 lines }
-
--- the numbers with another serial of line i; and the counts with another one of line i, and so many bytes in use
-abbrev pub serialPut : List ℕ → ℕ → ℕ → List ℕ
-serialPut ns i n = set ns (start i + serialAt) n
-
-abbrev pub countsPut : List ℕ → ℕ → ℕ → ℕ → List ℕ
-countsPut us i own all = set (set us i own) lines all
-
--- the numbers with what a ledger has of line i: no event and no taking changes what it has of another line
-abbrev pub withSerial : List ℕ → ℕ → Ledger → List ℕ
-withSerial ns i d = serialPut ns i (getD (d .serials) i 0)
-
-abbrev pub withUsed : List ℕ → ℕ → Ledger → List ℕ
-withUsed us i d = countsPut us i (getD (d .used) i 0) (d .in_use)
-
--- a reply byte, or 0 for none
-abbrev pub replyByte : Reply → ℕ
-replyByte Silence = 0
-replyByte (Sent b) = b
-
--- the answer to an event carries no values [H5]
-unfoldable pub inNumbers : Answer → Answered
-inNumbers a = record { number = numberOf a; reply = replyByte (replyOf (numberOf a)); serial = 0; place = 0; digits = 0; length = 0 }

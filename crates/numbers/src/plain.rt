@@ -1,17 +1,16 @@
 // A line's numbers, tested and read one by one; the line is one of the eight.
-ghost use Prim.Native.Nat.{_+_, _<_, _≤_, _^_};
+ghost use Prim.Native.Nat.{_+_, _<_, _≤_};
 ghost use mathlib.Core.Path.{_≡_};
 ghost use mathlib.Core.Bool.{true};
 ghost use lib.ListN.{length, set};
 ghost use Rattle.memory.specs.Sizes.{lines, framesSize};
 ghost use Rattle.line.specs.Line.{mostCollected};
 ghost use Rattle.looking.specs.Views.{frameStart};
-ghost use Rattle.numbers.specs.Plain.{numberAt, oneMore, quick, begins, stateOf, stateNumber, lastOf, lastNumber, flag, withinNumbers, onlyCollects, lineOf, withLine, usedFrom, serialsFrom, replyByte};
-use answers::Reply;
+ghost use Rattle.layout.specs.Layout.{numberAt};
+ghost use Rattle.numbers.specs.Plain.{oneMore, quick, begins, stateOf, stateNumber, lastOf, lastNumber, flag, withinNumbers, onlyCollects, lineOf, withLine};
 use characters::LF;
 use characters::STX;
 use layout::COLLECTED;
-use layout::COUNTS;
 use layout::FIELDS;
 use layout::JOINED;
 use layout::LAST;
@@ -19,7 +18,6 @@ use layout::NEXT;
 use layout::NUMBERS;
 use layout::REFUSING;
 use layout::SECONDS;
-use layout::SERIAL;
 use line::Last;
 use line::Line;
 use line::State;
@@ -198,52 +196,4 @@ fn flag_number(b: bool) -> u16
         return 1;
     }
     0
-}
-
-// A cast of its own tells the caller that the number is below 2 to the 32.
-pub fn wide(n: u32) -> usize
-    ensures { λ r. ⌜ (r ≡ n) × (r < 2 ^ 32) ⌝ }
-{
-    n as usize
-}
-
-// Each line's used count, and its serial.
-pub fn used_of(counts: &[u32; COUNTS]) -> [u32; memory::LINES]
-    ensures { λ r. ⌜ r ≡ usedFrom (now (counts .entry)) 0 lines ⌝ }
-{
-    [
-        counts[0],
-        counts[1],
-        counts[2],
-        counts[3],
-        counts[4],
-        counts[5],
-        counts[6],
-        counts[7],
-    ]
-}
-
-pub fn serials_of(numbers: &[u16; NUMBERS]) -> [u16; memory::LINES]
-    ensures { λ r. ⌜ r ≡ serialsFrom (now (numbers .entry)) 0 lines ⌝ }
-{
-    [
-        numbers[0 * FIELDS + SERIAL],
-        numbers[1 * FIELDS + SERIAL],
-        numbers[2 * FIELDS + SERIAL],
-        numbers[3 * FIELDS + SERIAL],
-        numbers[4 * FIELDS + SERIAL],
-        numbers[5 * FIELDS + SERIAL],
-        numbers[6 * FIELDS + SERIAL],
-        numbers[7 * FIELDS + SERIAL],
-    ]
-}
-
-// The byte, or 0 for none.
-pub fn reply_byte(reply: Reply) -> u8
-    ensures { λ r. ⌜ r ≡ replyByte reply ⌝ }
-{
-    match reply {
-        Reply::Silence => 0,
-        Reply::Byte(b) => b,
-    }
 }

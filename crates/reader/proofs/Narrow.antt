@@ -14,7 +14,7 @@ use Rattle.journal.specs.Entries.{sizes, before, from}
 use Rattle.journal.specs.Chain.{chain}
 use Rattle.journal.specs.Removal.{AfterTaking, shrunk, takeAt, takeOldest, takeFrom, takeOf}
 use Rattle.journal.specs.declared.Ledger.{Ledger}
-use Rattle.numbers.specs.Changes.{Narrow}
+use Rattle.ledger.specs.Ledgers.{Narrow}
 
 either : (t : Bool) (a b : AfterTaking) → Narrow (a .taking .ledger) → Narrow (b .taking .ledger) → Narrow (unless t a b .taking .ledger)
 either true a b p q = q

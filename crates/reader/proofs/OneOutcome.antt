@@ -3,7 +3,7 @@
 use mathlib.Core.Path.{_≡_, sym, _∙_}
 use mathlib.Core.List.{List}
 use Prim.Native.Nat.{ℕ}
-use Rattle.numbers.specs.declared.Answered.{Answered}
+use Rattle.answers.specs.declared.Answered.{Answered}
 use Rattle.reader.specs.Takings.{TakeState, Taken}
 
 -- `take`

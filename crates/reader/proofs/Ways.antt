@@ -13,10 +13,10 @@ use Rattle.journal.specs.declared.Ledger.{Ledger}
 use Rattle.journal.specs.declared.Taking.{Taking}
 use Rattle.journal.specs.Removal.{takeOf, TakenFrom}
 use Rattle.journal.proofs.Takings.{taken-line}
-use Rattle.numbers.specs.Plain.{ledgerOf, withUsed, inNumbers}
-use Rattle.numbers.specs.Changes.{countsAfter, Narrow}
-use Rattle.numbers.specs.declared.Answered.{Answered}
-use Rattle.numbers.proofs.Changes.{there}
+use Rattle.ledger.specs.Ledgers.{ledgerOf, withUsed, countsAfter, Narrow}
+use Rattle.answers.specs.InNumbers.{inNumbers}
+use Rattle.answers.specs.declared.Answered.{Answered}
+use Rattle.ledger.proofs.Ledgers.{there}
 use Rattle.reader.specs.Takings.{TakeState, usedAfter, Taken, takingInNumbers}
 use Rattle.reader.proofs.Narrow.{taking-narrow}
 

@@ -11,8 +11,9 @@ use Rattle.journal.specs.declared.Took.{Took}
 use Rattle.answers.specs.Paper.{numberOf}
 use Rattle.answers.specs.declared.Answer.{Answer}
 use Rattle.taking.specs.Taking.{tookAnswer}
-use Rattle.numbers.specs.Plain.{ledgerOf, withUsed, inNumbers}
-use Rattle.numbers.specs.declared.Answered.{Answered}
+use Rattle.ledger.specs.Ledgers.{ledgerOf, withUsed}
+use Rattle.answers.specs.InNumbers.{inNumbers}
+use Rattle.answers.specs.declared.Answered.{Answered}
 
 -- the answer to a taking: for 8 the text's length and the serial [H5]
 unfoldable pub takingInNumbers : Took → Answered

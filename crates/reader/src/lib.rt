@@ -2,10 +2,10 @@
 ghost use mathlib.Core.Path.{_≡_};
 ghost use Rattle.reader.specs.Takings.{Taken, takingInNumbers};
 use answers::Answer;
+use answers::Answered;
 use journal::Took;
 use layout::COUNTS;
 use layout::NUMBERS;
-use numbers::Answered;
 
 // An entry taken, the only answer with values.
 const TAKEN: u8 = 8;
@@ -24,13 +24,13 @@ pub fn take(
 {
     let i = line as usize;
     if memory::LINES <= i {
-        return numbers::in_numbers(Answer::NoLine);
+        return answers::in_numbers(Answer::NoLine);
     }
-    let ledger = numbers::ledger_of(numbers, counts);
+    let ledger = ledger::ledger_of(numbers, counts);
     let taking = journal::take(ledger, line, journal, buffer);
     let booked = taking.ledger;
     let took = taking.answer;
-    numbers::put_used(counts, i, booked.used[i], booked.in_use as u32);
+    ledger::put_used(counts, i, booked.used[i], booked.in_use as u32);
     taking_in_numbers(took)
 }
 
@@ -47,10 +47,10 @@ fn taking_in_numbers(took: Took) -> Answered
             digits: 0,
             length,
         },
-        Took::NothingWaiting => numbers::in_numbers(taking::answer_to(took)),
-        Took::BufferShort => numbers::in_numbers(taking::answer_to(took)),
-        Took::Broken => numbers::in_numbers(taking::answer_to(took)),
-        Took::NoLine => numbers::in_numbers(taking::answer_to(took)),
-        Took::WrongSize => numbers::in_numbers(taking::answer_to(took)),
+        Took::NothingWaiting => answers::in_numbers(taking::answer_to(took)),
+        Took::BufferShort => answers::in_numbers(taking::answer_to(took)),
+        Took::Broken => answers::in_numbers(taking::answer_to(took)),
+        Took::NoLine => answers::in_numbers(taking::answer_to(took)),
+        Took::WrongSize => answers::in_numbers(taking::answer_to(took)),
     }
 }

@@ -24,7 +24,7 @@ use Rattle.looking.specs.declared.Event.{Event as GatewayEvent}
 use Rattle.looking.specs.declared.Kind.{Kind}
 use Rattle.calls.specs.Calls.{HostState, Calling}
 use Rattle.reader.specs.Takings.{TakeState, Taken}
-use Rattle.numbers.specs.declared.Answered.{Answered}
+use Rattle.answers.specs.declared.Answered.{Answered}
 use Rattle.replaying.specs.Lines.{nextOf}
 use Rattle.replaying.specs.Desk.{rowRoom, Desk, deskOf, lentToEvent, eventAsked, lentToTaking, takingAsked}
 use Rattle.replaying.specs.Turns.{AfterTurn, turnLeaves, stopped, acted, onLine, turnOf}

@@ -6,7 +6,7 @@ use lib.ListN.{take, drop}
 use Rattle.looking.specs.declared.Event.{Event}
 use Rattle.calls.specs.Calls.{HostState, callOf}
 use Rattle.reader.specs.Takings.{TakeState, takingOf}
-use Rattle.numbers.specs.declared.Answered.{Answered}
+use Rattle.answers.specs.declared.Answered.{Answered}
 
 -- the longest row: 20 digits, 3, 3 and 20, with three spaces and the newline
 abbrev pub rowRoom : ℕ

@@ -9,7 +9,7 @@ use Rattle.memory.specs.Tests.{unless}
 use Rattle.listing.specs.Texts.{rowText}
 use Rattle.listing.specs.declared.Item.{Item}
 use Rattle.listing.specs.declared.Item.the-variants.{Event, Taking, NotAnEvent as NoItem}
-use Rattle.numbers.specs.declared.Answered.{Answered}
+use Rattle.answers.specs.declared.Answered.{Answered}
 use Rattle.replaying.specs.Lines.{nextOf}
 use Rattle.replaying.specs.Desk.{rowRoom, Desk, Asked, eventAsked, takingAsked}
 use Rattle.replaying.specs.declared.Next.{Next}

@@ -12,11 +12,11 @@ use super::Next;
 use super::Stop;
 use super::Turn;
 use super::lines;
+use answers::Answered;
 use listing::Item;
 use listing::Written;
 use looking::Event;
 use looking::Kind;
-use numbers::Answered;
 
 // The line that starts at `at`, as event `number`, and its row behind `put` bytes of the listing.
 pub fn turn(

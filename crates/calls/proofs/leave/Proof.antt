@@ -3,7 +3,7 @@
 use borrow.Author.Needs.{needs}
 use mathlib.Core.Path.{ap, _∙_}
 use denote.Ref.{now}
-use Rattle.numbers.specs.Plain.{inNumbers}
+use Rattle.answers.specs.InNumbers.{inNumbers}
 use Rattle.calls.proofs.Ways.{put-record-there}
 use Rattle.calls.proofs.leave.Statement.{statement}
 use Rattle.calls.proofs.leave.Tie as tie

@@ -9,8 +9,10 @@ use Rattle.looking.specs.declared.Event.{Event}
 use Rattle.receiving.specs.Steps.{stepOf}
 use Rattle.receiving.specs.Alone.{decideOf}
 use Rattle.receiving.specs.declared.Stepped.{Stepped}
-use Rattle.numbers.specs.Plain.{withLine, ledgerOf, withSerial, withUsed, inNumbers}
-use Rattle.numbers.specs.declared.Answered.{Answered}
+use Rattle.ledger.specs.Ledgers.{ledgerOf, withSerial, withUsed}
+use Rattle.answers.specs.InNumbers.{inNumbers}
+use Rattle.numbers.specs.Plain.{withLine}
+use Rattle.answers.specs.declared.Answered.{Answered}
 use Rattle.calls.specs.Calls.{HostState, putBack, Called}
 
 -- the step alone, past 40 to 42, of a line with this record

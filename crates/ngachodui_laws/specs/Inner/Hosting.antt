@@ -7,8 +7,8 @@ use lib.ListN.{getD}
 use Rattle.answers.specs.Paper.{numberOf, valuesOf, replyOf}
 use Rattle.answers.specs.declared.Answer.{Answer}
 use Rattle.gateway.specs.Events.{AfterEvent, AfterTake}
-use Rattle.numbers.specs.Plain.{replyByte, inNumbers}
-use Rattle.numbers.specs.declared.Answered.{Answered}
+use Rattle.answers.specs.InNumbers.{replyByte, inNumbers}
+use Rattle.answers.specs.declared.Answered.{Answered}
 use Rattle.calls.specs.Calls.{AfterCall}
 use Rattle.reader.specs.Takings.{TakeState}
 use Rattle.promises.specs.Machine.{Response, GatewayItem}

@@ -5,8 +5,8 @@ use mathlib.Core.Path.{_≡_, sym, ap, _∙_}
 use Rattle.journal.specs.declared.Took.{Took}
 use Rattle.answers.specs.declared.Answer.{Answer}
 use Rattle.taking.specs.Taking.{tookAnswer}
-use Rattle.numbers.specs.declared.Answered.{Answered}
-use Rattle.numbers.specs.Plain.{inNumbers}
+use Rattle.answers.specs.declared.Answered.{Answered}
+use Rattle.answers.specs.InNumbers.{inNumbers}
 use Rattle.reader.specs.Takings.{takingInNumbers}
 use Rattle.reader.proofs.taking_in_numbers.Statement.{statement}
 use Rattle.reader.proofs.taking_in_numbers.Tie as tie

@@ -1,9 +1,9 @@
--- `numbers::told` meets its contract.
+-- `answers::in_numbers` meets its contract.
 -- Assumes nothing.
 use borrow.Author.Needs.{needs}
-use Rattle.numbers.specs.Plain.{inNumbers}
-use Rattle.numbers.proofs.in_numbers.Statement.{statement}
-use Rattle.numbers.proofs.in_numbers.Tie as tie
+use Rattle.answers.specs.InNumbers.{inNumbers}
+use Rattle.answers.proofs.in_numbers.Statement.{statement}
+use Rattle.answers.proofs.in_numbers.Tie as tie
 
 returns : tie.Need-returns
 unfolding inNumbers

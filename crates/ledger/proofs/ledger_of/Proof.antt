@@ -1,9 +1,9 @@
--- `numbers::ledger_of` meets its contract.
+-- `ledger::ledger_of` meets its contract.
 -- Assumes nothing.
 use borrow.Author.Needs.{needs}
-use Rattle.numbers.specs.Plain.{ledgerOf}
-use Rattle.numbers.proofs.ledger_of.Statement.{statement}
-use Rattle.numbers.proofs.ledger_of.Tie as tie
+use Rattle.ledger.specs.Ledgers.{ledgerOf}
+use Rattle.ledger.proofs.ledger_of.Statement.{statement}
+use Rattle.ledger.proofs.ledger_of.Tie as tie
 
 returns : tie.Need-returns
 unfolding ledgerOf
