@@ -1,4 +1,4 @@
--- `entry_at` meets its contract: the header is the number of the first bytes, if there are enough.
+-- `header::entry_at` meets its contract: the header is the number of the first bytes, if there are enough.
 -- Assumes nothing.
 use mathlib.Core.Path.{sym, ap, _∙_}
 use borrow.Author.Needs.{needs}

@@ -1,4 +1,4 @@
--- `fields` meets its contract.
+-- `header::fields` meets its contract.
 -- Assumes nothing.
 use borrow.Author.Needs.{needs}
 use Rattle.header.proofs.Heads.{fields-by-number}

@@ -1,4 +1,4 @@
--- `head_size` meets its contract.
+-- `header::head_size` meets its contract.
 -- Assumes nothing.
 use native.Mathlib.Omega.{arith}
 use Rattle.header.specs.Header.{headSize}

@@ -1,4 +1,4 @@
--- `whole` meets its contract: each test that fails is a ground that no entry with this header lies there.
+-- `header::whole` meets its contract: each test that fails is a ground that no entry with this header lies there.
 -- Assumes nothing.
 use native.Mathlib.Omega.{arith}
 use borrow.Author.Needs.{needs}

@@ -1,4 +1,4 @@
--- `judge` meets its contract: each test is one of the definition, in its order.
+-- `journal::judge` meets its contract: each test is one of the definition, in its order.
 -- Assumes nothing.
 use mathlib.Core.Path.{_≡_, sym, _∙_}
 use mathlib.Core.Bool.{true, false}

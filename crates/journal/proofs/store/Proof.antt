@@ -1,4 +1,4 @@
--- `store` meets its contract: the verdict is `judge`'s, and only where it fits is the entry written.
+-- `journal::store` meets its contract: the verdict is `judge`'s, and only where it fits is the entry written.
 -- Assumes nothing.
 use mathlib.Core.Path.{_≡_, sym, ap, _∙_}
 use mathlib.Core.Bool.{true}

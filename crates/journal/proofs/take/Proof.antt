@@ -1,4 +1,4 @@
--- `take` meets its contract: the place that the walk found is the line's oldest entry's, or the end in use where the line has none.
+-- `journal::take` meets its contract: the place that the walk found is the line's oldest entry's, or the end in use where the line has none.
 -- Assumes nothing.
 use mathlib.Core.Path.{_≡_, sym, _∙_}
 use Prim.Native.Nat.{_<_}

@@ -1,4 +1,4 @@
--- `digest` is safe and ends. The loop's invariant: the sum stays below its modulus.
+-- `journal_vectors::digest` is safe and ends. The loop's invariant: the sum stays below its modulus.
 -- Assumes nothing.
 use Prim.Native.Nat.{_-_, _<_}
 use native.Mathlib.Omega.{arith}

@@ -1,4 +1,4 @@
--- `fill` is safe and ends. The loop's invariant: the value is a byte, and a store leaves the slice's length.
+-- `journal_vectors::fill` is safe and ends. The loop's invariant: the value is a byte, and a store leaves the slice's length.
 -- Assumes nothing.
 use mathlib.Core.Path.{_≡_, refl}
 use Prim.Native.Nat.{_-_, _<_}

@@ -1,4 +1,4 @@
--- `run` is safe and ends. The loop's invariant: what is lent keeps its length.
+-- `journal_vectors::run` is safe and ends. The loop's invariant: what is lent keeps its length.
 -- Assumes nothing.
 use mathlib.Core.Path.{_≡_, refl}
 use Prim.Native.Nat.{_-_}

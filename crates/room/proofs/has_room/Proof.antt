@@ -1,4 +1,4 @@
--- `has_room` meets its contract. The loop's invariant: `sum` is the claims of the first i lines, each of which is a u32.
+-- `room::has_room` meets its contract. The loop's invariant: `sum` is the claims of the first i lines, each of which is a u32.
 -- Assumes nothing.
 use mathlib.Core.Path.{_≡_, refl}
 use mathlib.Core.List.{List}

@@ -1,4 +1,4 @@
--- `larger` meets its contract.
+-- `room::larger` meets its contract.
 -- Assumes nothing.
 use native.Mathlib.Omega.{arith}
 use Rattle.room.proofs.larger.Statement.{statement}

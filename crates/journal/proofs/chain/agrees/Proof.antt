@@ -1,4 +1,4 @@
--- `chain::agrees` meets its contract. The loop's invariant: the lines from i on agree.
+-- `journal::chain::agrees` meets its contract. The loop's invariant: the lines from i on agree.
 -- Assumes nothing.
 use mathlib.Core.Path.{_≡_, refl, sym, _∙_}
 use mathlib.Core.List.{List}

@@ -1,4 +1,4 @@
--- `chain::look` meets its contract.
+-- `journal::chain::look` meets its contract.
 -- Assumes nothing.
 use mathlib.Core.Path.{sym, _∙_}
 use native.Mathlib.Omega.{arith}

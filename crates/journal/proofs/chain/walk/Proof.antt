@@ -1,4 +1,4 @@
--- `chain::walk` meets its contract. The loop's invariant: the walk has passed the entries `done`, `sums` are their sums, and `oldest` is the room
+-- `journal::chain::walk` meets its contract. The loop's invariant: the walk has passed the entries `done`, `sums` are their sums, and `oldest` is the room
 -- of those before the line's first.
 -- Assumes nothing.
 use mathlib.Core.Path.{_≡_, refl, sym, ap, _∙_}

@@ -1,4 +1,4 @@
--- `entry::append` meets its contract: the entry is written, and the ledger is the grown one.
+-- `journal::entry::append` meets its contract: the entry is written, and the ledger is the grown one.
 -- Assumes nothing.
 use borrow.Author.Needs.{needs}
 use mathlib.Core.Path.{ap, _∙_}

@@ -1,4 +1,4 @@
--- `entry::grow` meets its contract.
+-- `journal::entry::grow` meets its contract.
 -- Assumes nothing.
 use borrow.Author.Needs.{needs}
 use Rattle.journal.proofs.entry.grow.Statement.{statement}

@@ -1,4 +1,4 @@
--- `entry::shrink` meets its contract.
+-- `journal::entry::shrink` meets its contract.
 -- Assumes nothing.
 use borrow.Author.Needs.{needs}
 use mathlib.Core.Path.{refl}

@@ -1,4 +1,4 @@
--- `entry::take_at` meets its contract: the text is copied to the buffer, and what stands behind the entry closes up.
+-- `journal::entry::take_at` meets its contract: the text is copied to the buffer, and what stands behind the entry closes up.
 -- Assumes nothing.
 use native.Mathlib.Omega.{arith}
 use borrow.Author.Needs.{needs}

@@ -1,4 +1,4 @@
--- `entry::take_out` meets its contract.
+-- `journal::entry::take_out` meets its contract.
 -- Assumes nothing.
 use borrow.Author.Needs.{needs}
 use native.Mathlib.Omega.{arith}

@@ -1,4 +1,4 @@
--- `entry::write` meets its contract: the header and the text are written one behind the other.
+-- `journal::entry::write` meets its contract: the header and the text are written one behind the other.
 -- Assumes nothing.
 use borrow.Author.Needs.{needs}
 use mathlib.Core.Path.{refl}

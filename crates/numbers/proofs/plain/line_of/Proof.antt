@@ -1,4 +1,4 @@
--- `numbers::plain::told_line` meets its contract.
+-- `numbers::plain::line_of` meets its contract.
 -- Assumes nothing.
 use borrow.Author.Needs.{needs}
 use native.Mathlib.Omega.{arith}

@@ -1,4 +1,4 @@
--- `owner::fill_rows` meets its contract: the rows stored, with those still to store, are all.
+-- `owner::rows::fill_rows` meets its contract: the rows stored, with those still to store, are all.
 -- Assumes nothing.
 use borrow.Author.Needs.{needs}
 use mathlib.Core.Path.{_≡_, refl}
