@@ -1,7 +1,7 @@
 -- The next line: where it ends, and what it says.
 -- Assumes nothing.
 use mathlib.Core.Path.{_≡_, refl, sym, subst}
-use mathlib.Core.Bool.{Bool, true, false, not, _&&_}
+use mathlib.Core.Bool.{Bool, true, false, not, _&&_, _||_, true≢false}
 use mathlib.Core.List.{List, [], _∷_}
 use Prim.Native.Nat.{ℕ, _+_, _-_, _≤_, _<_}
 use native.Mathlib.Omega.{arith}
@@ -17,7 +17,7 @@ use Rattle.listing.specs.Texts.{newline}
 use Rattle.listing.specs.Items.{itemOf}
 use Rattle.listing.specs.declared.Item.{Item}
 use Rattle.replaying.specs.Lines.{firstLine, nextOf}
-use Rattle.replaying.specs.Inner.Usual.{usual, isUsual}
+use Rattle.replaying.specs.Inner.Usual.{usual, hasNewline, isUsual}
 use Rattle.replaying.specs.declared.Next.{Next}
 use Rattle.replaying.specs.declared.Next.the-variants.{Whole, Unended}
 
@@ -32,29 +32,28 @@ module _ (text : List ℕ) (at : ℕ) where
   unfolding firstLine
   whole {n} {item} e h i = rw (i, ← e, lt-ltb n (length text) h)
 
+-- three bytes with no newline
+none-of : (a b c : Bool) → a || (b || c) ≡ false → (a ≡ false) × (b ≡ false) × (c ≡ false)
+none-of false false false e = (refl, refl, refl)
+none-of false false true e = absurd (true≢false e)
+none-of false true c e = absurd (true≢false e)
+none-of true b c e = absurd (true≢false e)
+
 -- a text of seven bytes and more, whose first newline is the seventh
 pub usual-line : (text : List ℕ) → isUsual text ≡ true → (usual < length text) × (usual ≡ find (is newline) text)
-unfolding isUsual
+unfolding isUsual hasNewline
 usual-line text e = (ltb-true usual (length text) (and-left (ltb usual (length text)) _ e), by-bytes text (ltb-true usual (length text) (and-left (ltb usual (length text)) _ e)) (and-right (ltb usual (length text)) _ e))
   where
     by-bytes : (t : List ℕ) → usual < length t
-        → is newline (getD t usual 0) && (not (is newline (getD t 0 0)) && (not (is newline (getD t 1 0)) && (not (is newline (getD t 2 0)) && (not (is newline (getD t 3 0)) && (not (is newline (getD t 4 0)) && not (is newline (getD t 5 0))))))) ≡ true
+        → is newline (getD t usual 0) && (not (is newline (getD t 0 0) || (is newline (getD t 1 0) || is newline (getD t 2 0))) && not (is newline (getD t 3 0) || (is newline (getD t 4 0) || is newline (getD t 5 0)))) ≡ true
         → usual ≡ find (is newline) t
     by-bytes (a ∷ b ∷ c ∷ d ∷ e ∷ f ∷ g ∷ t) h q =
-        let r₁ = and-right (is newline g) _ q in
-        let r₂ = and-right (not (is newline a)) _ r₁ in
-        let r₃ = and-right (not (is newline b)) _ r₂ in
-        let r₄ = and-right (not (is newline c)) _ r₃ in
-        let r₅ = and-right (not (is newline d)) _ r₄ in
-        rw (
-          not-true (is newline a) (and-left (not (is newline a)) _ r₁),
-          not-true (is newline b) (and-left (not (is newline b)) _ r₂),
-          not-true (is newline c) (and-left (not (is newline c)) _ r₃),
-          not-true (is newline d) (and-left (not (is newline d)) _ r₄),
-          not-true (is newline e) (and-left (not (is newline e)) _ r₅),
-          not-true (is newline f) (and-right (not (is newline e)) _ r₅),
-          and-left (is newline g) _ q,
-        )
+        let r = and-right (is newline g) _ q in
+        let first = is newline a || (is newline b || is newline c) in
+        let last = is newline d || (is newline e || is newline f) in
+        let (at-a, at-b, at-c) = none-of (is newline a) (is newline b) (is newline c) (not-true first (and-left (not first) (not last) r)) in
+        let (at-d, at-e, at-f) = none-of (is newline d) (is newline e) (is newline f) (not-true last (and-right (not first) (not last) r)) in
+        rw (at-a, at-b, at-c, at-d, at-e, at-f, and-left (is newline g) _ q)
     by-bytes [] h q = absurd (omega arith)
     by-bytes (a ∷ []) h q = absurd (omega arith)
     by-bytes (a ∷ b ∷ []) h q = absurd (omega arith)

@@ -31,6 +31,13 @@ module _ (input : List ℕ) (count at put : ℕ) (out : List ℕ) (d : Desk) {ne
   stopped-at zero h e = absurd (omega arith)
   stopped-at (suc most) {s} h e = sym (one-more most ∙ rw e)
 
+-- one line less
+pub one-less : (n : ℕ) → 0 < n → n - 1 < n
+one-less n h = omega (arith, h)
+
+pub none-left : (n : ℕ) → n ≤ 0 → n ≡ 0
+none-left n h = omega (arith, h)
+
 -- no line more
 pub ran-out : (input : List ℕ) (count at put : ℕ) (out : List ℕ) (d : Desk) → left Input count at put out d ≡ runOf 0 input count at put out d
 unfolding runOf

@@ -2,10 +2,11 @@
 -- Assumes nothing.
 use mathlib.Core.Path.{_≡_, refl, sym, ap, subst, _∙_}
 use mathlib.Core.List.{List, [], _∷_, _++_}
-use Prim.Native.Nat.{ℕ, zero, suc, _+_, _^_, _≤_, _<_, min}
+use Prim.Native.Nat.{ℕ, zero, suc, _+_, _-_, _^_, _≤_, _<_, min}
 use native.Mathlib.Omega.{arith}
 use native.Mathlib.Numerals.{unary-clauses}
-use borrow.Author.Tests.{le-leb, lt-leb}
+use borrow.Author.Tests.{le-leb, lt-leb, leb-true, leb-false}
+use lib.Dec.{leb}
 use lib.ListN.{length, take, drop}
 use Rattle.memory.specs.Parts.{splice}
 use Rattle.memory.specs.Moves.{copied}
@@ -59,6 +60,14 @@ last-fits answer size h = by-answer (is taken answer)
     by-answer : (t : Bool) → length (cond t (decimalOf size) (replyDigits answer .high ∷ replyDigits answer .low ∷ [])) ≤ 20
     by-answer true = twenty size h
     by-answer false = omega arith
+
+-- room behind what is written, tested without a sum
+pub as-sum : (put n most : ℕ) → put ≤ most → leb n (most - put) ≡ leb (put + n) most
+as-sum put n most h = by-test (leb (put + n) most) refl
+  where
+    by-test : (t : Bool) → leb (put + n) most ≡ t → leb n (most - put) ≡ t
+    by-test true e = le-leb n (most - put) (omega (arith, h, leb-true (put + n) most e))
+    by-test false e = lt-leb n (most - put) (omega (arith, h, leb-false (put + n) most e))
 
 -- the longest row has its room
 pub row-fits : (number line answer size : ℕ) → number < 2 ^ 64 → line < 256 → answer < 256 → size < 2 ^ 64 → length (rowText number line answer size) ≤ rowRoom
@@ -157,10 +166,10 @@ module _ (d : Desk) (out : List ℕ) (put : ℕ) where
         by-item NoItem = tt
 
   module _ (input : List ℕ) (at number : ℕ) where
-    pub no-room : length out < put + rowRoom → stopped Output out d ≡ turnOf number input at out put d
+    pub no-room : leb (put + rowRoom) (length out) ≡ false → stopped Output out d ≡ turnOf number input at out put d
     unfolding turnOf
-    no-room h = rw (lt-leb (put + rowRoom) (length out) h)
+    no-room h = rw h
 
-    pub has-room : {x : Next} {t : AfterTurn} → put + rowRoom ≤ length out → x ≡ nextOf input at → t ≡ onLine x number out put d → t ≡ turnOf number input at out put d
+    pub has-room : {x : Next} {t : AfterTurn} → leb (put + rowRoom) (length out) ≡ true → x ≡ nextOf input at → t ≡ onLine x number out put d → t ≡ turnOf number input at out put d
     unfolding turnOf
-    has-room h q l = rw (le-leb (put + rowRoom) (length out) h, ← q) l
+    has-room h q l = rw (h, ← q) l

@@ -1,9 +1,9 @@
 // The next line of a trace.
-ghost use Prim.Native.Nat.{_+_, _<_, _^_};
+ghost use Prim.Native.Nat.{_+_, _≤_, _<_, _^_};
 ghost use mathlib.Core.Path.{_≡_};
 ghost use lib.ListN.{length};
 ghost use Rattle.replaying.specs.Lines.{nextOf, firstLine};
-ghost use Rattle.replaying.specs.Inner.Usual.{isUsual};
+ghost use Rattle.replaying.specs.Inner.Usual.{hasNewline, isUsual};
 use super::Next;
 
 const NEWLINE: u8 = b'\n';
@@ -46,20 +46,22 @@ fn is_usual(rest: &[u8]) -> bool
     if rest[USUAL] != NEWLINE {
         return false;
     }
-    if rest[0] == NEWLINE {
+    if has_newline(rest, 0) {
         return false;
     }
-    if rest[1] == NEWLINE {
-        return false;
+    !has_newline(rest, 3)
+}
+
+// Whether one of the three bytes from `at` on is a newline.
+fn has_newline(rest: &[u8], at: usize) -> bool
+    requires { ⌜ at + 3 ≤ length (now rest) ⌝ }
+    ensures { λ r. ⌜ r ≡ hasNewline (now (rest .entry)) at ⌝ }
+{
+    if rest[at] == NEWLINE {
+        return true;
     }
-    if rest[2] == NEWLINE {
-        return false;
+    if rest[at + 1] == NEWLINE {
+        return true;
     }
-    if rest[3] == NEWLINE {
-        return false;
-    }
-    if rest[4] == NEWLINE {
-        return false;
-    }
-    rest[5] != NEWLINE
+    rest[at + 2] == NEWLINE
 }

@@ -1,6 +1,7 @@
 // One line replayed: read, asked, and its row written.
 ghost use Prim.Native.Nat.{_+_, _≤_, min};
 ghost use mathlib.Core.Path.{_≡_};
+ghost use lib.Dec.{leb};
 ghost use lib.ListN.{length};
 ghost use Rattle.replaying.specs.Desk.{rowRoom, deskOf};
 ghost use Rattle.replaying.specs.Turns.{turnLeaves, turnOf};
@@ -36,10 +37,7 @@ pub fn turn(
         ≡ turnOf number (now (input .entry)) at (now (out .entry)) put (deskOf (now (numbers .entry)) (now (counts .entry)) (now (journal .entry)) (now (unfinished .entry)) (now (frames .entry)) (now (buffer .entry))))
         × ReadIn r (length (now (input .entry))) × EndsIn r (length (now (out .exit))) ⌝ }
 {
-    if out.len() < put {
-        return Turn::Stopped(Stop::Output);
-    }
-    if out.len() - put < super::ROW_ROOM {
+    if !has_room(put, out.len()) {
         return Turn::Stopped(Stop::Output);
     }
     match lines::next(input, at) {
@@ -49,6 +47,16 @@ pub fn turn(
             put_columns(columns, number, behind, out, put)
         }
     }
+}
+
+// Whether a listing of so many bytes has room for a row behind `put`.
+fn has_room(put: usize, most: usize) -> bool
+    ensures { λ r. ⌜ r ≡ leb (put + rowRoom) most ⌝ }
+{
+    if most < put {
+        return false;
+    }
+    super::ROW_ROOM <= most - put
 }
 
 // What a line asks, done; a line that asks nothing changes nothing.

@@ -1,16 +1,17 @@
 -- A turn, one way out after the other.
 -- Assumes nothing.
 use mathlib.Core.Path.{_≡_, refl, sym, ap, subst, _∙_}
-use mathlib.Core.Bool.{Bool, true, false, cond}
+use mathlib.Core.Bool.{Bool, true, false, cond, _&&_, true≢false}
 use mathlib.Core.List.{List}
 use Prim.Native.Nat.{ℕ, _+_, _-_, _≤_, _<_}
 use native.Mathlib.Omega.{arith}
-use borrow.Author.Tests.{le-leb, lt-leb, leb-true}
+use borrow.Author.Tests.{lt-ltb, le-ltb, le-leb, lt-leb, leb-true, leb-false}
 use lib.Dec.{ltb, leb}
 use lib.ListN.{length}
 use Rattle.memory.specs.Parts.{splice}
 use Rattle.memory.specs.Moves.{copied, ClosedUp}
 use Rattle.memory.proofs.Parts.{length-splice}
+use Rattle.memory.proofs.Tests.{and-left, and-right}
 use Rattle.listing.specs.Items.{lineLimit}
 use Rattle.listing.specs.Texts.{endOf, TextWritten}
 use Rattle.listing.specs.declared.Written.{Written}
@@ -21,12 +22,41 @@ use Rattle.replaying.specs.declared.Progress.{Progress}
 use Rattle.replaying.specs.declared.Stop.{Stop}
 use Rattle.replaying.specs.declared.Stop.the-variants.{Input, Output, NotAnEvent}
 use Rattle.streaming.specs.Stages.{isRunning, wants, nothing, closes}
+use Rattle.streaming.specs.Fed.{grown, finished, fedOf}
 use Rattle.streaming.specs.Handed.{onward, byStop, handed, moved}
-use Rattle.streaming.specs.Said.{Said, behind, silent, saying, saidAt, saidOf}
+use Rattle.streaming.specs.Said.{Said, behind, silent, saying, saidOf}
+use Rattle.streaming.specs.Inner.Places.{LiesIn}
+use Rattle.streaming.specs.Inner.Ready.{isReady, insteadAt, insteadOf}
 use Rattle.streaming.specs.Streams.{Stream, streamOf, waiting, handedOn, ran, spoken, turned}
 use Rattle.streaming.specs.declared.Kept.{Kept}
 use Rattle.streaming.specs.declared.Stage.{Stage}
 use Rattle.streaming.specs.declared.Stage.the-variants.{Wants, Total, Fault}
+
+-- ---- what a read has brought
+
+-- room for n behind an end, tested without a sum
+pub as-sum : (end n most : ℕ) → end ≤ most → leb n (most - end) ≡ leb (end + n) most
+as-sum end n most h = by-test (leb (end + n) most) refl
+  where
+    by-test : (t : Bool) → leb (end + n) most ≡ t → leb n (most - end) ≡ t
+    by-test true e = le-leb n (most - end) (omega (arith, h, leb-true (end + n) most e))
+    by-test false e = lt-leb n (most - end) (omega (arith, h, leb-false (end + n) most e))
+
+module _ (k : Kept) (n : ℕ) (input : List ℕ) where
+  abbrev Feeds : Kept → List ℕ → Type 0
+  Feeds r input′ = (r ≡ fedOf k n input .kept) × (input′ ≡ fedOf k n input .input)
+
+  pub feeds-past : {r : Kept} → leb (k .end + n) (length input) ≡ false → r ≡ nothing → Feeds r input
+  unfolding fedOf
+  feeds-past t e = (rw t e, rw t)
+
+  pub feeds-more : {r : Kept} → leb (k .end + n) (length input) ≡ true → 0 < n → r ≡ grown k n → Feeds r input
+  unfolding fedOf
+  feeds-more t h e = (rw (t, lt-ltb 0 n h) e, rw (t, lt-ltb 0 n h))
+
+  pub feeds-last : {r : Kept} {input′ : List ℕ} → leb (k .end + n) (length input) ≡ true → n ≤ 0 → r ≡ finished k input .kept → input′ ≡ finished k input .input → Feeds r input′
+  unfolding fedOf
+  feeds-last t h e i = (rw (t, le-ltb 0 n h) e, rw (t, le-ltb 0 n h) i)
 
 -- ---- a line that is no row
 
@@ -35,9 +65,9 @@ abbrev Says : Said → Kept → List ℕ → Type 0
 Says s r out = (r ≡ s .kept) × (out ≡ s .out) × (r .written ≤ length out)
 
 module _ (k : Kept) (out : List ℕ) where
-  pub at-stage : {stage : Stage} {r : Kept} {out′ : List ℕ} → k .stage ≡ stage → Says (saidAt stage k out) r out′ → Says (saidOf k out) r out′
-  unfolding saidOf
-  at-stage {stage} {r} {out′} e h = subst (λ (x : Stage). Says (saidAt x k out) r out′) (sym e) h
+  pub at-stage : {stage : Stage} {r : Kept} {out′ : List ℕ} → k .stage ≡ stage → Says (insteadAt stage k out) r out′ → Says (insteadOf k out) r out′
+  unfolding insteadOf
+  at-stage {stage} {r} {out′} e h = subst (λ (x : Stage). Says (insteadAt x k out) r out′) (sym e) h
 
   -- a text written ends within its memory
   pub text-said : (text : List ℕ) (next : Stage) {w : Written} {r : Kept} {out′ : List ℕ} → TextWritten text out 0 w out′ → r ≡ behind k w next → Says (saying text next k out) r out′
@@ -56,6 +86,9 @@ module _ (k : Kept) (out : List ℕ) where
 
   pub nothing-said : {r : Kept} → r ≡ silent k → (r ≡ silent k) × (out ≡ out) × (r .written ≤ length out)
   nothing-said e = (e, refl, rw e (omega arith))
+
+  pub nothing-left : {r : Kept} → r ≡ nothing → (r ≡ nothing) × (out ≡ out) × (r .written ≤ length out)
+  nothing-left e = (e, refl, rw e (omega arith))
 
 -- ---- what is left of a run
 
@@ -89,34 +122,34 @@ rows-shown k p = by-stop (p .stop)
         by-tests (k .ended) (ltb lineLimit (k .end - (k .from + p .read))) (closes (p .events) (p .written) Total) (closes (p .events) (p .written) Fault)
         (record { from = 0; end = k .end - (k .from + p .read); events = p .events; ended = false; written = p .written; stage = Wants }) refl refl refl
 
--- ---- a run of what waits
-
-module _ (k : Kept) (input out : List ℕ) (d : Desk) where
-  pub no-place : {r : Kept} → k .end < k .from → r ≡ nothing → streamOf r input out d ≡ ran (streamOf k input out d)
-  unfolding ran
-  no-place h e = rw (lt-leb (k .from) (k .end) h, e)
-
-  pub past-end : {r : Kept} → k .from ≤ k .end → length input < k .end → r ≡ nothing → streamOf r input out d ≡ ran (streamOf k input out d)
-  unfolding ran
-  past-end h i e = rw (le-leb (k .from) (k .end) h, lt-leb (k .end) (length input) i, e)
-
-  pub is-run : {p : Progress} {r : Kept} {input′ out′ : List ℕ} {d′ : Desk} → k .from ≤ k .end → k .end ≤ length input
-      → runLeaves p out′ d′ ≡ pieceOf (k .events) (waiting k input) out d → r ≡ handed k p → input′ ≡ moved k p input
-      → streamOf r input′ out′ d′ ≡ ran (streamOf k input out d)
-  unfolding ran
-  is-run h i q e m =
-      rw (le-leb (k .from) (k .end) h, le-leb (k .end) (length input) i, e, m) (ap (λ (x : AfterRun). handedOn (streamOf k input out d) x) q)
-
-  pub is-spoken : {r : Kept} {out′ : List ℕ} → r ≡ saidOf k out .kept → out′ ≡ saidOf k out .out → streamOf r input out′ d ≡ spoken (streamOf k input out d)
-  is-spoken e o = rw (e, o)
-
 -- ---- a turn
 
-module _ (s : Stream) {t : Stream} where
-  pub running : isRunning (s .kept .stage) ≡ true → t ≡ ran s → t ≡ turned s
-  unfolding turned
-  running e q = rw e q
+pub is-running : (k : Kept) (most : ℕ) → isReady k most ≡ true → isRunning (k .stage) ≡ true
+unfolding isReady
+is-running k most e = and-left (isRunning (k .stage)) (leb (k .from) (k .end) && leb (k .end) most) e
 
-  pub speaking : isRunning (s .kept .stage) ≡ false → t ≡ spoken s → t ≡ turned s
-  unfolding turned
-  speaking e q = rw e q
+pub ready-lies : (k : Kept) (most : ℕ) → isReady k most ≡ true → LiesIn k most
+unfolding isReady
+ready-lies k most e =
+    let lies = and-right (isRunning (k .stage)) (leb (k .from) (k .end) && leb (k .end) most) e in
+    (leb-true (k .from) (k .end) (and-left (leb (k .from) (k .end)) (leb (k .end) most) lies), leb-true (k .end) most (and-right (leb (k .from) (k .end)) (leb (k .end) most) lies))
+
+module _ (k : Kept) (input out : List ℕ) (d : Desk) where
+  pub has-run : {p : Progress} {r : Kept} {input′ out′ : List ℕ} {d′ : Desk} → isReady k (length input) ≡ true
+      → runLeaves p out′ d′ ≡ pieceOf (k .events) (waiting k input) out d → r ≡ handed k p → input′ ≡ moved k p input
+      → streamOf r input′ out′ d′ ≡ turned (streamOf k input out d)
+  unfolding ran turned
+  has-run t q e m =
+      let (lies, ends) = ready-lies k (length input) t in
+      rw (is-running k (length input) t, le-leb (k .from) (k .end) lies, le-leb (k .end) (length input) ends, e, m) (ap (λ (x : AfterRun). handedOn (streamOf k input out d) x) q)
+
+  pub has-said : {r : Kept} {out′ : List ℕ} → isReady k (length input) ≡ false → r ≡ insteadOf k out .kept → out′ ≡ insteadOf k out .out
+      → streamOf r input out′ d ≡ turned (streamOf k input out d)
+  unfolding isReady insteadOf saidOf ran turned
+  has-said {r} {out′} t e o = by-tests (isRunning (k .stage)) (leb (k .from) (k .end) && leb (k .end) (length input)) t e o
+    where
+      by-tests : (a b : Bool) → a && b ≡ false → r ≡ cond a (record { kept = nothing; out = out }) (saidOf k out) .kept → out′ ≡ cond a (record { kept = nothing; out = out }) (saidOf k out) .out
+          → streamOf r input out′ d ≡ cond a (cond b (handedOn (streamOf k input out d) (pieceOf (k .events) (waiting k input) out d)) (streamOf nothing input out d)) (spoken (streamOf k input out d))
+      by-tests true true f p q = absurd (true≢false f)
+      by-tests true false f p q = rw (p, q)
+      by-tests false b f p q = rw (p, q)

@@ -1,6 +1,7 @@
 // What a read has brought.
 ghost use Prim.Native.Nat.{_+_, _≤_, _<_, _^_};
 ghost use mathlib.Core.Path.{_≡_};
+ghost use lib.Dec.{leb};
 ghost use lib.ListN.{length};
 ghost use Rattle.streaming.specs.Stages.{closes};
 ghost use Rattle.streaming.specs.Fed.{grown, finished};
@@ -8,6 +9,16 @@ use super::Kept;
 use super::Stage;
 
 const NEWLINE: u8 = b'\n';
+
+// Whether n bytes behind the end of those that wait lie in an input of so many bytes.
+pub fn has_room(end: usize, n: usize, most: usize) -> bool
+    ensures { λ r. ⌜ r ≡ leb (end + n) most ⌝ }
+{
+    if most < end {
+        return false;
+    }
+    n <= most - end
+}
 
 // n bytes more wait.
 pub fn grow(kept: Kept, n: usize) -> Kept

@@ -1,56 +1,44 @@
-// What waits is run, as far as the room for rows allows, and what is left of it handed on.
+// What waits: whether it is run, and what is left of it behind a run handed on.
 ghost use Prim.Native.Nat.{_+_, _≤_};
 ghost use mathlib.Core.Path.{_≡_};
 ghost use lib.ListN.{length};
-ghost use Rattle.replaying.specs.Desk.{deskOf};
-ghost use Rattle.streaming.specs.Stages.{closes};
+ghost use Rattle.streaming.specs.Stages.{isRunning, closes};
 ghost use Rattle.streaming.specs.Handed.{handed, moved, onward};
-ghost use Rattle.streaming.specs.Streams.{streamOf, ran};
+ghost use Rattle.streaming.specs.Inner.Ready.{isReady};
 use super::Kept;
 use super::Stage;
 use replaying::Progress;
 use replaying::Stop;
 
-// Runs what waits; where it does not lie in the input, nothing is done.
-pub fn run(
-    kept: Kept,
-    input: &mut [u8],
-    out: &mut [u8],
-    numbers: &mut [u16; layout::NUMBERS],
-    counts: &mut [u32; layout::COUNTS],
-    journal: &mut [u8],
-    unfinished: &mut [u8],
-    frames: &mut [u8],
-    buffer: &mut [u8],
-) -> Kept
-    ensures { λ r. ⌜ (streamOf r (now (input .exit)) (now (out .exit)) (deskOf (now (numbers .exit)) (now (counts .exit)) (now (journal .exit)) (now (unfinished .exit)) (now (frames .exit)) (now (buffer .exit)))
-        ≡ ran (streamOf kept (now (input .entry)) (now (out .entry)) (deskOf (now (numbers .entry)) (now (counts .entry)) (now (journal .entry)) (now (unfinished .entry)) (now (frames .entry)) (now (buffer .entry)))))
-        × (r .written ≤ length (now (out .exit))) ⌝ }
+// Whether what waits is to be run, and lies in an input of so many bytes.
+pub fn is_ready(kept: Kept, most: usize) -> bool
+    ensures { λ r. ⌜ r ≡ isReady kept most ⌝ }
 {
-    let from = kept.from;
-    let end = kept.end;
-    if end < from {
-        return super::over();
+    let stage = kept.stage;
+    if !runs(stage) {
+        return false;
     }
-    if input.len() < end {
-        return super::over();
+    if kept.end < kept.from {
+        return false;
     }
-    let p = replaying::run(
-        kept.events,
-        &input[from..end],
-        out,
-        numbers,
-        counts,
-        journal,
-        unfinished,
-        frames,
-        buffer,
-    );
-    hand_on(kept, p, input)
+    kept.end <= most
+}
+
+fn runs(stage: Stage) -> bool
+    ensures { λ r. ⌜ r ≡ isRunning stage ⌝ }
+{
+    match stage {
+        Stage::Begins => false,
+        Stage::Runs => true,
+        Stage::Wants => false,
+        Stage::Total => false,
+        Stage::Fault => false,
+        Stage::Over => false,
+    }
 }
 
 // Where more is wanted, what is left moves to the start of the input.
-fn hand_on(kept: Kept, p: Progress, input: &mut [u8]) -> Kept
+pub fn hand_on(kept: Kept, p: Progress, input: &mut [u8]) -> Kept
     requires { ⌜ (kept .from + p .read ≤ kept .end) × (kept .end ≤ length (now input)) ⌝ }
     ensures { λ r. ⌜ (r ≡ handed kept p) × (now (input .exit) ≡ moved kept p (now (input .entry))) ⌝ }
 {

@@ -9,7 +9,7 @@ ghost use Rattle.streaming.specs.Fed.{fedOf};
 ghost use Rattle.streaming.specs.Streams.{streamOf, turned};
 
 mod feeding; // feeding.rt: what a read has brought
-mod handing; // handing.rt: what waits is run, and what is left of it handed on
+mod handing; // handing.rt: what waits, before a run and behind it
 mod saying; // saying.rt: the lines of a listing that are no rows
 
 // What comes next: the header, a run of what waits, a read, one of the two lines that close a listing, or nothing.
@@ -93,11 +93,7 @@ pub fn over() -> Kept
 pub fn feed(kept: Kept, n: usize, input: &mut [u8]) -> Kept
     ensures { λ r. ⌜ (r ≡ fedOf kept n (now (input .entry)) .kept) × (now (input .exit) ≡ fedOf kept n (now (input .entry)) .input) ⌝ }
 {
-    let end = kept.end;
-    if input.len() < end {
-        return over();
-    }
-    if input.len() - end < n {
+    if !feeding::has_room(kept.end, n, input.len()) {
         return over();
     }
     if 0 < n {
@@ -122,19 +118,21 @@ pub fn turn(
         ≡ turned (streamOf kept (now (input .entry)) (now (out .entry)) (deskOf (now (numbers .entry)) (now (counts .entry)) (now (journal .entry)) (now (unfinished .entry)) (now (frames .entry)) (now (buffer .entry)))))
         × (r .written ≤ length (now (out .exit))) ⌝ }
 {
-    let stage = kept.stage;
-    if saying::runs(stage) {
-        return handing::run(
-            kept,
-            input,
-            out,
-            numbers,
-            counts,
-            journal,
-            unfinished,
-            frames,
-            buffer,
-        );
+    if !handing::is_ready(kept, input.len()) {
+        return saying::say(kept, out);
     }
-    saying::say(kept, out)
+    let from = kept.from;
+    let end = kept.end;
+    let p = replaying::run(
+        kept.events,
+        &input[from..end],
+        out,
+        numbers,
+        counts,
+        journal,
+        unfinished,
+        frames,
+        buffer,
+    );
+    handing::hand_on(kept, p, input)
 }

@@ -2,29 +2,15 @@
 ghost use Prim.Native.Nat.{_≤_};
 ghost use mathlib.Core.Path.{_≡_};
 ghost use lib.ListN.{length};
-ghost use Rattle.streaming.specs.Stages.{isRunning};
-ghost use Rattle.streaming.specs.Said.{silent, behind, saidOf};
+ghost use Rattle.streaming.specs.Said.{silent, behind};
+ghost use Rattle.streaming.specs.Inner.Ready.{insteadOf};
 use super::Kept;
 use super::Stage;
 use listing::Written;
 
-// Whether what waits is to be run.
-pub fn runs(stage: Stage) -> bool
-    ensures { λ r. ⌜ r ≡ isRunning stage ⌝ }
-{
-    match stage {
-        Stage::Begins => false,
-        Stage::Runs => true,
-        Stage::Wants => false,
-        Stage::Total => false,
-        Stage::Fault => false,
-        Stage::Over => false,
-    }
-}
-
-// The line that comes next, at the start of the output; where none does, nothing.
+// The line that comes next, at the start of the output; where none does, nothing. Where what waits cannot be run, nothing is left to do.
 pub fn say(kept: Kept, out: &mut [u8]) -> Kept
-    ensures { λ r. ⌜ (r ≡ saidOf kept (now (out .entry)) .kept) × (now (out .exit) ≡ saidOf kept (now (out .entry)) .out)
+    ensures { λ r. ⌜ (r ≡ insteadOf kept (now (out .entry)) .kept) × (now (out .exit) ≡ insteadOf kept (now (out .entry)) .out)
         × (r .written ≤ length (now (out .exit))) ⌝ }
 {
     let stage = kept.stage;
@@ -33,7 +19,7 @@ pub fn say(kept: Kept, out: &mut [u8]) -> Kept
             let written = listing::write_header(out, 0);
             follow(kept, written, Stage::Runs)
         }
-        Stage::Runs => quiet(kept),
+        Stage::Runs => super::over(),
         Stage::Wants => quiet(kept),
         Stage::Total => {
             let written = listing::write_total(kept.events, out, 0);

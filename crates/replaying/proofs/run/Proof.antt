@@ -9,7 +9,7 @@ use lib.ListN.{length}
 use mathlib.Core.List.{List}
 use Rattle.replaying.specs.Desk.{Desk, deskOf}
 use Rattle.replaying.specs.Runs.{AfterRun, runOf, pieceOf}
-use Rattle.replaying.proofs.Pieces.{went-on, stopped-at, ran-out, read-in, ends-in}
+use Rattle.replaying.proofs.Pieces.{one-less, none-left, went-on, stopped-at, ran-out, read-in, ends-in}
 use Rattle.replaying.proofs.run.Statement.{statement}
 use Rattle.replaying.proofs.run.Tie as tie
 
@@ -53,6 +53,10 @@ stopped-call c = call (c .before .before .before)
 abbrev stopped-from : tie.After-known-told Inv-loop μ-loop → tie.At-loop Inv-loop μ-loop
 stopped-from c = turning (stopped-call c)
 
+-- the test before a turn that went on
+abbrev tested : tie.After-known-told2 Inv-loop μ-loop → tie.In-loop Inv-loop μ-loop
+tested c = let t = call (c .before .before .before) in counted t .before
+
 -- the desk before a turn
 abbrev desk : tie.At-loop Inv-loop μ-loop → Desk
 desk l = deskOf (l .loop .numbers) (l .loop .counts) (l .loop .journal) (l .loop .unfinished) (l .loop .frames) (l .loop .buffer)
@@ -87,7 +91,7 @@ returns c =
     let i = l .loop .inv in
     let stop =
     stopped-at (now (start l .args .input)) (l .loop .count) (l .loop .at) (l .loop .put) (l .loop .out) (desk l) {out′ = out-behind t} {d′ = desk-behind t}
-    (counted t .wrapping-add-u64 .ensures) (t .turn .ensures .0) (l .loop .left) (search (needs, counted t .before .loop-test)) (c .before .turn2 .given .1) in
+    (counted t .wrapping-add-u64 .ensures) (t .turn .ensures .0) (l .loop .left) (counted t .before .loop-test .taken) (c .before .turn2 .given .1) in
     (stop ∙ sym (i .comes-to), i .read-within, subst (λ (n : ℕ). l .loop .put ≤ n) (sym (out-kept t)) (i .written-within))
 
 loop-again : tie.Need-loop-again Inv-loop μ-loop
@@ -101,7 +105,7 @@ loop-again c =
       comes-to =
           i .comes-to
           ∙ went-on (now (start l .args .input)) (l .loop .count) (l .loop .at) (l .loop .put) (l .loop .out) (desk l) {out′ = out-behind t} {d′ = desk-behind t}
-          (counted t .wrapping-add-u64 .ensures) (t .turn .ensures .0) (l .loop .left) (search (needs, counted t .before .loop-test)) w;
+          (counted t .wrapping-add-u64 .ensures) (t .turn .ensures .0) (l .loop .left) (counted t .before .loop-test .taken) w;
       out-length = k .0 ∙ i .out-length;
       journal-length = m .0 ∙ i .journal-length;
       unfinished-length = m .1 .0 ∙ i .unfinished-length;
@@ -115,7 +119,7 @@ returns-2 : tie.Need-returns-2 Inv-loop μ-loop
 returns-2 c =
     let l = c .before in
     let i = l .loop .inv in
-    let none : l .loop .left ≡ 0 = omega arith in
+    let none : l .loop .left ≡ 0 = none-left (l .loop .left) (c .loop-test .left) in
     let done = ap (λ (n : ℕ). runOf n (now (start l .args .input)) (l .loop .count) (l .loop .at) (l .loop .put) (l .loop .out) (desk l)) none in
     (ran-out _ _ _ _ _ _ ∙ sym (i .comes-to ∙ done), i .read-within, i .written-within)
 
@@ -136,8 +140,8 @@ run-spec =
     (λ c. stopped-call c .turn .kept .1 .1 .1 .1 .1 .1 .1 .1 .1 .1 .0 ∙ stopped-from c .loop .inv .buffer-length)
     returns
     (λ c. search needs)
-    (λ c. search needs)
-    (λ c. search needs)
+    (λ c. tested c .loop-test .taken)
+    (λ c. one-less (tested c .before .loop .left) (tested c .loop-test .taken))
     loop-again
     (λ c. c .before .loop .inv .out-length)
     (λ c. c .before .loop .inv .journal-length)

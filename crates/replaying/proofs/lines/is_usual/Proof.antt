@@ -1,10 +1,17 @@
 -- `replaying::lines::is_usual` meets its contract.
 -- Assumes nothing.
 use borrow.Author.Needs.{needs}
+use mathlib.Core.Path.{_≡_, sym, _∙_}
+use mathlib.Core.Bool.{true, false}
+use denote.Ref.{now}
 use Rattle.memory.proofs.Branches.{branches}
-use Rattle.replaying.specs.Inner.Usual.{isUsual}
+use Rattle.replaying.specs.Inner.Usual.{hasNewline, isUsual}
 use Rattle.replaying.proofs.lines.is_usual.Statement.{statement}
 use Rattle.replaying.proofs.lines.is_usual.Tie as tie
+
+-- the start, from behind the first call
+abbrev start : tie.After-has-newline → tie.Start
+start c = let longer = c .before .before .before in longer .before .before
 
 returns : tie.Need-returns
 unfolding isUsual
@@ -16,27 +23,18 @@ returns-2 c = search branches
 
 returns-3 : tie.Need-returns-3
 unfolding isUsual
-returns-3 c = search branches
+returns-3 c =
+    let h = c .before in
+    let front : hasNewline (now (start h .args .rest)) 0 ≡ true = sym (h .has-newline .ensures) ∙ c .if3 .taken in
+    search (branches, front)
 
 returns-4 : tie.Need-returns-4
 unfolding isUsual
-returns-4 c = search branches
-
-returns-5 : tie.Need-returns-5
-unfolding isUsual
-returns-5 c = search branches
-
-returns-6 : tie.Need-returns-6
-unfolding isUsual
-returns-6 c = search branches
-
-returns-7 : tie.Need-returns-7
-unfolding isUsual
-returns-7 c = search branches
-
-returns-8 : tie.Need-returns-8
-unfolding isUsual
-returns-8 c = search branches
+returns-4 c =
+    let e = c .before in
+    let h = e .before in
+    let front : hasNewline (now (start h .args .rest)) 0 ≡ false = sym (h .has-newline .ensures) ∙ e .if3 .left in
+    search (branches, front, c .has-newline2 .ensures)
 
 pub is-usual-spec : {M : Type 1} → statement M
 is-usual-spec =
@@ -45,15 +43,7 @@ is-usual-spec =
     returns
     (λ c. search needs)
     returns-2
-    (λ c. search needs)
+    (λ c κs. search needs)
     returns-3
-    (λ c. search needs)
-    returns-4
-    (λ c. search needs)
-    returns-5
-    (λ c. search needs)
-    returns-6
-    (λ c. search needs)
-    returns-7
-    (λ c. search needs)
-    returns-8)
+    (λ c κs. search needs)
+    returns-4)

@@ -1,9 +1,10 @@
 -- `replaying::turns::turn` meets its contract.
 -- Assumes nothing.
 use borrow.Author.Needs.{needs}
-use native.Mathlib.Omega.{arith}
+use borrow.Author.Tests.{not-true, not-false, leb-true}
 use Prim.Native.Nat.{_+_, _≤_}
 use mathlib.Core.Path.{_≡_, refl, sym, ap, _∙_}
+use mathlib.Core.Bool.{true}
 use denote.Ref.{now}
 use Rattle.replaying.specs.Desk.{rowRoom, Desk, deskOf}
 use Rattle.replaying.specs.Lines.{nextOf}
@@ -11,6 +12,7 @@ use Rattle.replaying.specs.Turns.{AfterTurn}
 use Rattle.replaying.specs.declared.Next.the-variants.{Whole}
 use Rattle.replaying.proofs.Ways.{no-room, has-room, asked-put, acted-behind}
 use Rattle.replaying.proofs.Newlines.{behind-within}
+use lib.Dec.{leb}
 use lib.ListN.{length}
 use Rattle.replaying.proofs.turns.turn.Statement.{statement}
 use Rattle.replaying.proofs.turns.turn.Tie as tie
@@ -39,9 +41,14 @@ desk s = let a = s .args in deskOf (now (a .numbers)) (now (a .counts)) (now (a 
 abbrev desk-behind : tie.After-ask → Desk
 desk-behind q = let m = q .ask .last .1 in deskOf (m .0) (m .1 .0) (m .1 .1 .0) (m .1 .1 .1 .0) (m .1 .1 .1 .1 .0) (m .1 .1 .1 .1 .1 .0)
 
--- past the tests there is room for a row
+-- past the test there is room for a row
+room : (c : tie.After-next) → leb (line-start c .args .put + rowRoom) (length (now (line-start c .args .out))) ≡ true
+room c =
+    let e = c .before in
+    sym (e .before .has-room .ensures) ∙ not-false (e .before .has-room .result) (e .if1 .left)
+
 roomy : (c : tie.After-next) → line-start c .args .put + rowRoom ≤ length (now (line-start c .args .out))
-roomy c = omega arith
+roomy c = let a = line-start c .args in leb-true (a .put + rowRoom) (length (now (a .out))) (room c)
 
 -- the item is that of the next line
 next-is : (c : tie.After-item)
@@ -51,28 +58,23 @@ next-is c = sym (c .item .given .1) ∙ c .before .before .next .ensures
 
 returns : tie.Need-returns
 returns c =
-    let s = start (c .before) in
+    let h = c .before in
+    let s = start (h .before) in
     let a = s .args in
-    (no-room (desk s) (now (a .out)) (a .put) (now (a .input)) (a .at) (a .number) (omega arith), tt, tt)
+    (no-room (desk s) (now (a .out)) (a .put) (now (a .input)) (a .at) (a .number) (sym (h .has-room .ensures) ∙ not-true (h .has-room .result) (c .if1 .taken)), tt, tt)
 
 returns-2 : tie.Need-returns-2
 returns-2 c =
-    let s = start (c .before .before) in
-    let a = s .args in
-    (no-room (desk s) (now (a .out)) (a .put) (now (a .input)) (a .at) (a .number) (omega arith), tt, tt)
-
-returns-3 : tie.Need-returns-3
-returns-3 c =
     let n = c .before .before in
     let s = line-start n in
     let a = s .args in
-    (has-room (desk s) (now (a .out)) (a .put) (now (a .input)) (a .at) (a .number) (roomy n) (sym (c .enum-told .given .1) ∙ n .next .ensures) refl, tt, tt)
+    (has-room (desk s) (now (a .out)) (a .put) (now (a .input)) (a .at) (a .number) (room n) (sym (c .enum-told .given .1) ∙ n .next .ensures) refl, tt, tt)
 
 put-columns-requires : tie.Need-put-columns-requires
 put-columns-requires c κs = roomy (item (asked (c .before)) .before .before)
 
-returns-4 : tie.Need-returns-4
-returns-4 c =
+returns-3 : tie.Need-returns-3
+returns-3 c =
     let t = columns c in
     let q = asked (t .before .before) in
     let i = item q in
@@ -82,7 +84,7 @@ returns-4 c =
     let (row, ends) = t .put-columns .ensures in
     let done = asked-put (desk s) (now (a .out)) (a .put) (i .item .given .0 .0) (a .number) (i .item .given .0 .1 .0) {d′ = desk-behind q} (q .ask .ensures) row in
     let within = behind-within (now (a .input)) (a .at) (next-is i) in (
-      has-room (desk s) (now (a .out)) (a .put) (now (a .input)) (a .at) (a .number) (roomy n) (next-is i) done,
+      has-room (desk s) (now (a .out)) (a .put) (now (a .input)) (a .at) (a .number) (room n) (next-is i) done,
       acted-behind (desk s) (now (a .out)) (a .put) (i .item .given .0 .0) (a .number) (i .item .given .0 .1 .0) (length (now (a .input))) within (ap (λ (x : AfterTurn). x .turn) done),
       ends,
     )
@@ -91,18 +93,17 @@ pub turn-spec : {M : Type 1} → statement M
 turn-spec =
     tie.close
     (tie.spec
+    (λ c κs. search needs)
     returns
-    (λ c. search needs)
-    returns-2
     (λ c κs. search needs)
     (λ c. search needs)
     (λ c. search needs)
     (λ c κs. search needs)
     put-columns-requires
-    returns-3
+    returns-2
     (λ c. columns c .put-columns .kept .1 .1 .1 .0)
     (λ c. asked (columns c .before .before) .ask .kept .1 .1 .1 .0)
     (λ c. asked (columns c .before .before) .ask .kept .1 .1 .1 .1 .0)
     (λ c. asked (columns c .before .before) .ask .kept .1 .1 .1 .1 .1 .0)
     (λ c. asked (columns c .before .before) .ask .kept .1 .1 .1 .1 .1 .1 .0)
-    returns-4)
+    returns-3)

@@ -5,7 +5,7 @@ use denote.Ref.{now}
 use Rattle.listing.specs.Texts.{headerText, totalText, faultText}
 use Rattle.replaying.specs.Runs.{following}
 use Rattle.streaming.specs.declared.Stage.the-variants.{Runs, Over}
-use Rattle.streaming.proofs.Ways.{at-stage, text-said, nothing-said}
+use Rattle.streaming.proofs.Ways.{at-stage, text-said, nothing-said, nothing-left}
 use Rattle.streaming.proofs.saying.say.Statement.{statement}
 use Rattle.streaming.proofs.saying.say.Tie as tie
 
@@ -21,12 +21,12 @@ returns c =
 returns-2 : tie.Need-returns-2
 returns-2 c =
     let a = c .before .before .before .before .args in
-    at-stage (a .kept) (now (a .out)) (c .before .enum-told2 .given .1) (nothing-said (a .kept) (now (a .out)) (c .quiet .ensures))
+    at-stage (a .kept) (now (a .out)) (c .before .enum-told2 .given .1) (nothing-left (a .kept) (now (a .out)) (c .over .ensures))
 
 returns-3 : tie.Need-returns-3
 returns-3 c =
     let a = c .before .before .before .before .args in
-    at-stage (a .kept) (now (a .out)) (c .before .enum-told3 .given .1) (nothing-said (a .kept) (now (a .out)) (c .quiet2 .ensures))
+    at-stage (a .kept) (now (a .out)) (c .before .enum-told3 .given .1) (nothing-said (a .kept) (now (a .out)) (c .quiet .ensures))
 
 returns-4 : tie.Need-returns-4
 returns-4 c =
@@ -46,7 +46,7 @@ returns-5 c =
 returns-6 : tie.Need-returns-6
 returns-6 c =
     let a = c .before .before .before .before .args in
-    at-stage (a .kept) (now (a .out)) (c .before .enum-told6 .given .1) (nothing-said (a .kept) (now (a .out)) (c .quiet3 .ensures))
+    at-stage (a .kept) (now (a .out)) (c .before .enum-told6 .given .1) (nothing-said (a .kept) (now (a .out)) (c .quiet2 .ensures))
 
 pub say-spec : {M : Type 1} → statement M
 say-spec =
