@@ -12,28 +12,23 @@ pub fn from_hex(hex: &[u8], out: &mut [u8]) -> usize
         if hex.len() - i < 2 {
             return n;
         }
-        out[n] = digit(hex[i]) * 16 + digit(hex[i + 1]);
+        out[n] = byte(hex[i], hex[i + 1]);
         i = i + 2;
         n += 1;
     }
     n
 }
 
-// The value of a hex digit, and 0 for any other byte.
+fn byte(high: u8, low: u8) -> u8 {
+    digit(high) * 16 + digit(low)
+}
+
+// The value of a hex digit: 0 to 9 are the bytes 30 to 39, and a to f 61 to 66.
 fn digit(b: u8) -> u8
     ensures { λ r. ⌜ r < 16 ⌝ }
 {
-    if b < b'0' {
-        return 0;
+    if b < 0x40 {
+        return b % 16;
     }
-    if b <= b'9' {
-        return b - b'0';
-    }
-    if b < b'a' {
-        return 0;
-    }
-    if b <= b'f' {
-        return b - b'a' + 10;
-    }
-    0
+    (b % 16 + 9) % 16
 }

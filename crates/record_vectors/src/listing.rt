@@ -1,7 +1,6 @@
 // The lines of a case.
-ghost use Prim.Native.Nat.{_<_, _≤_};
+ghost use Prim.Native.Nat.{_≤_};
 ghost use lib.ListN.{length};
-ghost use Rattle.records.specs.Records.{records};
 use component::ResultField;
 use escaping::Put;
 use faults::Checked;
@@ -10,6 +9,9 @@ use kinds::Delimiters;
 use owner::Reading;
 use records::Ending;
 
+// The most records of a message that are listed.
+const MOST: usize = 1024;
+
 pub fn show(kind: u8, text: &[u8]) {
     match kind {
         b'm' => message(text),
@@ -17,20 +19,21 @@ pub fn show(kind: u8, text: &[u8]) {
         b'e' => escaped(text),
         b'u' => unescaped(text),
         b'c' => components(text),
-        _ => end_of_line(),
+        _ => byte(b'\n'),
     }
 }
 
-fn end_of_line() {
-    io::write_all(1, b"\n");
+fn byte(b: u8) {
+    io::write_all(1, &[b]);
 }
 
-fn space() {
-    io::write_all(1, b" ");
+fn letter(b: u8) {
+    byte(b' ');
+    byte(b);
 }
 
 fn number(n: usize) {
-    space();
+    byte(b' ');
     io::print_decimal(1, n as u64);
 }
 
@@ -38,21 +41,34 @@ fn small(n: u16) {
     number(n as usize);
 }
 
+fn numbers(s: &[u16]) {
+    let mut i: usize = 0;
+    while i < s.len() {
+        small(s[i]);
+        i += 1;
+    }
+}
+
+fn part(bytes: &[u8]) {
+    letter(b'[');
+    io::write_all(1, bytes);
+    byte(b']');
+}
+
+fn line_end(n: usize) {
+    number(n);
+    byte(b'\n');
+}
+
 // A text: what the check finds, whether it ends with an L record, and its records.
 fn message(text: &[u8]) {
-    let d = Delimiters::standard();
     number(text.len());
-    found(faults::check(d, text));
+    found(faults::check(Delimiters::standard(), text));
     if message::is_message(text) {
         io::write_all(1, b" message");
     }
-    if ends_with_l(text, &text[..0]) {
-        io::write_all(1, b" L");
-    }
-    if text.len() < 100 {
-        number(splits(text));
-    }
-    rows(d, text);
+    last(text);
+    rows(text);
 }
 
 // What the check of a text finds, by the numbers of request [1].
@@ -76,25 +92,26 @@ fn fault(f: Fault, place: u16) {
         Fault::WrongNumber => number(53),
         Fault::Unended => number(54),
     }
-    io::write_all(1, b" at");
+    letter(b'a');
+    byte(b't');
     small(place);
 }
 
-// Whether the two pieces, joined, end with an L record.
-fn ends_with_l(old: &[u8], new: &[u8]) -> bool {
-    match records::ending_of(old, new) {
-        Ending::WithL => true,
-        Ending::WithOther => false,
-        Ending::WithoutCr => false,
+// Whether the text ends with an L record, and for a short one at how many places it can be cut in two so that the pieces, joined, do.
+fn last(text: &[u8]) {
+    if ends_with_l(text, text.len()) {
+        letter(b'L');
+    }
+    if text.len() < 100 {
+        number(cuts(text));
     }
 }
 
-// At how many places the text can be cut in two so that the two pieces, joined, end with an L record.
-fn splits(text: &[u8]) -> usize {
+fn cuts(text: &[u8]) -> usize {
     let mut n: usize = 0;
     let mut k: usize = 0;
     while k < text.len() {
-        let ends = ends_with_l(&text[..k], &text[k..]);
+        let ends = ends_with_l(text, k);
         k += 1;
         if ends {
             n += 1;
@@ -103,89 +120,124 @@ fn splits(text: &[u8]) -> usize {
     n
 }
 
-// Each record of a message: its number, type, offset, length and owner.
-fn rows(d: Delimiters, text: &[u8]) {
-    let mut types = [0u8; 1024];
-    let mut offsets = [0u16; 1024];
-    let mut lengths = [0u16; 1024];
-    let mut owners = [0u16; 1024];
-    let r = owner::read(d, text, &mut types, &mut offsets, &mut lengths, &mut owners);
-    match r {
-        Reading::Read(n) => {
-            line_end(n);
-            list(d, text, &types, &offsets, &lengths, &owners);
-        }
-        Reading::Malformed => line_end(46),
-        Reading::NotFitting => line_end(47),
+// Whether the text, cut in two and joined, ends with an L record.
+fn ends_with_l(text: &[u8], cut: usize) -> bool
+    requires { ⌜ cut ≤ length (now text) ⌝ }
+{
+    match records::ending_of(&text[..cut], &text[cut..]) {
+        Ending::WithL => true,
+        Ending::WithOther => false,
+        Ending::WithoutCr => false,
     }
 }
 
-fn list(
-    d: Delimiters,
-    text: &[u8],
-    types: &[u8; 1024],
-    offsets: &[u16; 1024],
-    lengths: &[u16; 1024],
-    owners: &[u16; 1024],
-)
-    requires { ⌜ length (records (now text)) ≤ 1024 ⌝ }
-{
-    let mut at: usize = 0;
+// Each record of a message: its number, type, offset, length and owner.
+fn rows(text: &[u8]) {
+    let mut types = [0u8; MOST];
+    let mut offsets = [0u16; MOST];
+    let mut lengths = [0u16; MOST];
+    let mut owners = [0u16; MOST];
+    let r = owner::read(
+        Delimiters::standard(),
+        text,
+        &mut types,
+        &mut offsets,
+        &mut lengths,
+        &mut owners,
+    );
+    list(answer(r), text, &types, &offsets, &lengths, &owners);
+}
+
+// Ends the line with the answer, and gives the number of records that were read.
+fn answer(r: Reading) -> usize {
+    match r {
+        Reading::Read(n) => {
+            line_end(n);
+            n
+        }
+        Reading::Malformed => {
+            line_end(46);
+            0
+        }
+        Reading::NotFitting => {
+            line_end(47);
+            0
+        }
+    }
+}
+
+fn list<'a>(
+    n: usize,
+    text: &'a [u8],
+    types: &'a [u8; MOST],
+    offsets: &'a [u16; MOST],
+    lengths: &'a [u16; MOST],
+    owners: &'a [u16; MOST],
+) {
     let mut i: usize = 0;
-    while at < text.len() {
-        let tail = &text[at..];
-        let e = records::index_of(tail, characters::CR);
-        row(i, types[i], offsets[i], lengths[i], owners[i]);
-        fields(d, types[i], &tail[..e]);
-        at = at + (e + 1);
+    while i < n {
+        record(
+            text,
+            i + 1,
+            byte_at(types, i),
+            number_at(offsets, i),
+            number_at(lengths, i),
+            number_at(owners, i),
+        );
         i += 1;
     }
 }
 
-fn row(i: usize, kind: u8, offset: u16, length: u16, owner: u16)
-    requires { ⌜ i < 1024 ⌝ }
-{
-    space();
-    number(i + 1);
-    space();
-    io::write_all(1, &[kind]);
+fn byte_at(s: &[u8; MOST], i: usize) -> u8 {
+    if i < MOST {
+        return s[i];
+    }
+    0
+}
+
+fn number_at(s: &[u16; MOST], i: usize) -> u16 {
+    if i < MOST {
+        return s[i];
+    }
+    0
+}
+
+fn record(text: &[u8], n: usize, kind: u8, offset: u16, length: u16, owner: u16) {
+    byte(b' ');
+    number(n);
+    letter(kind);
     small(offset);
     small(length);
     small(owner);
-    end_of_line();
-}
-
-fn line_end(n: usize) {
-    number(n);
-    end_of_line();
-}
-
-fn fields(d: Delimiters, kind: u8, rec: &[u8]) {
+    byte(b'\n');
     if kind == b'R' {
-        result(d, rec);
+        result(text, offset, length);
     }
 }
 
 // The named fields of a result record.
-fn result(d: Delimiters, rec: &[u8]) {
-    io::write_all(1, b"    ");
-    named(d, rec, ResultField::Test);
-    named(d, rec, ResultField::Value);
-    named(d, rec, ResultField::Units);
-    named(d, rec, ResultField::Flag);
-    named(d, rec, ResultField::Status);
-    named(d, rec, ResultField::Completion);
-    end_of_line();
+fn result(text: &[u8], offset: u16, length: u16) {
+    let at = offset as usize;
+    let end = at + length as usize;
+    if end <= text.len() {
+        fields(&text[at..end]);
+    }
 }
 
-fn named(d: Delimiters, rec: &[u8], field: ResultField) {
-    part(component::result_field(d, rec, field));
+fn fields(rec: &[u8]) {
+    letter(b' ');
+    letter(b' ');
+    named(rec, ResultField::Test);
+    named(rec, ResultField::Value);
+    named(rec, ResultField::Units);
+    named(rec, ResultField::Flag);
+    named(rec, ResultField::Status);
+    named(rec, ResultField::Completion);
+    byte(b'\n');
 }
 
-fn part(bytes: &[u8]) {
-    io::write_all(1, b" [");
-    io::write_all(1, bytes);
-    io::write_all(1, b"]");
+fn named(rec: &[u8], field: ResultField) {
+    part(component::result_field(Delimiters::standard(), rec, field));
 }
 
 // A text that is read into memory for two records: the answer, and the memory after it.
@@ -202,41 +254,36 @@ fn short(text: &[u8]) {
         &mut lengths,
         &mut owners,
     );
-    part(&types);
-    small(offsets[0]);
-    small(offsets[1]);
-    small(lengths[0]);
-    small(lengths[1]);
-    small(owners[0]);
-    small(owners[1]);
-    small(owners[2]);
+    memory(&types, &offsets, &lengths, &owners);
     answer(r);
 }
 
-fn answer(r: Reading) {
-    match r {
-        Reading::Read(n) => line_end(n),
-        Reading::Malformed => line_end(46),
-        Reading::NotFitting => line_end(47),
-    }
+fn memory<'a>(
+    types: &'a [u8; 2],
+    offsets: &'a [u16; 2],
+    lengths: &'a [u16; 2],
+    owners: &'a [u16; 3],
+) {
+    part(types);
+    numbers(offsets);
+    numbers(lengths);
+    numbers(owners);
 }
 
 // A text escaped into memory of 16 bytes.
 fn escaped(text: &[u8]) {
     let mut out = [b'.'; 16];
-    let r = escaping::escape(Delimiters::standard(), text, &mut out);
-    put(r);
+    put(escaping::escape(Delimiters::standard(), text, &mut out));
     part(&out);
-    end_of_line();
+    byte(b'\n');
 }
 
 // A component unescaped into memory of 8 bytes.
 fn unescaped(text: &[u8]) {
     let mut out = [b'.'; 8];
-    let r = escaping::unescape(Delimiters::standard(), text, &mut out);
-    put(r);
+    put(escaping::unescape(Delimiters::standard(), text, &mut out));
     part(&out);
-    end_of_line();
+    byte(b'\n');
 }
 
 fn put(r: Put) {
@@ -256,5 +303,5 @@ fn components(text: &[u8]) {
         number(end);
         at = end + 1;
     }
-    end_of_line();
+    byte(b'\n');
 }

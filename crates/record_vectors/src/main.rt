@@ -24,26 +24,27 @@ fn run(input: &[u8]) {
     }
 }
 
-// The parts of a line are the fields of a record whose delimiter is the space.
 fn case(line: &[u8]) {
-    let d = spaces();
-    let kind = component::field_of(d, line, 1);
-    let name = component::field_of(d, line, 2);
-    let hex = component::field_of(d, line, 3);
-    io::write_all(1, name);
-    if kind.len() != 1 {
-        return;
+    io::write_all(1, word(line, 2));
+    let kind = word(line, 1);
+    if kind.len() == 1 {
+        show(kind[0], word(line, 3));
     }
-    let mut text = [0u8; 4096];
-    let n = decode::from_hex(hex, &mut text);
-    listing::show(kind[0], &text[..n]);
 }
 
-fn spaces() -> Delimiters {
-    Delimiters {
+// The parts of a line are the fields of a record whose delimiter is the space.
+fn word<'a>(line: &'a [u8], n: usize) -> &'a [u8] {
+    let d = Delimiters {
         field: b' ',
         repeat: 0,
         component: 0,
         escape: 0,
-    }
+    };
+    component::field_of(d, line, n)
+}
+
+fn show(kind: u8, hex: &[u8]) {
+    let mut text = [0u8; 4096];
+    let n = decode::from_hex(hex, &mut text);
+    listing::show(kind, &text[..n]);
 }

@@ -9,10 +9,10 @@ use Rattle.journal_vectors.proofs.run.Statement.{statement}
 use Rattle.journal_vectors.proofs.run.Tie as tie
 
 abbrev Inv-loop : tie.InvT-loop
-Inv-loop steps bytes₀ text buffer₀ state₀ words₀ i₀ bytes buffer state words i = (length bytes ≡ length bytes₀) × (length buffer ≡ length buffer₀)
+Inv-loop steps bytes₀ text buffer₀ ledger₀ lent₀ words₀ i₀ bytes buffer ledger lent words i = (length bytes ≡ length bytes₀) × (length buffer ≡ length buffer₀)
 
 abbrev μ-loop : tie.MeasureT-loop
-μ-loop steps bytes₀ text buffer₀ state₀ words₀ i₀ bytes buffer state words i = length steps - i
+μ-loop steps bytes₀ text buffer₀ ledger₀ lent₀ words₀ i₀ bytes buffer ledger lent words i = length steps - i
 
 loop-again : tie.Need-loop-again Inv-loop μ-loop
 loop-again c = (search needs, search needs)
@@ -27,6 +27,7 @@ run-spec =
     (λ c. (refl, refl))
     (λ c. omega arith)
     (λ c. omega arith)
+    (λ c κs. search needs)
     (λ c κs. search needs)
     (λ c. omega arith)
     loop-again

@@ -45,8 +45,8 @@ loop-less c = omega (arith, within c, c .before .component-end .ensures)
 loop-again : tie.Need-loop-again Inv-loop μ-loop
 loop-again c = omega (arith, within c)
 
-end-of-line-requires : tie.Need-end-of-line-requires Inv-loop μ-loop
-end-of-line-requires c κs = search needs
+byte-requires : tie.Need-byte-requires Inv-loop μ-loop
+byte-requires c κs = search needs
 
 returns : tie.Need-returns Inv-loop μ-loop
 returns c = search needs
@@ -64,5 +64,5 @@ components-spec =
     add-at
     loop-less
     loop-again
-    end-of-line-requires
+    byte-requires
     returns)
