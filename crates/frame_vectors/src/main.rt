@@ -42,21 +42,27 @@ fn find(s: &[u8], at: usize, stop: u8) -> usize
 }
 
 fn show_line(line: &[u8]) {
-    let name = find(line, 0, b' ');
-    if name == line.len() {
-        return;
+    let end = find(line, 0, b' ');
+    if end < line.len() {
+        let rest = end + 1;
+        show(&line[..end]);
+        show_case(&line[rest..]);
     }
-    let limit_at = name + 1;
-    let limit_end = find(line, limit_at, b' ');
-    if limit_end == line.len() {
-        return;
+}
+
+fn show_case(rest: &[u8]) {
+    let end = find(rest, 0, b' ');
+    if end < rest.len() {
+        let hex = end + 1;
+        show_bytes(decimal(&rest[..end]), &rest[hex..]);
     }
-    let hex_at = limit_end + 1;
+}
+
+fn show_bytes(limit: usize, hex: &[u8]) {
     let mut bytes = [0u8; MOST];
-    let n = unhex(&line[hex_at..], &mut bytes);
-    io::write_all(STDOUT_FILENO, &line[..name]);
-    show_frame(decimal(&line[limit_at..limit_end]), &bytes[..n]);
-    io::write_all(STDOUT_FILENO, b"\n");
+    let n = unhex(hex, &mut bytes);
+    show_frame(limit, &bytes[..n]);
+    byte(b'\n');
 }
 
 // A number of up to three digits.
@@ -72,23 +78,18 @@ fn decimal(s: &[u8]) -> usize
     n
 }
 
-// The value of a hex digit; 0 for another byte.
+// The value of a hex digit: 0 to 9 are the bytes 30 to 39, and a to f 61 to 66.
 fn digit(b: u8) -> usize
     ensures { λ r. ⌜ r < 16 ⌝ }
 {
-    if b < b'0' {
-        return 0;
+    if b < 0x40 {
+        return (b % 16) as usize;
     }
-    if b <= b'9' {
-        return (b - b'0') as usize;
-    }
-    if b < b'a' {
-        return 0;
-    }
-    if b <= b'f' {
-        return (b - b'a' + 10) as usize;
-    }
-    0
+    ((b % 16 + 9) % 16) as usize
+}
+
+fn pair(high: u8, low: u8) -> u8 {
+    (digit(high) * 16 + digit(low)) as u8
 }
 
 // The bytes that the digits spell, as many as fit.
@@ -100,7 +101,7 @@ fn unhex(s: &[u8], out: &mut [u8]) -> usize
         if s.len() < n * 2 + 2 {
             return n;
         }
-        out[n] = ((digit(s[n * 2]) * 16 + digit(s[n * 2 + 1])) % 256) as u8;
+        out[n] = pair(s[n * 2], s[n * 2 + 1]);
         n += 1;
     }
     n
@@ -115,11 +116,11 @@ fn show_frame(limit: usize, bytes: &[u8]) {
     let collected = &bytes[..n];
     show_digits(collected);
     match frame::shape_of(limit, collected, last) {
-        Shape::Unended => show(b" 21"),
-        Shape::Torn => show(b" 22"),
-        Shape::WrongCheck => show(b" 23"),
-        Shape::BadText => show(b" 24"),
-        Shape::BadNumber => show(b" 25"),
+        Shape::Unended => number(21),
+        Shape::Torn => number(22),
+        Shape::WrongCheck => number(23),
+        Shape::BadText => number(24),
+        Shape::BadNumber => number(25),
         Shape::Whole(number, end, length) => show_whole(number, end, length, bytes),
     }
 }
@@ -128,56 +129,77 @@ fn show(s: &[u8]) {
     io::write_all(STDOUT_FILENO, s);
 }
 
+fn byte(b: u8) {
+    show(&[b]);
+}
+
+fn number(n: u64) {
+    byte(b' ');
+    io::print_decimal(STDOUT_FILENO, n);
+}
+
 // The digits that a frame of these bytes has to have, where it is long enough to have some.
 fn show_digits(collected: &[u8]) {
     let n = collected.len();
+    byte(b' ');
     if n < 5 {
-        show(b" --");
+        byte(b'-');
+        byte(b'-');
         return;
     }
     let counted = n - 3;
     let digits = digits::check_digits(digits::check_sum(&collected[..counted]));
-    show(b" ");
-    show(&[digits.high, digits.low]);
+    byte(digits.high);
+    byte(digits.low);
 }
 
-fn show_whole(number: u8, end: End, length: usize, bytes: &[u8]) {
-    show(b" whole ");
-    io::print_decimal(STDOUT_FILENO, number as u64);
+fn show_whole(frame: u8, end: End, length: usize, bytes: &[u8]) {
+    show(b" whole");
+    number(frame as u64);
+    show_end(end);
+    number(length as u64);
+    show_again(frame, end, bytes);
+}
+
+fn show_end(end: End) {
     match end {
-        End::Etb => show(b" ETB "),
-        End::Etx => show(b" ETX "),
+        End::Etb => show(b" ETB"),
+        End::Etx => show(b" ETX"),
     }
-    io::print_decimal(STDOUT_FILENO, length as u64);
+}
+
+// The frame written again, of its number, its end and its text.
+fn show_again(frame: u8, end: End, bytes: &[u8]) {
     if bytes.len() < 6 {
         return;
     }
     let text_end = bytes.len() - 5;
     let mut out = [0u8; MOST];
-    match framing::put_frame(number, end, &bytes[1..text_end], &mut out) {
-        Written::Malformed => show(b" 46"),
-        Written::NotFitting => show(b" 47"),
+    match framing::put_frame(frame, end, &bytes[1..text_end], &mut out) {
+        Written::Malformed => number(46),
+        Written::NotFitting => number(47),
         Written::Length(n) => show_same(bytes, n, &out),
     }
 }
 
-// Whether the n bytes written are STX and the bytes that came.
 fn show_same(bytes: &[u8], n: usize, out: &[u8]) {
-    if out.len() < n {
-        show(b" longer than the memory");
-        return;
-    }
-    if n < 1 {
-        show(b" empty");
-        return;
-    }
-    if out[0] != characters::STX {
-        show(b" no STX");
-        return;
-    }
-    if check::same(bytes, &out[1..n]) {
+    if is_same(bytes, n, out) {
         show(b" same");
     } else {
         show(b" other");
     }
+}
+
+// Whether the n bytes written are STX and the bytes that came.
+fn is_same(bytes: &[u8], n: usize, out: &[u8]) -> bool {
+    if out.len() < n {
+        return false;
+    }
+    if n < 1 {
+        return false;
+    }
+    if out[0] != characters::STX {
+        return false;
+    }
+    check::same(bytes, &out[1..n])
 }

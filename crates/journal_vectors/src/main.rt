@@ -240,7 +240,7 @@ fn lent_after(lent: usize, words: Words) -> usize {
     lent
 }
 
-// A taking on a line with so many bytes, or another step.
+// A taking or a storing on a line with so many bytes, or another step.
 fn act(
     ledger: journal::Ledger,
     lent: usize,
