@@ -3,7 +3,8 @@
 use borrow.Author.Needs.{needs}
 use mathlib.Core.Path.{_≡_, refl, sym, _∙_}
 use mathlib.Core.List.{List}
-use Prim.Native.Nat.{ℕ}
+use Prim.Native.Nat.{ℕ, _-_, _<_}
+use native.Mathlib.Omega.{arith}
 use lib.ListN.{length}
 use Rattle.memory.specs.Sizes.{journalSize, unfinishedSize, framesSize, messageLimit}
 use Rattle.replaying.specs.Desk.{Desk, deskOf}
@@ -57,6 +58,10 @@ stream l = streamOf (l .loop .kept) (l .loop .input) (l .loop .out) (deskOf (l .
 
 abbrev desk-behind : tie.After-turn Inv-loop μ-loop → Desk
 desk-behind t = let m = t .turn .last .1 .1 .1 in deskOf (m .0) (m .1 .0) (m .1 .1 .0) (m .1 .1 .1 .0) (m .1 .1 .1 .1 .0) (m .1 .1 .1 .1 .1 .0)
+
+-- one turn less
+one-less : (n : ℕ) → 0 < n → n - 1 < n
+one-less n h = omega (arith, h)
 
 -- this turn's start, from where the listing and the journal are lent
 abbrev lent-out : tie.After-out Inv-loop μ-loop → tie.At-loop Inv-loop μ-loop
@@ -136,8 +141,8 @@ run-spec =
     (λ c κs. search needs)
     same-length
     (λ c. tt)
-    (λ c. search (needs, test (c .before) .loop-test))
-    (λ c. search (needs, test (c .before) .loop-test))
+    (λ c. test (c .before) .loop-test .taken)
+    (λ c. one-less (test (c .before) .before .loop .turns) (test (c .before) .loop-test .taken))
     loop-again
     (λ c. c .before .loop .inv .input-length)
     (λ c. tt))
