@@ -92,8 +92,7 @@ fn fault(f: Fault, place: u16) {
         Fault::WrongNumber => number(53),
         Fault::Unended => number(54),
     }
-    letter(b'a');
-    byte(b't');
+    io::write_all(1, b" at");
     small(place);
 }
 
@@ -225,8 +224,7 @@ fn result(text: &[u8], offset: u16, length: u16) {
 }
 
 fn fields(rec: &[u8]) {
-    letter(b' ');
-    letter(b' ');
+    io::write_all(1, b"    ");
     named(rec, ResultField::Test);
     named(rec, ResultField::Value);
     named(rec, ResultField::Units);
