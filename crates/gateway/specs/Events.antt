@@ -1,7 +1,6 @@
 -- One event on the gateway, and one taking: on eight records, the ledger and the lent bytes.
 -- Assumes nothing.
 use Prim.Native.Nat.{ℕ}
-use mathlib.Core.Path.{_≡_}
 use mathlib.Core.Bool.{false}
 use mathlib.Core.List.{List}
 use lib.ListN.{getD, set, replicate}
@@ -9,7 +8,6 @@ use lib.Dec.{ltb}
 use Rattle.memory.specs.Sizes.{lines}
 use Rattle.memory.specs.Tests.{unless}
 use Rattle.journal.specs.Chain.{freshLedger}
-use Rattle.room.specs.Room.{todaysShares}
 use Rattle.journal.specs.Removal.{takeOf as takeEntry}
 use Rattle.taking.specs.Taking.{tookAnswer}
 use Rattle.line.specs.Line.{freshLine}
@@ -20,8 +18,7 @@ use Rattle.answers.specs.declared.Answer.{Answer}
 use Rattle.answers.specs.declared.Answer.the-variants.{NoLine}
 use Rattle.looking.specs.declared.Event.{Event}
 use Rattle.receiving.specs.Steps.{Memory, AfterStep, stepOf}
-use Rattle.gateway.specs.declared.Gateway.{Gateway}
-use Rattle.gateway.specs.declared.Handled.{Handled}
+use Rattle.gateway.specs.Gateway.{Gateway, Handled}
 
 -- every line fresh, the journal empty [E3]
 abbrev pub freshGateway : Gateway
@@ -54,11 +51,6 @@ eventOf shares g e m =
     unless (ltb (e .line) lines) (record { handled = record { gateway = g; answer = NoLine }; memory = m })
     (putBack g (e .line) (stepOf shares (lineAt g (e .line)) (g .ledger) e m))
 
--- what handling an event says
-pub record Handling (g : Gateway) (e : Event) (m : Memory) (r : Handled) (m′ : Memory) : Type 0 where
-  pub result : r ≡ eventOf todaysShares g e m .handled
-  pub memory : m′ ≡ eventOf todaysShares g e m .memory
-
 pub record AfterTake : Type 0 where
   pub handled : Handled
   pub journal : List ℕ
@@ -74,14 +66,3 @@ takeOf g i j b = record {
   journal = takeEntry (g .ledger) i j b .journal;
   buffer = takeEntry (g .ledger) i j b .buffer;
 }
-
--- the lent memory of a taking
-pub record TakeMemory : Type 0 where
-  pub journal : List ℕ
-  pub buffer : List ℕ
-
--- what a taking says
-pub record Taking (g : Gateway) (i : ℕ) (m : TakeMemory) (r : Handled) (m′ : TakeMemory) : Type 0 where
-  pub result : r ≡ takeOf g i (m .journal) (m .buffer) .handled
-  pub journal : m′ .journal ≡ takeOf g i (m .journal) (m .buffer) .journal
-  pub buffer : m′ .buffer ≡ takeOf g i (m .journal) (m .buffer) .buffer

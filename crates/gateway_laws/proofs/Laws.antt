@@ -28,7 +28,7 @@ use Rattle.looking.specs.Inner.Fitting.{Fitting}
 use Rattle.receiving.specs.Steps.{Memory, AfterStep, settle, stepOf}
 use Rattle.gateway.specs.Events.{lineAt, noRecord, AfterEvent, putBack, eventOf, takeOf}
 use Rattle.looking.specs.declared.Event.{Event}
-use Rattle.gateway.specs.declared.Gateway.{Gateway}
+use Rattle.gateway.specs.Gateway.{Gateway}
 use Rattle.looking.specs.declared.Look.the-variants.{Done}
 use Rattle.looking.specs.declared.Verdict.{Verdict}
 use Rattle.looking.specs.declared.Verdict.the-variants.{Left, Opens, Closes, Begins, Counts, Collects, Refuses, Accepts, Stores, Against}

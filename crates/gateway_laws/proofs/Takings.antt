@@ -19,7 +19,7 @@ use Rattle.journal.specs.declared.Took.{Took}
 use Rattle.journal.specs.declared.Took.the-variants.{Taken, NothingWaiting, BufferShort, Broken, NoLine, WrongSize}
 use Rattle.gateway.specs.Events.{AfterTake, takeOf}
 use Rattle.taking.specs.Taking.{tookAnswer}
-use Rattle.gateway.specs.declared.Gateway.{Gateway}
+use Rattle.gateway.specs.Gateway.{Gateway}
 use Rattle.gateway_laws.specs.Classes.{classOf, quiet, taking}
 
 module _ (d : Ledger) (j b : List ℕ) where

@@ -15,7 +15,7 @@ use Rattle.memory.proofs.Lines.{equal-parts}
 use Rattle.journal.specs.declared.Ledger.{Ledger}
 use Rattle.line.specs.declared.Line.{Line}
 use Rattle.gateway.specs.Events.{lineAt}
-use Rattle.gateway.specs.declared.Gateway.{Gateway}
+use Rattle.gateway.specs.Gateway.{Gateway}
 use Rattle.promises.specs.Machine.{State}
 use Rattle.layout.specs.Layout.{fields, start, firstAt, numberAt}
 use Rattle.ledger.specs.Ledgers.{ledgerOf}

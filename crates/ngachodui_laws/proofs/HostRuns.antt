@@ -17,7 +17,7 @@ use Rattle.receiving.specs.Verdicts.{verdictOf}
 use Rattle.receiving.specs.Steps.{Memory, stepOf}
 use Rattle.gateway.specs.Events.{lineAt, putBack, eventOf}
 use Rattle.looking.specs.declared.Event.{Event}
-use Rattle.gateway.specs.declared.Gateway.{Gateway}
+use Rattle.gateway.specs.Gateway.{Gateway}
 use Rattle.looking.specs.declared.Verdict.{Verdict}
 use Rattle.gateway_laws.specs.Classes.{Class, quiet, opening, closing, refusing, accepting, storing, against, taking as gives, classOf}
 use Rattle.gateway_laws.specs.Inner.Classes.{verdictClass}

@@ -22,7 +22,7 @@ use Rattle.looking.specs.Lent.{rightSizes}
 use Rattle.receiving.specs.Verdicts.{verdictOf}
 use Rattle.receiving.specs.Steps.{AfterStep, stepOf}
 use Rattle.gateway.specs.Events.{AfterEvent, freshGateway, eventOf, takeOf, putBack as putLine}
-use Rattle.gateway.specs.declared.Gateway.{Gateway}
+use Rattle.gateway.specs.Gateway.{Gateway}
 use Rattle.taking.specs.Taking.{tookAnswer}
 use Rattle.looking.specs.declared.Event.{Event}
 use Rattle.gateway_laws.proofs.Laws.{unchanged, left-unchanged, limits-kept}

@@ -9,7 +9,7 @@ use lib.ListN.{length}
 use Rattle.memory.specs.Sizes.{lines}
 use Rattle.memory.specs.Tests.{between}
 use Rattle.line.specs.declared.Line.{Line}
-use Rattle.gateway.specs.declared.Gateway.{Gateway}
+use Rattle.gateway.specs.Gateway.{Gateway}
 use Rattle.layout.specs.Layout.{fields}
 use Rattle.ledger.specs.Ledgers.{ledgerOf}
 use Rattle.numbers.specs.Plain.{withinNumbers, lineOf}

@@ -18,7 +18,7 @@ use Rattle.looking.specs.Views.{framesOf, textsOf}
 use Rattle.receiving.specs.Steps.{Memory, memoryOf}
 use Rattle.gateway.specs.Events.{AfterEvent, AfterTake, lineAt, eventOf, takeOf}
 use Rattle.looking.specs.declared.Event.{Event}
-use Rattle.gateway.specs.declared.Gateway.{Gateway}
+use Rattle.gateway.specs.Gateway.{Gateway}
 use Rattle.looking.specs.declared.Kind.{Kind}
 use Rattle.gateway_laws.specs.Classes.{Class, classOf, quiet, opening, closing, refusing, accepting, storing, against, taking as gives}
 use Rattle.serial.specs.Serial.{Item, event, taking}
