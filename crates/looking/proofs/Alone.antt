@@ -23,7 +23,7 @@ use Rattle.looking.specs.Inner.Fitting.{Fitting, TextFits, writes, Quiet
 use Rattle.looking.specs.declared.Event.{Event}
 use Rattle.looking.specs.declared.Look.{Look}
 use Rattle.looking.specs.declared.Look.the-variants.{Done, Decides}
-use Rattle.looking.specs.declared.Verdict.the-variants.{Left}
+use Rattle.looking.specs.Verdicts.{Left}
 use Rattle.looking.proofs.Views.{own-parts}
 use Rattle.looking.proofs.Fits.{LookFits, look-fits}
 
@@ -38,7 +38,7 @@ lengths-facts j u f h =
 
 -- what acting on a look may rely on: what it writes, the line is ready for
 abbrev pub Acts : Look → Line → ℕ → List ℕ → List ℕ → Type 0
-Acts (Done v) l i u f = Fitting v l × Quiet v × (writes v ≡ true → Ready l i u f)
+Acts (Done v) l i u f = Fitting (v .act) l × Quiet (v .act) × (writes (v .act) ≡ true → Ready l i u f)
 Acts (Decides n) l i u f = TextFits l n × Ready l i u f
 
 module _ (l : Line) (e : Event) (n : ℕ) (u f : List ℕ) where

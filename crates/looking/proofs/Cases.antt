@@ -38,7 +38,7 @@ use Rattle.looking.specs.declared.Kind.{Kind}
 use Rattle.looking.specs.declared.Kind.the-variants.{Byte, Seconds}
 use Rattle.looking.specs.declared.Look.{Look}
 use Rattle.looking.specs.declared.Look.the-variants.{Done, Decides}
-use Rattle.looking.specs.declared.Verdict.the-variants.{Left, Opens, Closes, Begins, Counts, Collects, Refuses, Accepts}
+use Rattle.looking.specs.Verdicts.{Left, Opens, Closes, Begins, Counts, Collects, Refuses, Accepts}
 use Rattle.looking.proofs.Views.{length-frame}
 
 -- the cases, with what is known in each

@@ -13,7 +13,7 @@ use Rattle.looking.proofs.Cases.{Cases, every-look}
 
 -- what holds of a look
 abbrev pub LookFits : Look → Line → Type 0
-LookFits (Done v) l = Fitting v l × Quiet v
+LookFits (Done v) l = Fitting (v .act) l × Quiet (v .act)
 LookFits (Decides n) l = TextFits l n
 
 module _ (l : Line) where

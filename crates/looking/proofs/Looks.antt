@@ -10,7 +10,7 @@ use Rattle.line.specs.declared.State.the-variants.{Neutral, Waiting, Inside}
 use Rattle.answers.specs.declared.Answer.the-variants.{Nothing}
 use Rattle.looking.specs.Looks.{neutralLook, waitingLook, insideLook, byState, byteLook, passedLook, secondsLook}
 use Rattle.looking.specs.declared.Look.the-variants.{Done}
-use Rattle.looking.specs.declared.Verdict.the-variants.{Left}
+use Rattle.looking.specs.Verdicts.{Left}
 
 module _ (l : Line) (b : ℕ) (texts frames : List ℕ) where
   pub byte-neutral : l .state ≡ Neutral → byteLook l b texts frames ≡ neutralLook b

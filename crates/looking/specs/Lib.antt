@@ -1,6 +1,6 @@
 pub mod Views
 pub mod Lent
+pub mod Verdicts
 pub mod Looks
-pub mod Answers
 pub mod Fitting
 pub mod Inner

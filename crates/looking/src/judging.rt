@@ -7,8 +7,9 @@ ghost use Rattle.line.specs.Turn.{turnOf};
 ghost use Rattle.looking.specs.Views.{framesOf, textsOf, joinedText};
 ghost use Rattle.looking.specs.Inner.Ready.{Ready};
 ghost use Rattle.looking.specs.Looks.{frameLook, turnLook, endLook};
+use super::Act;
 use super::Look;
-use super::Verdict;
+use super::done;
 use answers::Answer;
 use frame::End;
 use frame::Shape;
@@ -24,20 +25,13 @@ pub fn look_frame(line: Line, i: usize, b: u8, unfinished: &[u8], frames: &[u8])
     let start = i * memory::FRAME_PART;
     let end = start + line.collected as usize;
     match frame::shape_of(memory::FRAME_LIMIT, &frames[start..end], b) {
-        Shape::Unended => refused(Answer::Unended),
-        Shape::Torn => refused(Answer::Torn),
-        Shape::WrongCheck => refused(Answer::WrongCheck),
-        Shape::BadText => refused(Answer::BadText),
-        Shape::BadNumber => refused(Answer::BadNumber),
+        Shape::Unended => done(Act::Refuse, Answer::Unended),
+        Shape::Torn => done(Act::Refuse, Answer::Torn),
+        Shape::WrongCheck => done(Act::Refuse, Answer::WrongCheck),
+        Shape::BadText => done(Act::Refuse, Answer::BadText),
+        Shape::BadNumber => done(Act::Refuse, Answer::BadNumber),
         Shape::Whole(number, end, n) => look_turn(line, i, number, end, n, unfinished, frames),
     }
-}
-
-// A frame refused with this answer.
-fn refused(answer: Answer) -> Look
-    ensures { λ r. ⌜ r ≡ Look.Done (Verdict.Refuses answer) ⌝ }
-{
-    Look::Done(Verdict::Refuses(answer))
 }
 
 // A whole frame: how it stands to the line, then what the line's text would be.
@@ -54,10 +48,10 @@ fn look_turn(
     ensures { λ r. ⌜ r ≡ turnLook (turnOf line number n) end n (joinedText line n (textsOf i (now (unfinished .entry))) (framesOf i (now (frames .entry)))) ⌝ }
 {
     match line.in_turn(number, n) {
-        Turn::Refused => Look::Done(Verdict::Refuses(Answer::Refusing)),
-        Turn::Again => Look::Done(Verdict::Refuses(Answer::Repeated)),
-        Turn::Missed => Look::Done(Verdict::Refuses(Answer::OutOfTurn)),
-        Turn::Overlong => Look::Done(Verdict::Refuses(Answer::TooLong)),
+        Turn::Refused => done(Act::Refuse, Answer::Refusing),
+        Turn::Again => done(Act::Refuse, Answer::Repeated),
+        Turn::Missed => done(Act::Refuse, Answer::OutOfTurn),
+        Turn::Overlong => done(Act::Refuse, Answer::TooLong),
         Turn::InTurn => {
             let text = i * memory::MESSAGE_LIMIT;
             let text_end = text + line.joined as usize;
@@ -73,7 +67,7 @@ fn look_end(end: End, n: usize, old: &[u8], new: &[u8]) -> Look
     ensures { λ r. ⌜ r ≡ endLook end n (now (old .entry) ++ now (new .entry)) ⌝ }
 {
     match end {
-        End::Etb => Look::Done(Verdict::Accepts(n)),
+        End::Etb => done(Act::Accept(n), Answer::Accepted),
         End::Etx => look_text(n, old, new),
     }
 }
@@ -82,8 +76,8 @@ fn look_text(n: usize, old: &[u8], new: &[u8]) -> Look
     ensures { λ r. ⌜ r ≡ endLook End.Etx n (now (old .entry) ++ now (new .entry)) ⌝ }
 {
     match records::ending_of(old, new) {
-        Ending::WithoutCr => Look::Done(Verdict::Refuses(Answer::NoCr)),
+        Ending::WithoutCr => done(Act::Refuse, Answer::NoCr),
         Ending::WithL => Look::Decides(n),
-        Ending::WithOther => Look::Done(Verdict::Accepts(n)),
+        Ending::WithOther => done(Act::Accept(n), Answer::Accepted),
     }
 }

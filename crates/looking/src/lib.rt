@@ -2,7 +2,7 @@
 ghost use mathlib.Core.Path.{_≡_};
 ghost use Rattle.looking.specs.Lent.{rightLengths};
 ghost use Rattle.looking.specs.Looks.{lookAlone};
-ghost use Rattle.looking.specs.Answers.{answerOf};
+ghost use Rattle.looking.specs.Verdicts.{verdict};
 use answers::Answer;
 use line::Line;
 
@@ -21,18 +21,24 @@ pub struct Event {
     pub kind: Kind,
 }
 
-// What an event comes to: one row of "What is left" for each. The numbers are lengths of a frame's text.
-pub enum Verdict {
-    Left(Answer),
-    Opens,
-    Closes(Answer),
-    Begins,
-    Counts(u8),
-    Collects,
-    Refuses(Answer),
-    Accepts(usize),
-    Stores(usize),
-    Against(Answer, usize),
+// What is done with a line: one row of "What is left" for each. The numbers are seconds, and lengths of a frame's text.
+pub enum Act {
+    Leave,
+    Open,
+    Close,
+    Begin,
+    Count(u8),
+    Collect,
+    Refuse,
+    Accept(usize),
+    Store(usize),
+    Object(usize),
+}
+
+// What an event comes to: what is done with its line, and the answer.
+pub struct Verdict {
+    pub act: Act,
+    pub answer: Answer,
 }
 
 // What the line alone tells of an event: its verdict, or that a message is complete.
@@ -41,49 +47,29 @@ pub enum Look {
     Decides(usize),
 }
 
-impl Verdict {
-    // The answer that a verdict gives.
-    pub fn answer(self) -> Answer
-        ensures { λ r. ⌜ r ≡ answerOf self ⌝ }
-    {
-        match self {
-            Verdict::Left(a) => a,
-            Verdict::Opens => Answer::Opened,
-            Verdict::Closes(a) => a,
-            Verdict::Begins => Answer::Nothing,
-            Verdict::Counts(_) => Answer::Nothing,
-            Verdict::Collects => Answer::Nothing,
-            Verdict::Refuses(a) => a,
-            Verdict::Accepts(_) => Answer::Accepted,
-            Verdict::Stores(_) => Answer::Stored,
-            Verdict::Against(a, _) => a,
-        }
-    }
-}
-
 // An event on the line whose record this is: 40, 41, 42, then its work. Of the journal only its length is asked.
 pub fn look_alone(line: Line, e: Event, journal: usize, unfinished: &[u8], frames: &[u8]) -> Look
     ensures { λ r. ⌜ r ≡ lookAlone line e journal (now (unfinished .entry)) (now (frames .entry)) ⌝ }
 {
     let i = e.line as usize;
     if memory::LINES <= i {
-        return left(Answer::NoLine);
+        return done(Act::Leave, Answer::NoLine);
     }
     if !are_right(journal, unfinished.len(), frames.len()) {
-        return left(Answer::WrongSize);
+        return done(Act::Leave, Answer::WrongSize);
     }
     if !line.is_within_limits() {
-        return left(Answer::BeyondLimits);
+        return done(Act::Leave, Answer::BeyondLimits);
     }
     let kind = e.kind;
     states::look(line, i, kind, unfinished, frames)
 }
 
-// Everything left as it is, with this answer.
-fn left(answer: Answer) -> Look
-    ensures { λ r. ⌜ r ≡ Look.Done (Verdict.Left answer) ⌝ }
+// A look that decides no message.
+fn done(act: Act, answer: Answer) -> Look
+    ensures { λ r. ⌜ r ≡ Look.Done (verdict act answer) ⌝ }
 {
-    Look::Done(Verdict::Left(answer))
+    Look::Done(Verdict { act, answer })
 }
 
 // Whether the three memories have their sizes.

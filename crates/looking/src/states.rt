@@ -3,9 +3,10 @@ ghost use mathlib.Core.Path.{_≡_};
 ghost use Rattle.looking.specs.Views.{framesOf, textsOf};
 ghost use Rattle.looking.specs.Inner.Ready.{Ready};
 ghost use Rattle.looking.specs.Looks.{neutralLook, waitingLook, insideLook, passedLook, byteLook, secondsLook, lookOf};
+use super::Act;
 use super::Kind;
 use super::Look;
-use super::Verdict;
+use super::done;
 use super::judging;
 use answers::Answer;
 use characters::ENQ;
@@ -42,27 +43,27 @@ fn look_neutral(b: u8) -> Look
     ensures { λ r. ⌜ r ≡ neutralLook b ⌝ }
 {
     if b == ENQ {
-        return Look::Done(Verdict::Opens);
+        return done(Act::Open, Answer::Opened);
     }
-    Look::Done(Verdict::Left(Answer::Nothing))
+    done(Act::Leave, Answer::Nothing)
 }
 
 fn look_waiting(line: Line, b: u8) -> Look
     ensures { λ r. ⌜ r ≡ waitingLook line b ⌝ }
 {
     if b == STX {
-        return Look::Done(Verdict::Begins);
+        return done(Act::Begin, Answer::Nothing);
     }
     if b == EOT {
         if line.joined == 0 {
-            return Look::Done(Verdict::Closes(Answer::Ended));
+            return done(Act::Close, Answer::Ended);
         }
-        return Look::Done(Verdict::Closes(Answer::Dropped));
+        return done(Act::Close, Answer::Dropped);
     }
     if b == ENQ {
-        return Look::Done(Verdict::Left(Answer::Busy));
+        return done(Act::Leave, Answer::Busy);
     }
-    Look::Done(Verdict::Left(Answer::Nothing))
+    done(Act::Leave, Answer::Nothing)
 }
 
 fn look_inside(line: Line, i: usize, b: u8, unfinished: &[u8], frames: &[u8]) -> Look
@@ -71,7 +72,7 @@ fn look_inside(line: Line, i: usize, b: u8, unfinished: &[u8], frames: &[u8]) ->
 {
     if b != LF {
         if line.collected != Line::MOST_COLLECTED {
-            return Look::Done(Verdict::Collects);
+            return done(Act::Collect, Answer::Nothing);
         }
     }
     judging::look_frame(line, i, b, unfinished, frames)
@@ -82,7 +83,7 @@ fn look_seconds(line: Line, s: u8) -> Look
 {
     let state = line.state;
     match state {
-        State::Neutral => Look::Done(Verdict::Left(Answer::Nothing)),
+        State::Neutral => done(Act::Leave, Answer::Nothing),
         State::Waiting => look_passed(line.pass(s)),
         State::Inside => look_passed(line.pass(s)),
     }
@@ -92,7 +93,7 @@ fn look_passed(passed: Passed) -> Look
     ensures { λ r. ⌜ r ≡ passedLook passed ⌝ }
 {
     match passed {
-        Passed::Counted(n) => Look::Done(Verdict::Counts(n)),
-        Passed::RanOut => Look::Done(Verdict::Closes(Answer::TimedOut)),
+        Passed::Counted(n) => done(Act::Count(n), Answer::Nothing),
+        Passed::RanOut => done(Act::Close, Answer::TimedOut),
     }
 }

@@ -27,14 +27,14 @@ within c = sym (c .before .is-within-limits .ensures) ∙ not-false _ (c .if3 .l
 returns : tie.Need-returns
 returns c =
     let a = c .before .before .before .before .before .args in
-    c .left .ensures
+    c .done .ensures
     ∙ sym (look-no-line (a .line) (a .e) (a .journal) (now (a .unfinished)) (now (a .frames)) (omega arith))
 
 returns-2 : tie.Need-returns-2
 returns-2 c =
     let tested = c .before in
     let a = entry (tested .before .before) .args in
-    c .left2 .ensures
+    c .done2 .ensures
     ∙ sym (look-size (a .line) (a .e) (a .journal) (now (a .unfinished)) (now (a .frames)) (omega arith) (sym (tested .before .are-right .ensures) ∙ not-true _ (tested .if2 .taken)))
 
 returns-3 : tie.Need-returns-3
@@ -42,7 +42,7 @@ returns-3 c =
     let tested = c .before in
     let past = tested .before .before in
     let a = entry (past .before .before) .args in
-    c .left3 .ensures
+    c .done3 .ensures
     ∙ sym (look-beyond (a .line) (a .e) (a .journal) (now (a .unfinished)) (now (a .frames)) (omega arith) (sizes past) (sym (tested .before .is-within-limits .ensures) ∙ not-true _ (tested .if3 .taken)))
 
 look-requires : tie.Need-look-requires

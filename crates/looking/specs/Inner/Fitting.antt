@@ -1,4 +1,4 @@
--- What acting asks of a verdict: its text lies in the frame and has room, and its counts stay within the limits.
+-- What acting asks: its text lies in the frame and has room, and its counts stay within the limits.
 -- Assumes nothing.
 use Prim.Native.Nat.{ℕ, _+_, _≤_, _<_}
 use mathlib.Core.Bool.{Bool, true, false}
@@ -6,47 +6,47 @@ use Rattle.memory.specs.Sizes.{messageLimit}
 use Rattle.frame.specs.Shape.{aroundCollected}
 use Rattle.line.specs.Line.{mostCollected, mostSeconds}
 use Rattle.line.specs.declared.Line.{Line}
-use Rattle.looking.specs.declared.Verdict.{Verdict}
-use Rattle.looking.specs.declared.Verdict.the-variants.{Left, Opens, Closes, Begins, Counts, Collects, Refuses, Accepts, Stores, Against}
+use Rattle.looking.specs.declared.Act.{Act}
+use Rattle.looking.specs.declared.Act.the-variants.{Leave, Open, Close, Begin, Count, Collect, Refuse, Accept, Store, Object}
 
 -- what the test `textFits` finds
 abbrev pub TextFits : Line → ℕ → Type 0
 TextFits l n = (n + aroundCollected ≤ l .collected) × (l .joined + n ≤ messageLimit)
 
-abbrev pub Fitting : Verdict → Line → Type 0
-Fitting (Left a) l = Unit {0}
-Fitting Opens l = Unit {0}
-Fitting (Closes a) l = Unit {0}
-Fitting Begins l = Unit {0}
-Fitting (Counts n) l = n ≤ mostSeconds
-Fitting Collects l = l .collected < mostCollected l
-Fitting (Refuses a) l = Unit {0}
-Fitting (Accepts n) l = TextFits l n
-Fitting (Stores n) l = TextFits l n
-Fitting (Against a n) l = TextFits l n
+abbrev pub Fitting : Act → Line → Type 0
+Fitting Leave l = Unit {0}
+Fitting Open l = Unit {0}
+Fitting Close l = Unit {0}
+Fitting Begin l = Unit {0}
+Fitting (Count n) l = n ≤ mostSeconds
+Fitting Collect l = l .collected < mostCollected l
+Fitting Refuse l = Unit {0}
+Fitting (Accept n) l = TextFits l n
+Fitting (Store n) l = TextFits l n
+Fitting (Object n) l = TextFits l n
 
 -- whether its row writes into the lent memory
-abbrev pub writes : Verdict → Bool
-writes (Left a) = false
-writes Opens = false
-writes (Closes a) = false
-writes Begins = false
-writes (Counts n) = false
-writes Collects = true
-writes (Refuses a) = true
-writes (Accepts n) = true
-writes (Stores n) = true
-writes (Against a n) = true
+abbrev pub writes : Act → Bool
+writes Leave = false
+writes Open = false
+writes Close = false
+writes Begin = false
+writes (Count n) = false
+writes Collect = true
+writes Refuse = true
+writes (Accept n) = true
+writes (Store n) = true
+writes (Object n) = true
 
--- a verdict that decides no message: what a look comes to
-abbrev pub Quiet : Verdict → Type 0
-Quiet (Left a) = Unit {0}
-Quiet Opens = Unit {0}
-Quiet (Closes a) = Unit {0}
-Quiet Begins = Unit {0}
-Quiet (Counts n) = Unit {0}
-Quiet Collects = Unit {0}
-Quiet (Refuses a) = Unit {0}
-Quiet (Accepts n) = Unit {0}
-Quiet (Stores n) = ⊥
-Quiet (Against a n) = ⊥
+-- it decides no message: what a look comes to
+abbrev pub Quiet : Act → Type 0
+Quiet Leave = Unit {0}
+Quiet Open = Unit {0}
+Quiet Close = Unit {0}
+Quiet Begin = Unit {0}
+Quiet (Count n) = Unit {0}
+Quiet Collect = Unit {0}
+Quiet Refuse = Unit {0}
+Quiet (Accept n) = Unit {0}
+Quiet (Store n) = ⊥
+Quiet (Object n) = ⊥

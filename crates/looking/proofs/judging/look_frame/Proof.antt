@@ -43,23 +43,23 @@ look-turn-requires c κs =
 
 returns : tie.Need-returns
 unfolding frameLook
-returns c = rw (sym (shape (c .before .before .before)) ∙ c .before .enum-told .given .1) (c .refused .ensures)
+returns c = rw (sym (shape (c .before .before .before)) ∙ c .before .enum-told .given .1) (c .done .ensures)
 
 returns-2 : tie.Need-returns-2
 unfolding frameLook
-returns-2 c = rw (sym (shape (c .before .before .before)) ∙ c .before .enum-told2 .given .1) (c .refused2 .ensures)
+returns-2 c = rw (sym (shape (c .before .before .before)) ∙ c .before .enum-told2 .given .1) (c .done2 .ensures)
 
 returns-3 : tie.Need-returns-3
 unfolding frameLook
-returns-3 c = rw (sym (shape (c .before .before .before)) ∙ c .before .enum-told3 .given .1) (c .refused3 .ensures)
+returns-3 c = rw (sym (shape (c .before .before .before)) ∙ c .before .enum-told3 .given .1) (c .done3 .ensures)
 
 returns-4 : tie.Need-returns-4
 unfolding frameLook
-returns-4 c = rw (sym (shape (c .before .before .before)) ∙ c .before .enum-told4 .given .1) (c .refused4 .ensures)
+returns-4 c = rw (sym (shape (c .before .before .before)) ∙ c .before .enum-told4 .given .1) (c .done4 .ensures)
 
 returns-5 : tie.Need-returns-5
 unfolding frameLook
-returns-5 c = rw (sym (shape (c .before .before .before)) ∙ c .before .enum-told5 .given .1) (c .refused5 .ensures)
+returns-5 c = rw (sym (shape (c .before .before .before)) ∙ c .before .enum-told5 .given .1) (c .done5 .ensures)
 
 returns-6 : tie.Need-returns-6
 unfolding frameLook

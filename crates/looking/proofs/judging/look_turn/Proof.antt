@@ -1,6 +1,5 @@
 -- `looking::judging::look_turn` meets its contract.
 -- Assumes nothing.
-use borrow.Author.Needs.{needs}
 use mathlib.Core.Path.{sym, _∙_}
 use native.Mathlib.Omega.{arith}
 use denote.Ref.{now}
@@ -9,32 +8,39 @@ use Rattle.memory.proofs.Parts.{part-lent}
 use Rattle.looking.specs.Views.{textStart, frameStart}
 use Prim.Native.Nat.{_+_}
 use Rattle.looking.proofs.Views.{lent-unfinished, lent-text}
+use borrow.Author.Needs.{needs}
 use Rattle.looking.proofs.judging.look_turn.Statement.{statement}
 use Rattle.looking.proofs.judging.look_turn.Tie as tie
 
+-- where the function was entered, from behind its fourth arm's last arm
+abbrev entered : tie.After-struct-known → tie.Start
+entered c = let turned = c .before .before .before in turned .before .before .before
+
 part-look-end-end : tie.Need-part-look-end-end
-part-look-end-end c = omega (arith, within-facts (c .before .before .before .before .before .before .args .line) (c .before .before .before .before .before .before .pre .0 .within), c .before .before .before .before .before .before .pre .0)
+part-look-end-end c = let start = entered c in omega (arith, within-facts (start .args .line) (start .pre .0 .within), start .pre .0)
 
 part-look-end-end-2 : tie.Need-part-look-end-end-2
-part-look-end-end-2 c = omega (arith, within-facts (c .before .before .before .before .before .before .before .args .line) (c .before .before .before .before .before .before .before .pre .0 .within), c .before .before .before .before .before .before .before .pre)
+part-look-end-end-2 c = let start = entered (c .before) in omega (arith, within-facts (start .args .line) (start .pre .0 .within), start .pre)
 
 returns : tie.Need-returns
-returns c = rw (sym (c .before .before .in-turn .ensures) ∙ c .enum-told .given .1)
+returns c = rw (sym (c .before .before .before .in-turn .ensures) ∙ c .before .enum-told .given .1) (c .done .ensures)
 
 returns-2 : tie.Need-returns-2
-returns-2 c = rw (sym (c .before .before .in-turn .ensures) ∙ c .enum-told2 .given .1)
+returns-2 c = rw (sym (c .before .before .before .in-turn .ensures) ∙ c .before .enum-told2 .given .1) (c .done2 .ensures)
 
 returns-3 : tie.Need-returns-3
-returns-3 c = rw (sym (c .before .before .in-turn .ensures) ∙ c .enum-told3 .given .1)
+returns-3 c = rw (sym (c .before .before .before .in-turn .ensures) ∙ c .before .enum-told3 .given .1) (c .done3 .ensures)
 
 returns-4 : tie.Need-returns-4
-returns-4 c = rw (sym (c .before .before .in-turn .ensures) ∙ c .enum-told4 .given .1)
+returns-4 c = rw (sym (c .before .before .before .in-turn .ensures) ∙ c .before .enum-told4 .given .1) (c .done4 .ensures)
 
 returns-5 : tie.Need-returns-5
-returns-5 c = let start = c .before .before .before .before .before .before .before .before .before in
+returns-5 c = let known = c .before .before .before in
+    let told = known .before in
+    let start = entered known in
     let a = start .args in
     rw (
-      sym (c .before .before .before .before .before .before .in-turn .ensures) ∙ c .before .before .before .before .enum-told5 .given .1,
+      sym (told .before .before .in-turn .ensures) ∙ told .enum-told5 .given .1,
       ← lent-unfinished (a .line) (a .i) (now (a .unfinished)) (now (a .frames)) (start .pre .0),
       ← lent-text (a .line) (a .i) (now (a .unfinished)) (now (a .frames)) (start .pre .0) (a .n) (start .pre .1),
       ← part-lent (now (a .unfinished)) (textStart (a .i)) (a .line .joined),
@@ -48,9 +54,13 @@ look-turn-spec =
     (tie.spec
     (λ c κs. search needs)
     (λ c. search needs)
+    (λ c κs. search needs)
     (λ c. search needs)
+    (λ c κs. search needs)
     (λ c. search needs)
+    (λ c κs. search needs)
     (λ c. search needs)
+    (λ c κs. search needs)
     (λ c. search needs)
     (λ c. search needs)
     (λ c. search needs)

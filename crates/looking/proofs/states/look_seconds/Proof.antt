@@ -1,14 +1,14 @@
 -- `looking::states::look_seconds` meets its contract.
 -- Assumes nothing.
-use borrow.Author.Needs.{needs}
 use mathlib.Core.Path.{sym, _∙_, ap}
 use Rattle.looking.specs.Looks.{passedLook}
 use Rattle.looking.proofs.Looks.{seconds-neutral, seconds-waiting, seconds-inside}
+use borrow.Author.Needs.{needs}
 use Rattle.looking.proofs.states.look_seconds.Statement.{statement}
 use Rattle.looking.proofs.states.look_seconds.Tie as tie
 
 returns : tie.Need-returns
-returns c = let a = c .before .before .args in sym (seconds-neutral (a .line) (a .s) (c .enum-told .given .1))
+returns c = let a = c .before .before .before .args in c .done .ensures ∙ sym (seconds-neutral (a .line) (a .s) (c .before .enum-told .given .1))
 
 returns-2 : tie.Need-returns-2
 returns-2 c = let a = c .before .before .before .before .args in c .look-passed .ensures ∙ ap passedLook (c .before .pass .ensures) ∙ sym (seconds-waiting (a .line) (a .s) (c .before .before .enum-told2 .given .1))
@@ -21,6 +21,7 @@ look-seconds-spec =
     tie.close
     (tie.spec
     (λ c. search needs)
+    (λ c κs. search needs)
     (λ c. search needs)
     (λ c κs. search needs)
     (λ c κs. search needs)
