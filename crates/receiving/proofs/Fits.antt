@@ -1,4 +1,4 @@
--- A verdict that does not store keeps the ledger and the journal; and a decision fits as its text does.
+-- An act that does not store keeps the ledger and the journal; and a decision fits as its text does.
 -- Assumes nothing.
 use mathlib.Core.Path.{_≡_, refl}
 use mathlib.Core.List.{List}
@@ -7,25 +7,25 @@ use Rattle.journal.specs.declared.Ledger.{Ledger}
 use Rattle.deciding.specs.declared.Outcome.{Outcome}
 use Rattle.line.specs.declared.Line.{Line}
 use Rattle.looking.specs.Inner.Fitting.{TextFits, Fitting, Quiet}
-use Rattle.looking.specs.declared.Verdict.{Verdict}
-use Rattle.looking.specs.declared.Verdict.the-variants.{Left, Opens, Closes, Begins, Counts, Collects, Refuses, Accepts, Stores, Against}
-use Rattle.receiving.specs.Verdicts.{outcomeVerdict}
+use Rattle.looking.specs.declared.Act.{Act}
+use Rattle.looking.specs.declared.Act.the-variants.{Leave, Open, Close, Begin, Count, Collect, Refuse, Accept, Store, Object}
+use Rattle.receiving.specs.Verdicts.{outcomeAct}
 use Rattle.receiving.specs.Settled.{ledgerAfter, journalAfter}
 
-pub quiet-keeps : (v : Verdict) (d : Ledger) (i : ℕ) (text : ℕ → List ℕ) (j : List ℕ) → Quiet v → (ledgerAfter v d i text ≡ d) × (journalAfter v d i text j ≡ j)
-quiet-keeps (Left a) d i text j q = (refl, refl)
-quiet-keeps Opens d i text j q = (refl, refl)
-quiet-keeps (Closes a) d i text j q = (refl, refl)
-quiet-keeps Begins d i text j q = (refl, refl)
-quiet-keeps (Counts n) d i text j q = (refl, refl)
-quiet-keeps Collects d i text j q = (refl, refl)
-quiet-keeps (Refuses a) d i text j q = (refl, refl)
-quiet-keeps (Accepts n) d i text j q = (refl, refl)
-quiet-keeps (Stores n) d i text j q = absurd q
-quiet-keeps (Against a n) d i text j q = absurd q
+pub quiet-keeps : (a : Act) (d : Ledger) (i : ℕ) (text : ℕ → List ℕ) (j : List ℕ) → Quiet a → (ledgerAfter a d i text ≡ d) × (journalAfter a d i text j ≡ j)
+quiet-keeps Leave d i text j q = (refl, refl)
+quiet-keeps Open d i text j q = (refl, refl)
+quiet-keeps Close d i text j q = (refl, refl)
+quiet-keeps Begin d i text j q = (refl, refl)
+quiet-keeps (Count n) d i text j q = (refl, refl)
+quiet-keeps Collect d i text j q = (refl, refl)
+quiet-keeps Refuse d i text j q = (refl, refl)
+quiet-keeps (Accept n) d i text j q = (refl, refl)
+quiet-keeps (Store n) d i text j q = absurd q
+quiet-keeps (Object n) d i text j q = absurd q
 
 -- a decision fits as its text does
-pub decision-fits : (l : Line) (o : Outcome) (n : ℕ) → TextFits l n → Fitting (outcomeVerdict o n) l
+pub decision-fits : (l : Line) (o : Outcome) (n : ℕ) → TextFits l n → Fitting (outcomeAct o n) l
 decision-fits l Outcome.Stored n t = t
 decision-fits l (Outcome.Against a) n t = t
 decision-fits l (Outcome.Left a) n t = tt

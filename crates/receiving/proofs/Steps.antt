@@ -24,10 +24,9 @@ use Rattle.looking.specs.Views.{framesOf, textsOf, joinedText}
 use Rattle.looking.specs.Inner.Ready.{Ready}
 use Rattle.looking.specs.Lent.{rightLengths, rightSizes}
 use Rattle.looking.specs.Looks.{lookOf, lookAlone}
-use Rattle.looking.specs.Answers.{answerOf}
 use Rattle.looking.specs.Fitting.{textFits}
 use Rattle.looking.specs.Inner.Fitting.{TextFits}
-use Rattle.receiving.specs.Verdicts.{outcomeVerdict, decided, ownWork, verdictOf}
+use Rattle.receiving.specs.Verdicts.{outcomeAct, decided, ownWork, verdictOf}
 use Rattle.receiving.specs.Settled.{lineAfter, textsAfter, framesAfter, ledgerAfter, journalAfter}
 use Rattle.receiving.specs.Inner.Settled.{Settled}
 use Rattle.receiving.specs.declared.completing.Tested.{Tested}
@@ -40,19 +39,18 @@ use Rattle.looking.specs.declared.Event.{Event}
 use Rattle.looking.specs.declared.Look.{Look}
 use Rattle.looking.specs.declared.Look.the-variants.{Done, Decides}
 use Rattle.receiving.specs.declared.Stepped.{Stepped}
+use Rattle.looking.specs.declared.Act.{Act}
 use Rattle.looking.specs.declared.Verdict.{Verdict}
-use Rattle.looking.specs.declared.Verdict.the-variants.{Left}
+use Rattle.looking.specs.Verdicts.{Left}
 use Rattle.looking.proofs.Alone.{Acts, alone-acts, ready}
 use Rattle.receiving.proofs.Fits.{quiet-keeps}
 
 -- a decision stores the text of its own frame: what the line would have with another length does not matter
 outcome-row : (o : Outcome) (d : Ledger) (i n : ℕ) (text : ℕ → List ℕ) (j : List ℕ)
-    → (ledgerBy o d i (text n) ≡ ledgerAfter (outcomeVerdict o n) d i text)
-    × (journalBy o d i (text n) j ≡ journalAfter (outcomeVerdict o n) d i text j)
-    × (outcomeAnswer o ≡ answerOf (outcomeVerdict o n))
-outcome-row Outcome.Stored d i n text j = (refl, refl, refl)
-outcome-row (Outcome.Against a) d i n text j = (refl, refl, refl)
-outcome-row (Outcome.Left a) d i n text j = (refl, refl, refl)
+    → (ledgerBy o d i (text n) ≡ ledgerAfter (outcomeAct o n) d i text) × (journalBy o d i (text n) j ≡ journalAfter (outcomeAct o n) d i text j)
+outcome-row Outcome.Stored d i n text j = (refl, refl)
+outcome-row (Outcome.Against a) d i n text j = (refl, refl)
+outcome-row (Outcome.Left a) d i n text j = (refl, refl)
 
 -- lent memory is known by its three parts
 memory-is : {a b : Memory} → a .journal ≡ b .journal → a .unfinished ≡ b .unfinished → a .frames ≡ b .frames → a ≡ b
@@ -60,7 +58,7 @@ memory-is p q r = λ z. record { journal = p z; unfinished = q z; frames = r z }
 
 -- an event on its line alone: the row of the look's verdict, or a look that decides
 module _ (l : Line) (e : Event) (n : ℕ) (u f : List ℕ) where
-  pub alone-settled : {v : Verdict} {l′ : Line} {u′ f′ : List ℕ} → Done v ≡ lookAlone l e n u f → Settled v (e .kind) l (e .line) u f l′ u′ f′
+  pub alone-settled : {v : Verdict} {l′ : Line} {u′ f′ : List ℕ} → Done v ≡ lookAlone l e n u f → Settled (v .act) (e .kind) l (e .line) u f l′ u′ f′
       → SteppingAlone l e n (record { unfinished = u; frames = f }) (record { line = l′; look = Done v }) (record { unfinished = u′; frames = f′ })
   alone-settled h s = record {
     look = h;
@@ -109,20 +107,20 @@ module _ (l : Line) (d : Ledger) (e : Event) (j u f : List ℕ) where
   verdict-by h = verdict-alone ∙ ap by h
 
   -- a step that is done on the line alone leaves the ledger and the journal
-  pub step-after : (s : Alone) (v : Verdict) {a : Answer} {u′ f′ : List ℕ} → SteppingAlone l e (length j) (record { unfinished = u; frames = f }) s (record { unfinished = u′; frames = f′ }) → s .look ≡ Done v → a ≡ answerOf v
+  pub step-after : (s : Alone) (v : Verdict) {a : Answer} {u′ f′ : List ℕ} → SteppingAlone l e (length j) (record { unfinished = u; frames = f }) s (record { unfinished = u′; frames = f′ }) → s .look ≡ Done v → a ≡ v .answer
       → Stepping l d e (memoryOf j u f) (record { line = s .line; ledger = d; answer = a }) (memoryOf j u′ f′)
   unfolding stepOf
   step-after s v {a} {u′} {f′} t h p =
       let k : lookAlone l e (length j) u f ≡ Done v = sym (t .look) ∙ h in
       let w : v ≡ verdictOf todaysShares l d e j u f = sym (verdict-by k) in
-      let (ledger, journal) = quiet-keeps v d (e .line) (λ n. joinedText l n (textsOf (e .line) u) (framesOf (e .line) f)) j (subst (λ (x : Look). Acts x l (e .line) u f) k (alone-acts l e (length j) u f) .1) in
-      let after : s .line ≡ lineAfter v l = t .line ∙ ap (λ (x : Look). lineAlone x l) k in
+      let (ledger, journal) = quiet-keeps (v .act) d (e .line) (λ n. joinedText l n (textsOf (e .line) u) (framesOf (e .line) f)) j (subst (λ (x : Look). Acts x l (e .line) u f) k (alone-acts l e (length j) u f) .1) in
+      let after : s .line ≡ lineAfter (v .act) l = t .line ∙ ap (λ (x : Look). lineAlone x l) k in
       record {
-        result = rw (after, p) (ap (λ (z : Ledger). record { line = lineAfter v l; ledger = z; answer = answerOf v }) (sym ledger) ∙ ap (λ (z : Verdict). settle z l d e (memoryOf j u f) .stepped) w);
+        result = rw (after, p) (ap (λ (z : Ledger). record { line = lineAfter (v .act) l; ledger = z; answer = v .answer }) (sym ledger) ∙ ap (λ (z : Verdict). settle z l d e (memoryOf j u f) .stepped) w);
         memory = memory-is
             (sym journal ∙ ap (λ (z : Verdict). settle z l d e (memoryOf j u f) .memory .journal) w)
-            (t .unfinished ∙ ap (λ (x : Look). textsAlone x l (e .line) u f) k ∙ ap (λ (x : Verdict). textsAfter x l (e .line) u f) w)
-            (t .frames ∙ ap (λ (x : Look). framesAlone x (e .kind) l (e .line) f) k ∙ ap (λ (x : Verdict). framesAfter x (e .kind) l (e .line) f) w);
+            (t .unfinished ∙ ap (λ (x : Look). textsAlone x l (e .line) u f) k ∙ ap (λ (x : Verdict). textsAfter (x .act) l (e .line) u f) w)
+            (t .frames ∙ ap (λ (x : Look). framesAlone x (e .kind) l (e .line) f) k ∙ ap (λ (x : Verdict). framesAfter (x .act) (e .kind) l (e .line) f) w);
       }
 
   -- where it decides, nothing is changed
@@ -204,16 +202,16 @@ module _ (l : Line) (d : Ledger) (e : Event) (n : ℕ) (j u f : List ℕ) where
   module _ (r : Stepped) where
     -- what the decision and its row leave
     pub decision-settled : (c : Decided) (k : Line) (a : Answer) (j′ u′ f′ : List ℕ) → Completion l d (e .line) n j u f c j′
-        → Settled (outcomeVerdict (c .outcome) n) (e .kind) l (e .line) u f k u′ f′ → a ≡ outcomeAnswer (c .outcome) → r ≡ record { line = k; ledger = c .ledger; answer = a } → Completing l d e n (memoryOf j u f) r (memoryOf j′ u′ f′)
+        → Settled (outcomeAct (c .outcome) n) (e .kind) l (e .line) u f k u′ f′ → a ≡ outcomeAnswer (c .outcome) → r ≡ record { line = k; ledger = c .ledger; answer = a } → Completing l d e n (memoryOf j u f) r (memoryOf j′ u′ f′)
     decision-settled c k a j′ u′ f′ t s p q =
         let text : ℕ → List ℕ = λ m. joinedText l m (textsOf (e .line) u) (framesOf (e .line) f) in
         let o : Outcome = outcomeOf todaysShares d (e .line) (text n) j in
-        let v : Verdict = outcomeVerdict o n in
-        let (ledger, journal, answer) = outcome-row o d (e .line) n text j in
-        let is : outcomeVerdict (c .outcome) n ≡ v = ap (λ (x : Outcome). outcomeVerdict x n) (t .outcome) in
-        let booked : c .ledger ≡ ledgerAfter v d (e .line) text = t .ledger ∙ ledger in
-        let says : a ≡ answerOf v = p ∙ ap outcomeAnswer (t .outcome) ∙ answer in
+        let act : Act = outcomeAct o n in
+        let (ledger, journal) = outcome-row o d (e .line) n text j in
+        let is : outcomeAct (c .outcome) n ≡ act = ap (λ (x : Outcome). outcomeAct x n) (t .outcome) in
+        let booked : c .ledger ≡ ledgerAfter act d (e .line) text = t .ledger ∙ ledger in
+        let says : a ≡ outcomeAnswer o = p ∙ ap outcomeAnswer (t .outcome) in
         record {
-          result = q ∙ rw (s .line, says, booked) (ap (λ (x : Verdict). record { line = lineAfter x l; ledger = ledgerAfter v d (e .line) text; answer = answerOf v }) is);
-          memory = memory-is (t .journal ∙ journal) (s .texts ∙ ap (λ (x : Verdict). textsAfter x l (e .line) u f) is) (s .frames ∙ ap (λ (x : Verdict). framesAfter x (e .kind) l (e .line) f) is);
+          result = q ∙ rw (s .line, says, booked) (ap (λ (x : Act). record { line = lineAfter x l; ledger = ledgerAfter act d (e .line) text; answer = outcomeAnswer o }) is);
+          memory = memory-is (t .journal ∙ journal) (s .texts ∙ ap (λ (x : Act). textsAfter x l (e .line) u f) is) (s .frames ∙ ap (λ (x : Act). framesAfter x (e .kind) l (e .line) f) is);
         }

@@ -21,7 +21,7 @@ use Rattle.looking.specs.declared.Kind.{Kind}
 use Rattle.looking.specs.declared.Look.{Look}
 use Rattle.looking.specs.declared.Look.the-variants.{Done, Decides}
 use Rattle.looking.specs.declared.Verdict.{Verdict}
-use Rattle.looking.specs.declared.Verdict.the-variants.{Left}
+use Rattle.looking.specs.Verdicts.{Left}
 use Rattle.receiving.specs.Verdicts.{decisionOf}
 use Rattle.receiving.specs.Settled.{lineAfter, framesAfter, textsAfter}
 use Rattle.receiving.specs.Steps.{Memory, AfterStep, settle, Leaves}
@@ -30,15 +30,15 @@ use Rattle.receiving.specs.declared.Stepped.{Stepped}
 
 -- what a look leaves: the row of its verdict, or everything as it was where a message is complete
 abbrev pub lineAlone : Look → Line → Line
-lineAlone (Done v) l = lineAfter v l
+lineAlone (Done v) l = lineAfter (v .act) l
 lineAlone (Decides n) l = l
 
 abbrev pub textsAlone : Look → Line → ℕ → List ℕ → List ℕ → List ℕ
-textsAlone (Done v) l i unfinished frames = textsAfter v l i unfinished frames
+textsAlone (Done v) l i unfinished frames = textsAfter (v .act) l i unfinished frames
 textsAlone (Decides n) l i unfinished frames = unfinished
 
 abbrev pub framesAlone : Look → Kind → Line → ℕ → List ℕ → List ℕ
-framesAlone (Done v) k l i frames = framesAfter v k l i frames
+framesAlone (Done v) k l i frames = framesAfter (v .act) k l i frames
 framesAlone (Decides n) k l i frames = frames
 
 -- the lent memory of an event on its line alone: the journal is not lent

@@ -7,7 +7,6 @@ use Rattle.room.specs.Room.{todaysShares}
 use Rattle.journal.specs.declared.Ledger.{Ledger}
 use Rattle.line.specs.declared.Line.{Line}
 use Rattle.looking.specs.Views.{framesOf, textsOf, joinedText}
-use Rattle.looking.specs.Answers.{answerOf}
 use Rattle.looking.specs.declared.Event.{Event}
 use Rattle.looking.specs.declared.Verdict.{Verdict}
 use Rattle.receiving.specs.Verdicts.{verdictOf}
@@ -29,11 +28,11 @@ abbrev pub settle : Verdict → Line → Ledger → Event → Memory → AfterSt
 settle v l d e m =
     let text : ℕ → List ℕ = λ n. joinedText l n (textsOf (e .line) (m .unfinished)) (framesOf (e .line) (m .frames)) in
     record {
-      stepped = record { line = lineAfter v l; ledger = ledgerAfter v d (e .line) text; answer = answerOf v };
+      stepped = record { line = lineAfter (v .act) l; ledger = ledgerAfter (v .act) d (e .line) text; answer = v .answer };
       memory = record {
-        journal = journalAfter v d (e .line) text (m .journal);
-        unfinished = textsAfter v l (e .line) (m .unfinished) (m .frames);
-        frames = framesAfter v (e .kind) l (e .line) (m .frames);
+        journal = journalAfter (v .act) d (e .line) text (m .journal);
+        unfinished = textsAfter (v .act) l (e .line) (m .unfinished) (m .frames);
+        frames = framesAfter (v .act) (e .kind) l (e .line) (m .frames);
       };
     }
 

@@ -6,7 +6,7 @@ use lib.Dec.{ltb}
 use Rattle.memory.specs.Sizes.{lines}
 use Rattle.memory.specs.Tests.{unless}
 use Rattle.journal.specs.declared.Ledger.{Ledger}
-use Rattle.deciding.specs.Decisions.{outcomeOf}
+use Rattle.deciding.specs.Decisions.{outcomeOf, outcomeAnswer}
 use Rattle.deciding.specs.declared.Outcome.{Outcome}
 use Rattle.line.specs.Line.{withinLimits}
 use Rattle.line.specs.declared.Line.{Line}
@@ -18,14 +18,19 @@ use Rattle.looking.specs.declared.Event.{Event}
 use Rattle.looking.specs.declared.Kind.{Kind}
 use Rattle.looking.specs.declared.Look.{Look}
 use Rattle.looking.specs.declared.Look.the-variants.{Done, Decides}
+use Rattle.looking.specs.declared.Act.{Act}
+use Rattle.looking.specs.declared.Act.the-variants.{Leave, Store, Object}
 use Rattle.looking.specs.declared.Verdict.{Verdict}
-use Rattle.looking.specs.declared.Verdict.the-variants.{Left, Stores, Against}
+use Rattle.looking.specs.Verdicts.{verdict, Left}
 
--- the verdict that an outcome of deciding is, where the text ends with n bytes of its frame
+-- what an outcome of deciding does with its line, where the text ends with n bytes of its frame, and the verdict that it is
+abbrev pub outcomeAct : Outcome → ℕ → Act
+outcomeAct Outcome.Stored n = Store n
+outcomeAct (Outcome.Against a) n = Object n
+outcomeAct (Outcome.Left a) n = Leave
+
 abbrev pub outcomeVerdict : Outcome → ℕ → Verdict
-outcomeVerdict Outcome.Stored n = Stores n
-outcomeVerdict (Outcome.Against a) n = Against a n
-outcomeVerdict (Outcome.Left a) n = Left a
+outcomeVerdict o n = verdict (outcomeAct o n) (outcomeAnswer o)
 
 -- a complete text is decided: the records, then the journal
 abbrev pub decisionOf : List ℕ → Ledger → ℕ → ℕ → List ℕ → List ℕ → Verdict

@@ -41,7 +41,8 @@ pub fn step_alone(
     let look = looking::look_alone(line, e, journal, unfinished, frames);
     match look {
         Look::Done(v) => {
-            let after = settling::settle(line, i, kind, v, unfinished, frames);
+            let act = v.act;
+            let after = settling::settle(line, i, kind, act, unfinished, frames);
             Alone { line: after, look }
         }
         Look::Decides(_) => Alone { line, look },

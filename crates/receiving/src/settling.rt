@@ -7,38 +7,38 @@ ghost use Rattle.memory.specs.Sizes.{lines, framesSize};
 ghost use Rattle.line.specs.Line.{withinLimits, collectedLine, waitingLine};
 ghost use Rattle.looking.specs.Inner.Ready.{Ready};
 ghost use Rattle.looking.specs.Inner.Fitting.{TextFits, Fitting, Quiet, writes};
-ghost use Rattle.looking.specs.declared.Verdict.the-variants.{Accepts};
-ghost use Rattle.receiving.specs.Verdicts.{outcomeVerdict};
+ghost use Rattle.looking.specs.declared.Act.the-variants.{Accept};
+ghost use Rattle.receiving.specs.Verdicts.{outcomeAct};
 ghost use Rattle.receiving.specs.Settled.{withByte, withText};
 ghost use Rattle.receiving.specs.Inner.Settled.{Settled};
 use deciding::Outcome;
 use line::Line;
+use looking::Act;
 use looking::Kind;
-use looking::Verdict;
 
 // What a look leaves.
 pub fn settle(
     line: Line,
     i: usize,
     kind: Kind,
-    v: Verdict,
+    act: Act,
     unfinished: &mut [u8],
     frames: &mut [u8],
 ) -> Line
-    requires { ⌜ Fitting v line × Quiet v × (writes v ≡ true → Ready line i (now unfinished) (now frames)) ⌝ }
-    ensures { λ r. ⌜ Settled v kind line i (now (unfinished .entry)) (now (frames .entry)) r (now (unfinished .exit)) (now (frames .exit)) ⌝ }
+    requires { ⌜ Fitting act line × Quiet act × (writes act ≡ true → Ready line i (now unfinished) (now frames)) ⌝ }
+    ensures { λ r. ⌜ Settled act kind line i (now (unfinished .entry)) (now (frames .entry)) r (now (unfinished .exit)) (now (frames .exit)) ⌝ }
 {
-    match v {
-        Verdict::Left(_) => line,
-        Verdict::Opens => line.opened(),
-        Verdict::Closes(_) => line.closed(),
-        Verdict::Begins => line.begun(),
-        Verdict::Counts(n) => line.with_seconds(n),
-        Verdict::Collects => collect(line, i, kind, frames),
-        Verdict::Refuses(_) => refuse(line, i, kind, frames),
-        Verdict::Accepts(n) => accept(line, i, kind, n, unfinished, frames),
-        Verdict::Stores(_) => line, // no look comes to these two: `close` has their rows
-        Verdict::Against(_, _) => line,
+    match act {
+        Act::Leave => line,
+        Act::Open => line.opened(),
+        Act::Close => line.closed(),
+        Act::Begin => line.begun(),
+        Act::Count(n) => line.with_seconds(n),
+        Act::Collect => collect(line, i, kind, frames),
+        Act::Refuse => refuse(line, i, kind, frames),
+        Act::Accept(n) => accept(line, i, kind, n, unfinished, frames),
+        Act::Store(_) => line, // no look comes to these two: `close` has their rows
+        Act::Object(_) => line,
     }
 }
 
@@ -67,7 +67,7 @@ fn accept(
     frames: &mut [u8],
 ) -> Line
     requires { ⌜ Ready line i (now unfinished) (now frames) × TextFits line n ⌝ }
-    ensures { λ r. ⌜ Settled (Accepts n) kind line i (now (unfinished .entry)) (now (frames .entry)) r (now (unfinished .exit)) (now (frames .exit)) ⌝ }
+    ensures { λ r. ⌜ Settled (Accept n) kind line i (now (unfinished .entry)) (now (frames .entry)) r (now (unfinished .exit)) (now (frames .exit)) ⌝ }
 {
     write_frame(line, i, kind, n, unfinished, frames);
     line.accepted((line.joined as usize + n) as u16)
@@ -84,7 +84,7 @@ pub fn close(
     frames: &mut [u8],
 ) -> Line
     requires { ⌜ Ready line i (now unfinished) (now frames) × TextFits line n ⌝ }
-    ensures { λ r. ⌜ Settled (outcomeVerdict outcome n) kind line i (now (unfinished .entry)) (now (frames .entry)) r (now (unfinished .exit)) (now (frames .exit)) ⌝ }
+    ensures { λ r. ⌜ Settled (outcomeAct outcome n) kind line i (now (unfinished .entry)) (now (frames .entry)) r (now (unfinished .exit)) (now (frames .exit)) ⌝ }
 {
     match outcome {
         Outcome::Stored => {

@@ -16,7 +16,7 @@ accept-requires : tie.Need-accept-requires
 accept-requires c κs =
     let told = c .before .before .before in
     let start = told .before .before .before .before in
-    (ready-as (told .v2 .given .1) refl (start .pre), fitting-as (start .args .line) (told .v2 .given .1) (start .pre .0))
+    (ready-as (told .act2 .given .1) refl (start .pre), fitting-as (start .args .line) (told .act2 .given .1) (start .pre .0))
 
 returns : tie.Need-returns
 returns c = settled-as (c .enum-told .given .1) (record { line = refl; texts = refl; frames = refl })
@@ -31,7 +31,7 @@ returns-4 : tie.Need-returns-4
 returns-4 c = settled-as (c .before .enum-told4 .given .1) (record { line = c .begun .ensures; texts = refl; frames = refl })
 
 returns-5 : tie.Need-returns-5
-returns-5 c = settled-as (c .before .before .v .given .1) (record { line = c .with-seconds .ensures; texts = refl; frames = refl })
+returns-5 c = settled-as (c .before .before .act .given .1) (record { line = c .with-seconds .ensures; texts = refl; frames = refl })
 
 returns-6 : tie.Need-returns-6
 returns-6 c = let done = c .before .before in settled-as (done .before .before .enum-told5 .given .1) (record { line = done .collect .ensures .0; texts = refl; frames = done .collect .ensures .1 })
@@ -40,7 +40,7 @@ returns-7 : tie.Need-returns-7
 returns-7 c = let done = c .before .before in settled-as (done .before .before .enum-told6 .given .1) (record { line = done .refuse .ensures .0; texts = refl; frames = done .refuse .ensures .1 })
 
 returns-8 : tie.Need-returns-8
-returns-8 c = let done = c .before .before .before .before in settled-as (done .before .before .before .before .v2 .given .1) (done .accept .ensures)
+returns-8 c = let done = c .before .before .before .before in settled-as (done .before .before .before .before .act2 .given .1) (done .accept .ensures)
 
 returns-9 : tie.Need-returns-9
 returns-9 c = absurd (quiet-as (c .enum-told7 .given .1) (c .before .before .before .before .pre .1))
