@@ -24,13 +24,13 @@ use Rattle.line.specs.declared.Line.{Line}
 use Rattle.looking.specs.Views.{framesOf, textsOf, joinedText}
 use Rattle.deciding.specs.Decisions.{roomOutcome}
 use Rattle.deciding.proofs.Decisions.{outcome-cases}
-use Rattle.receiving.specs.Verdicts.{outcomeVerdict, decisionOf}
+use Rattle.receiving.specs.Verdicts.{outcomeAct, decisionOf}
 use Rattle.looking.specs.Lent.{rightSizes}
 use Rattle.receiving.specs.Settled.{ledgerAfter}
 use Rattle.receiving.specs.Steps.{Memory}
 use Rattle.receiving.specs.Alone.{completed, completionOf, decideOf}
 use Rattle.looking.specs.declared.Event.{Event}
-use Rattle.looking.specs.declared.Verdict.the-variants.{Left}
+use Rattle.looking.specs.Verdicts.{Left}
 use Rattle.looking.specs.Fitting.{textFits}
 use Rattle.answers.specs.declared.Answer.the-variants.{NoLine, WrongSize, BeyondLimits}
 
@@ -44,7 +44,7 @@ module _ (d : Ledger) (i : ℕ) (j : List ℕ) (w : Narrow d) where
       omega (arith, k .whole .room, f .long, f .high, head-size-high n)
 
   module _ (text : ℕ → List ℕ) (n : ℕ) where
-    room-narrow : (q : Judgement) → judgeOf d todaysShares i (length (text n)) j ≡ q → Narrow (ledgerAfter (outcomeVerdict (roomOutcome q) n) d i text)
+    room-narrow : (q : Judgement) → judgeOf d todaysShares i (length (text n)) j ≡ q → Narrow (ledgerAfter (outcomeAct (roomOutcome q) n) d i text)
     room-narrow Judgement.Fits e = grown-narrow (length (text n)) (ap isFits e)
     room-narrow Judgement.NoRoom e = w
     room-narrow Judgement.Broken e = w
@@ -52,8 +52,8 @@ module _ (d : Ledger) (i : ℕ) (j : List ℕ) (w : Narrow d) where
     room-narrow Judgement.WrongSize e = w
     room-narrow Judgement.Malformed e = w
 
-    decision-narrow : Narrow (ledgerAfter (decisionOf todaysShares d i n (text n) j) d i text)
-    decision-narrow = outcome-cases todaysShares d i (text n) j (λ o. Narrow (ledgerAfter (outcomeVerdict o n) d i text)) w (room-narrow (judgeOf d todaysShares i (length (text n)) j) refl)
+    decision-narrow : Narrow (ledgerAfter (decisionOf todaysShares d i n (text n) j .act) d i text)
+    decision-narrow = outcome-cases todaysShares d i (text n) j (λ o. Narrow (ledgerAfter (outcomeAct o n) d i text)) w (room-narrow (judgeOf d todaysShares i (length (text n)) j) refl)
 
 module _ (l : Line) (d : Ledger) (e : Event) (m : Memory) (w : Narrow d) where
   abbrev own-text : ℕ → List ℕ
@@ -65,7 +65,7 @@ module _ (l : Line) (d : Ledger) (e : Event) (m : Memory) (w : Narrow d) where
   decide-narrow n = by-tests (ltb (e .line) lines) (rightSizes (m .journal) (m .unfinished) (m .frames)) (withinLimits l && textFits l n)
     where
       by-tests : (a b c : Bool)
-          → Narrow (ledgerAfter (unless a (Left NoLine) (unless b (Left WrongSize) (unless c (Left BeyondLimits) (completed todaysShares l d e n m)))) d (e .line) own-text)
+          → Narrow (ledgerAfter (unless a (Left NoLine) (unless b (Left WrongSize) (unless c (Left BeyondLimits) (completed todaysShares l d e n m))) .act) d (e .line) own-text)
       by-tests true true true = decision-narrow d (e .line) (m .journal) w own-text n
       by-tests true true false = w
       by-tests true false c = w

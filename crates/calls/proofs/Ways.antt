@@ -23,7 +23,6 @@ use Rattle.looking.specs.Lent.{rightSizes}
 use Rattle.receiving.specs.Steps.{Memory, AfterStep, Leaves, settle, stepOf}
 use Rattle.receiving.specs.Alone.{SteppingAlone, decideOf}
 use Rattle.receiving.specs.declared.Alone.{Alone}
-use Rattle.looking.specs.Answers.{answerOf}
 use Rattle.looking.specs.declared.Look.the-variants.{Done, Decides}
 use Rattle.receiving.specs.declared.Stepped.{Stepped}
 use Rattle.journal.specs.declared.Ledger.{Ledger}
@@ -32,7 +31,7 @@ use Rattle.looking.specs.declared.Event.{Event}
 use Rattle.looking.specs.declared.Kind.{Kind}
 use Rattle.looking.specs.declared.Kind.the-variants.{Byte, Seconds}
 use Rattle.looking.specs.declared.Verdict.{Verdict}
-use Rattle.looking.specs.declared.Verdict.the-variants.{Collects, Begins}
+use Rattle.looking.specs.Verdicts.{Collects, Begins}
 use Rattle.layout.specs.Layout.{firstAt, numberAt}
 use Rattle.ledger.specs.Ledgers.{withSerial, withUsed, ledgerOf, serialAfter, countsAfter, Narrow}
 use Rattle.answers.specs.InNumbers.{inNumbers}
@@ -104,7 +103,7 @@ module _ (s : HostState) (l : Line) (e : Event) where
 
   -- a step that is done on the line alone: the ledger stays
   module _ {t : Alone} {u f : List ℕ} (x : SteppingAlone l e (length (s .memory .journal)) (record { unfinished = s .memory .unfinished; frames = s .memory .frames }) t (record { unfinished = u; frames = f })) where
-    pub put-after : {v : Verdict} {ns : List ℕ} {r : Answered} → e .line < lines → t .look ≡ Done v → ns ≡ withLine (s .numbers) (e .line) (t .line) → r ≡ inNumbers (answerOf v)
+    pub put-after : {v : Verdict} {ns : List ℕ} {r : Answered} → e .line < lines → t .look ≡ Done v → ns ≡ withLine (s .numbers) (e .line) (t .line) → r ≡ inNumbers (v .answer)
         → Stepping s l e r (stepped-on s ns u f)
     put-after {v} h k m q =
         put-back (step-after l (ledger s) e (s .memory .journal) (s .memory .unfinished) (s .memory .frames) t v x k refl)

@@ -5,7 +5,6 @@ ghost use mathlib.Core.Bool.{true};
 ghost use Rattle.looking.specs.declared.Kind.the-variants.{Byte, Seconds};
 ghost use lib.ListN.{length};
 ghost use Rattle.looking.specs.Lent.{rightLengths};
-ghost use Rattle.looking.specs.Answers.{answerOf};
 ghost use Rattle.memory.specs.Sizes.{lines};
 ghost use Rattle.answers.specs.InNumbers.{inNumbers as Plain·inNumbers};
 ghost use Rattle.numbers.specs.Plain.{lineOf, withLine};
@@ -21,7 +20,6 @@ use line::Line;
 use looking::Event;
 use looking::Kind;
 use looking::Look;
-use looking::Verdict;
 use receiving::Stepped;
 
 // A byte has come on a line. Most bytes are only collected: that changes one number and one byte, and copies nothing.
@@ -131,18 +129,21 @@ fn step(
     let alone = receiving::step_alone(record, e, journal.len(), unfinished, frames);
     let look = alone.look;
     match look {
-        Look::Done(v) => leave(e.line, alone.line, v, numbers),
+        Look::Done(v) => {
+            let answer = v.answer;
+            leave(e.line, alone.line, answer, numbers)
+        }
         Look::Decides(n) => decide(record, e, n, numbers, counts, journal, unfinished, frames),
     }
 }
 
 // What a step on the line alone leaves: its record put back, and its answer.
-fn leave(i: u8, line: Line, v: Verdict, numbers: &mut [u16; NUMBERS]) -> Answered
+fn leave(i: u8, line: Line, answer: Answer, numbers: &mut [u16; NUMBERS]) -> Answered
     requires { ⌜ i < lines ⌝ }
-    ensures { λ r. ⌜ (now (numbers .exit) ≡ withLine (now (numbers .entry)) i line) × (r ≡ Plain·inNumbers (answerOf v)) ⌝ }
+    ensures { λ r. ⌜ (now (numbers .exit) ≡ withLine (now (numbers .entry)) i line) × (r ≡ Plain·inNumbers answer) ⌝ }
 {
     numbers::put_record(numbers, i as usize, line);
-    answers::in_numbers(v.answer())
+    answers::in_numbers(answer)
 }
 
 // A message that is complete: the ledger read from the numbers, the decision, and its outcome put back into the numbers.

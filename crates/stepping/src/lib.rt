@@ -25,7 +25,10 @@ pub fn step(
     let after = alone.line;
     let look = alone.look;
     match look {
-        Look::Done(v) => done(after, ledger, v.answer()),
+        Look::Done(v) => {
+            let answer = v.answer;
+            done(after, ledger, answer)
+        }
         Look::Decides(n) => receiving::decide(line, ledger, e, n, journal, unfinished, frames),
     }
 }

@@ -10,16 +10,12 @@ use Rattle.calls.proofs.leave.Tie as tie
 
 returns : tie.Need-returns
 returns c =
-    let put = c .before .before in
+    let put = c .before in
     let start = put .before .before in
     let a = start .args in
-    (put-record-there (now (a .numbers)) (a .i) (a .line) (start .pre) (put .put-record .ensures), c .in-numbers .ensures ∙ ap inNumbers (c .before .answer .ensures))
+    (put-record-there (now (a .numbers)) (a .i) (a .line) (start .pre) (put .put-record .ensures), c .in-numbers .ensures)
 
 pub leave-spec : {M : Type 1} → statement M
 leave-spec =
     tie.close
-    (tie.spec
-    (λ c κs. search needs)
-    (λ c κs. search needs)
-    (λ c κs. search needs)
-    returns)
+    (tie.spec (λ c κs. search needs) (λ c κs. search needs) returns)

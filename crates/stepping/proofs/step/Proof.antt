@@ -1,6 +1,7 @@
 -- `stepping::step` meets its contract: the line alone, and the deciding where the look comes to one.
 -- Assumes nothing.
 use borrow.Author.Needs.{needs}
+use mathlib.Core.Path.{refl}
 use denote.Ref.{now}
 use Rattle.receiving.proofs.Steps.{step-after, step-asks}
 use Rattle.stepping.proofs.step.Statement.{statement}
@@ -15,10 +16,10 @@ alone c = let taken = c .before .before .before .before in taken .before
 
 returns : tie.Need-returns
 returns c =
-    let matched = c .before .before .before in
+    let matched = c .before .before in
     let stepped = alone (matched .before .before) in
     let a = entry stepped .args in
-    rw (c .done .ensures) (step-after (a .line) (a .ledger) (a .e) (now (a .journal)) (now (a .unfinished)) (now (a .frames)) _ _ (stepped .step-alone .ensures) (matched .look .given .1) (c .before .answer .ensures))
+    rw (c .done .ensures) (step-after (a .line) (a .ledger) (a .e) (now (a .journal)) (now (a .unfinished)) (now (a .frames)) _ _ (stepped .step-alone .ensures) (matched .look .given .1) refl)
 
 returns-2 : tie.Need-returns-2
 returns-2 c =
@@ -35,7 +36,6 @@ step-spec =
     (tie.spec
     (λ c κs. search needs)
     (λ c. search needs)
-    (λ c κs. search needs)
     (λ c κs. search needs)
     (λ c. search needs)
     (λ c κs. search needs)
