@@ -25,7 +25,7 @@ use Rattle.looking.specs.declared.Event.{Event}
 use Rattle.looking.specs.declared.Look.{Look}
 use Rattle.looking.specs.declared.Look.the-variants.{Done, Decides}
 use Rattle.looking.specs.declared.Verdict.{Verdict}
-use Rattle.looking.specs.declared.Verdict.the-variants.{Left}
+use Rattle.looking.specs.Verdicts.{Left}
 use Rattle.gateway_laws.specs.Classes.{classOf, quiet}
 use Rattle.looking.proofs.Views.{own-parts}
 use Rattle.looking.proofs.Fits.{LookFits, look-fits}
@@ -37,18 +37,18 @@ module _ (shares : List ℕ) (l : Line) (d : Ledger) (e : Event) (j u f : List �
   pub record Worked (v : Verdict) : Type 0 where
     pub ready : Ready l (e .line) u f
     pub size : length j ≡ journalSize
-    pub fits : Fitting v l
+    pub fits : Fitting (v .act) l
     pub work : v ≡ workOf shares l d e j u f
 
   pub data Found : Verdict → Type 0 where
     refused : (a : Answer) → classOf a ≡ quiet → Found (Left a)
     worked : {v : Verdict} → Worked v → Found v
 
-  pub work-fits : Ready l (e .line) u f → Fitting (workOf shares l d e j u f) l
+  pub work-fits : Ready l (e .line) u f → Fitting (workOf shares l d e j u f .act) l
   unfolding ownWork
   work-fits r = by-look (lookOf l (e .kind) (textsOf (e .line) u) (framesOf (e .line) f)) (look-fits l _ _ (own-parts l (e .line) u f r) (e .kind))
     where
-      by-look : (k : Look) → LookFits k l → Fitting (decided k shares l d (e .line) j (textsOf (e .line) u) (framesOf (e .line) f)) l
+      by-look : (k : Look) → LookFits k l → Fitting (decided k shares l d (e .line) j (textsOf (e .line) u) (framesOf (e .line) f) .act) l
       by-look (Done v) h = h .0
       by-look (Decides n) h = decision-fits l (outcomeOf shares d (e .line) (joinedText l n (textsOf (e .line) u) (framesOf (e .line) f)) j) n h
 

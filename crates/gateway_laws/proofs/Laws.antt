@@ -1,6 +1,6 @@
 -- The laws of one event and of one taking. The theorems above use these, and not the code.
 -- Assumes nothing.
-use mathlib.Core.Path.{_≡_, refl, sym, ap, subst, _∙_}
+use mathlib.Core.Path.{_≡_, refl, sym, ap, ap₂, subst, _∙_}
 use mathlib.Core.Logic.{_≢_}
 use mathlib.Core.Bool.{Bool, true, false}
 use mathlib.Core.List.{List}
@@ -22,7 +22,6 @@ use Rattle.line.proofs.Limits.{Within, within-facts, within-of, opened-within, 
 use Rattle.looking.specs.Views.{framesOf, textsOf, joinedText}
 use Rattle.looking.specs.Looks.{lookOf}
 use Rattle.receiving.specs.Verdicts.{ownWork, verdictOf}
-use Rattle.looking.specs.Answers.{answerOf}
 use Rattle.receiving.specs.Settled.{lineAfter, withByte}
 use Rattle.looking.specs.Inner.Fitting.{Fitting}
 use Rattle.receiving.specs.Steps.{Memory, AfterStep, settle, stepOf}
@@ -30,12 +29,15 @@ use Rattle.gateway.specs.Events.{lineAt, noRecord, AfterEvent, putBack, eventOf
 use Rattle.looking.specs.declared.Event.{Event}
 use Rattle.gateway.specs.Gateway.{Gateway}
 use Rattle.looking.specs.declared.Look.the-variants.{Done}
+use Rattle.looking.specs.Verdicts.{verdict, Left, Stores}
+use Rattle.looking.specs.declared.Act.{Act}
+use Rattle.looking.specs.declared.Act.the-variants.{Leave, Open, Close, Begin, Count, Collect, Refuse, Accept, Store, Object}
 use Rattle.looking.specs.declared.Verdict.{Verdict}
-use Rattle.looking.specs.declared.Verdict.the-variants.{Left, Opens, Closes, Begins, Counts, Collects, Refuses, Accepts, Stores, Against}
 use Rattle.gateway_laws.specs.Classes.{Class, quiet, refusing, storing, classOf}
 use Rattle.gateway_laws.proofs.Found.{Found, refused, worked, verdict-found}
 use Rattle.gateway_laws.proofs.Rows.{store-rows, Of, leaves, begins, counts, collects, refuses, stores, of-class}
-use Rattle.gateway_laws.proofs.Proper.{verdict-proper}
+use Rattle.gateway_laws.specs.Inner.Classes.{actClass, Goes}
+use Rattle.gateway_laws.proofs.Proper.{goes-class, verdict-proper}
 use Rattle.gateway_laws.proofs.Others.{texts-length, frames-length, texts-other, frames-other}
 
 -- nothing changed, with an answer
@@ -57,26 +59,38 @@ module _ (shares : List ℕ) (l : Line) (d : Ledger) (e : Event) (m : Memory) wh
   unfolding stepOf
   step-is v h = ap (λ (x : Verdict). settle x l d e m) h
 
-  -- the verdict is of its answer's class
-  found-of : (c : Class) → classOf (stepOf shares l d e m .stepped .answer) ≡ c → Of c found
+  -- by what is done with the line
+  step-by : (x : Act) → found .act ≡ x → stepOf shares l d e m ≡ settle (verdict x (found .answer)) l d e m
   unfolding stepOf
-  found-of c h = subst (λ (x : Class). Of x found) (sym (verdict-proper shares l d e (m .journal) (m .unfinished) (m .frames)) ∙ h) (of-class found)
+  step-by x h = ap (λ (y : Act). settle (verdict y (found .answer)) l d e m) h
+
+  answer-is : stepOf shares l d e m .stepped .answer ≡ found .answer
+  unfolding stepOf
+  answer-is = refl
+
+  -- the answer goes with what is done
+  goes : (x : Act) → found .act ≡ x → Goes x (found .answer)
+  goes x h = subst (λ (y : Act). Goes y (found .answer)) h (verdict-proper shares l d e (m .journal) (m .unfinished) (m .frames))
+
+  -- which is of the answer's class
+  found-of : (c : Class) → classOf (stepOf shares l d e m .stepped .answer) ≡ c → Of c (found .act)
+  found-of c h = subst (λ (x : Class). Of x (found .act)) (sym (goes-class (found .act) (found .answer) (goes (found .act) refl)) ∙ sym (ap classOf answer-is) ∙ h) (of-class (found .act))
 
   -- an ignored event, 20 and 40 to 43 change nothing at all
   pub left-unchanged : (a : Answer) → found ≡ Left a → stepOf shares l d e m ≡ unchanged l d m a
   left-unchanged a h = step-is (Left a) h
 
   pub refused-unchanged : (a : Answer) → stepOf shares l d e m .stepped .answer ≡ a → classOf a ≡ quiet → a ≢ Nothing → stepOf shares l d e m ≡ unchanged l d m a
-  refused-unchanged a h q n = row found refl (found-of quiet (ap classOf h ∙ q))
+  refused-unchanged a h q n = row (found .act) refl (found-of quiet (ap classOf h ∙ q))
     where
-      answered : (v : Verdict) → found ≡ v → answerOf v ≡ a
-      answered v p = sym (ap (λ (s : AfterStep). s .stepped .answer) (step-is v p)) ∙ h
+      answered : found .answer ≡ a
+      answered = sym answer-is ∙ h
 
-      row : (v : Verdict) → found ≡ v → Of quiet v → stepOf shares l d e m ≡ unchanged l d m a
-      row (Left b) p (leaves c) = step-is (Left b) p ∙ ap (unchanged l d m) (answered (Left b) p)
-      row Begins p begins = absurd (n (sym (answered Begins p)))
-      row (Counts k) p (counts c) = absurd (n (sym (answered (Counts k) p)))
-      row Collects p collects = absurd (n (sym (answered Collects p)))
+      row : (x : Act) → found .act ≡ x → Of quiet x → stepOf shares l d e m ≡ unchanged l d m a
+      row Leave p leaves = step-by Leave p ∙ ap (unchanged l d m) answered
+      row Begin p begins = absurd (n (sym answered ∙ goes Begin p))
+      row (Count k) p (counts c) = absurd (n (sym answered ∙ goes (Count k) p))
+      row Collect p collects = absurd (n (sym answered ∙ goes Collect p))
 
   -- only 4 changes the ledger and the journal
   pub only-stored : stepOf shares l d e m .stepped .answer ≢ Stored
@@ -84,7 +98,7 @@ module _ (shares : List ℕ) (l : Line) (d : Ledger) (e : Event) (m : Memory) wh
   unfolding stepOf
   only-stored n =
       store-rows d (e .line) (λ k. joinedText l k (textsOf (e .line) (m .unfinished)) (framesOf (e .line) (m .frames))) (m .journal)
-      (λ v ledger journal. answerOf v ≢ Stored → (ledger ≡ d) × (journal ≡ m .journal)) (λ v o. (refl, refl)) (λ k o. absurd (o refl)) found n
+      (λ x ledger journal. Goes x (found .answer) → (ledger ≡ d) × (journal ≡ m .journal)) (λ x g. (refl, refl)) (λ k g. absurd (n g)) (found .act) (goes (found .act) refl)
 
   -- what 4 appends is the joined text, as the line's newest entry under its next serial
   pub record Storing : Type 0 where
@@ -94,23 +108,23 @@ module _ (shares : List ℕ) (l : Line) (d : Ledger) (e : Event) (m : Memory) wh
     pub verdict : found ≡ Stores length-of
 
   pub stored-appends : stepOf shares l d e m .stepped .answer ≡ Stored → Storing
-  stored-appends h = row found refl (found-of storing (ap classOf h))
+  stored-appends h = row (found .act) refl (found-of storing (ap classOf h))
     where
-      row : (v : Verdict) → found ≡ v → Of storing v → Storing
-      row (Stores k) p (stores c) = record {
+      row : (x : Act) → found .act ≡ x → Of storing x → Storing
+      row (Store k) p (stores c) = record {
         length-of = k;
-        ledger = ap (λ (x : AfterStep). x .stepped .ledger) (step-is (Stores k) p);
-        journal = ap (λ (x : AfterStep). x .memory .journal) (step-is (Stores k) p);
-        verdict = p;
+        ledger = ap (λ (x : AfterStep). x .stepped .ledger) (step-by (Store k) p);
+        journal = ap (λ (x : AfterStep). x .memory .journal) (step-by (Store k) p);
+        verdict = ap₂ verdict p (goes (Store k) p);
       }
 
   -- a refused frame, a repeat among them, changes only what every judged frame changes
   pub refused-frame : (a : Answer) → stepOf shares l d e m .stepped .answer ≡ a → classOf a ≡ refusing
       → stepOf shares l d e m ≡ judged l d e m a
-  refused-frame a h q = row found refl (found-of refusing (ap classOf h ∙ q))
+  refused-frame a h q = row (found .act) refl (found-of refusing (ap classOf h ∙ q))
     where
-      row : (v : Verdict) → found ≡ v → Of refusing v → stepOf shares l d e m ≡ judged l d e m a
-      row (Refuses b) p (refuses c) = step-is (Refuses b) p ∙ ap (judged l d e m) (sym (ap (λ (s : AfterStep). s .stepped .answer) (step-is (Refuses b) p)) ∙ h)
+      row : (x : Act) → found .act ≡ x → Of refusing x → stepOf shares l d e m ≡ judged l d e m a
+      row Refuse p refuses = step-by Refuse p ∙ ap (judged l d e m) (sym answer-is ∙ h)
 
   -- sizes and limits are kept
   pub sizes-kept : (length (stepOf shares l d e m .memory .unfinished) ≡ length (m .unfinished)) × (length (stepOf shares l d e m .memory .frames) ≡ length (m .frames))
@@ -118,30 +132,30 @@ module _ (shares : List ℕ) (l : Line) (d : Ledger) (e : Event) (m : Memory) wh
     where
       by-found : (v : Verdict) → found ≡ v → Found shares l d e (m .journal) (m .unfinished) (m .frames) v
           → (length (stepOf shares l d e m .memory .unfinished) ≡ length (m .unfinished)) × (length (stepOf shares l d e m .memory .frames) ≡ length (m .frames))
-      by-found (Left a) p (refused b q) = (ap (λ (x : AfterStep). length (x .memory .unfinished)) (step-is (Left a) p), ap (λ (x : AfterStep). length (x .memory .frames)) (step-is (Left a) p))
+      by-found v p (refused b q) = (ap (λ (x : AfterStep). length (x .memory .unfinished)) (step-is v p), ap (λ (x : AfterStep). length (x .memory .frames)) (step-is v p))
       by-found v p (worked w) = (
-        ap (λ (x : AfterStep). length (x .memory .unfinished)) (step-is v p) ∙ texts-length l (e .line) (m .unfinished) (m .frames) (w .ready) v (w .fits),
-        ap (λ (x : AfterStep). length (x .memory .frames)) (step-is v p) ∙ frames-length l (e .line) (m .unfinished) (m .frames) (w .ready) v (e .kind),
+        ap (λ (x : AfterStep). length (x .memory .unfinished)) (step-is v p) ∙ texts-length l (e .line) (m .unfinished) (m .frames) (w .ready) (v .act) (w .fits),
+        ap (λ (x : AfterStep). length (x .memory .frames)) (step-is v p) ∙ frames-length l (e .line) (m .unfinished) (m .frames) (w .ready) (v .act) (e .kind),
       )
 
-  pub line-within : (v : Verdict) → Within l → Fitting v l → Within (lineAfter v l)
-  line-within (Left a) w t = w
-  line-within Opens w t = opened-within l w
-  line-within (Closes a) w t = closed-within l w
-  line-within Begins w t = begun-within l w
-  line-within (Counts n) w t = counted-within l w n t
-  line-within Collects w t = collected-within l w (l .collected + 1) (omega arith)
-  line-within (Refuses a) w t = waiting-within l w
-  line-within (Accepts n) w t = accepted-within l w (l .joined + n) (t .1)
-  line-within (Stores n) w t = accepted-within l w 0 (omega arith)
-  line-within (Against a n) w t = refusing-within l w
+  pub line-within : (x : Act) → Within l → Fitting x l → Within (lineAfter x l)
+  line-within Leave w t = w
+  line-within Open w t = opened-within l w
+  line-within Close w t = closed-within l w
+  line-within Begin w t = begun-within l w
+  line-within (Count n) w t = counted-within l w n t
+  line-within Collect w t = collected-within l w (l .collected + 1) (omega arith)
+  line-within Refuse w t = waiting-within l w
+  line-within (Accept n) w t = accepted-within l w (l .joined + n) (t .1)
+  line-within (Store n) w t = accepted-within l w 0 (omega arith)
+  line-within (Object n) w t = refusing-within l w
 
   pub limits-kept : withinLimits l ≡ true → withinLimits (stepOf shares l d e m .stepped .line) ≡ true
   limits-kept h = by-found found refl (verdict-found shares l d e (m .journal) (m .unfinished) (m .frames))
     where
       by-found : (v : Verdict) → found ≡ v → Found shares l d e (m .journal) (m .unfinished) (m .frames) v → withinLimits (stepOf shares l d e m .stepped .line) ≡ true
-      by-found (Left a) p (refused b q) = ap (λ (x : AfterStep). withinLimits (x .stepped .line)) (step-is (Left a) p) ∙ h
-      by-found v p (worked w) = ap (λ (x : AfterStep). withinLimits (x .stepped .line)) (step-is v p) ∙ within-of (lineAfter v l) (line-within v (within-facts l h) (w .fits))
+      by-found v p (refused b q) = ap (λ (x : AfterStep). withinLimits (x .stepped .line)) (step-is v p) ∙ h
+      by-found v p (worked w) = ap (λ (x : AfterStep). withinLimits (x .stepped .line)) (step-is v p) ∙ within-of (lineAfter (v .act) l) (line-within (v .act) (within-facts l h) (w .fits))
 
   -- the parts of other lines are untouched
   pub parts-of-others : (k : ℕ) → e .line ≢ k
@@ -150,10 +164,10 @@ module _ (shares : List ℕ) (l : Line) (d : Ledger) (e : Event) (m : Memory) wh
     where
       by-found : (v : Verdict) → found ≡ v → Found shares l d e (m .journal) (m .unfinished) (m .frames) v
           → (textsOf k (stepOf shares l d e m .memory .unfinished) ≡ textsOf k (m .unfinished)) × (framesOf k (stepOf shares l d e m .memory .frames) ≡ framesOf k (m .frames))
-      by-found (Left a) p (refused b q) = (ap (λ (x : AfterStep). textsOf k (x .memory .unfinished)) (step-is (Left a) p), ap (λ (x : AfterStep). framesOf k (x .memory .frames)) (step-is (Left a) p))
+      by-found v p (refused b q) = (ap (λ (x : AfterStep). textsOf k (x .memory .unfinished)) (step-is v p), ap (λ (x : AfterStep). framesOf k (x .memory .frames)) (step-is v p))
       by-found v p (worked w) = (
-        ap (λ (x : AfterStep). textsOf k (x .memory .unfinished)) (step-is v p) ∙ texts-other l (e .line) (m .unfinished) (m .frames) (w .ready) v (w .fits) k n,
-        ap (λ (x : AfterStep). framesOf k (x .memory .frames)) (step-is v p) ∙ frames-other l (e .line) (m .unfinished) (m .frames) (w .ready) v (e .kind) k n,
+        ap (λ (x : AfterStep). textsOf k (x .memory .unfinished)) (step-is v p) ∙ texts-other l (e .line) (m .unfinished) (m .frames) (w .ready) (v .act) (w .fits) k n,
+        ap (λ (x : AfterStep). framesOf k (x .memory .frames)) (step-is v p) ∙ frames-other l (e .line) (m .unfinished) (m .frames) (w .ready) (v .act) (e .kind) k n,
       )
 
 -- an event that does not decide does not read the journal: with another ledger and another journal of the same size its verdict is the same

@@ -17,7 +17,7 @@ use Rattle.receiving.specs.Settled.{withByte, withText, framesAfter, textsAfter
 use Rattle.looking.specs.Inner.Fitting.{TextFits, Fitting}
 use Rattle.looking.specs.declared.Kind.{Kind}
 use Rattle.looking.specs.declared.Kind.the-variants.{Byte, Seconds}
-use Rattle.looking.specs.declared.Verdict.{Verdict}
+use Rattle.looking.specs.declared.Act.{Act}
 use Rattle.receiving.proofs.Pieces.{length-text}
 use Rattle.gateway_laws.proofs.Rows.{text-rows, frame-rows}
 
@@ -47,14 +47,14 @@ module _ (l : Line) (i : ℕ) (u f : List ℕ) (ready : Ready l i u f) where
       ∙ part-elsewhere framePart f i k (l .collected) (b ∷ []) m (omega (arith, ready)) (omega (arith, within-facts l (ready .within)))
   byte-other (Seconds s) k m = refl
 
-  pub texts-length : (v : Verdict) → Fitting v l → length (textsAfter v l i u f) ≡ length u
-  texts-length = text-rows l i u f (λ a own. length a ≡ length u) refl text-length
+  pub texts-length : (a : Act) → Fitting a l → length (textsAfter a l i u f) ≡ length u
+  texts-length = text-rows l i u f (λ x own. length x ≡ length u) refl text-length
 
-  pub frames-length : (v : Verdict) (kind : Kind) → length (framesAfter v kind l i f) ≡ length f
-  frames-length v kind = frame-rows l i u f (λ a own. length a ≡ length f) kind refl (byte-length kind) v
+  pub frames-length : (a : Act) (kind : Kind) → length (framesAfter a kind l i f) ≡ length f
+  frames-length a kind = frame-rows l i u f (λ x own. length x ≡ length f) kind refl (byte-length kind) a
 
-  pub texts-other : (v : Verdict) → Fitting v l → (k : ℕ) → i ≢ k → textsOf k (textsAfter v l i u f) ≡ textsOf k u
-  texts-other v t k m = text-rows l i u f (λ a own. textsOf k a ≡ textsOf k u) refl (λ n h. text-other n h k m) v t
+  pub texts-other : (a : Act) → Fitting a l → (k : ℕ) → i ≢ k → textsOf k (textsAfter a l i u f) ≡ textsOf k u
+  texts-other a t k m = text-rows l i u f (λ x own. textsOf k x ≡ textsOf k u) refl (λ n h. text-other n h k m) a t
 
-  pub frames-other : (v : Verdict) (kind : Kind) (k : ℕ) → i ≢ k → framesOf k (framesAfter v kind l i f) ≡ framesOf k f
-  frames-other v kind k m = frame-rows l i u f (λ a own. framesOf k a ≡ framesOf k f) kind refl (byte-other kind k m) v
+  pub frames-other : (a : Act) (kind : Kind) (k : ℕ) → i ≢ k → framesOf k (framesAfter a kind l i f) ≡ framesOf k f
+  frames-other a kind k m = frame-rows l i u f (λ x own. framesOf k x ≡ framesOf k f) kind refl (byte-other kind k m) a

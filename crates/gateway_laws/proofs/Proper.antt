@@ -1,6 +1,6 @@
--- Every verdict gives an answer of its own row.
+-- Every verdict gives an answer that goes with its act.
 -- Assumes nothing.
-use mathlib.Core.Path.{_≡_, refl, sym, subst}
+use mathlib.Core.Path.{_≡_, refl, sym, ap, subst}
 use mathlib.Core.List.{List}
 use Prim.Native.Nat.{ℕ}
 use lib.ListN.{length}
@@ -14,20 +14,35 @@ use Rattle.looking.specs.Looks.{lookOf}
 use Rattle.deciding.specs.Decisions.{objectionTo, roomOutcome}
 use Rattle.deciding.proofs.Decisions.{outcome-cases}
 use Rattle.receiving.specs.Verdicts.{outcomeVerdict, decided, ownWork, workOf, verdictOf}
-use Rattle.looking.specs.Answers.{answerOf}
 use Rattle.looking.specs.declared.Event.{Event}
 use Rattle.looking.specs.declared.Look.{Look}
 use Rattle.looking.specs.declared.Look.the-variants.{Done, Decides}
+use Rattle.answers.specs.declared.Answer.{Answer}
+use Rattle.looking.specs.declared.Act.{Act}
+use Rattle.looking.specs.declared.Act.the-variants.{Leave, Open, Close, Begin, Count, Collect, Refuse, Accept, Store, Object}
 use Rattle.looking.specs.declared.Verdict.{Verdict}
-use Rattle.looking.specs.declared.Verdict.the-variants.{Left}
+use Rattle.looking.specs.Verdicts.{Left}
 use Rattle.looking.proofs.Views.{own-parts}
 use Rattle.looking.proofs.Cases.{Cases, every-look}
 use Rattle.gateway_laws.specs.Classes.{against, classOf}
-use Rattle.gateway_laws.specs.Inner.Classes.{verdictClass}
+use Rattle.gateway_laws.specs.Inner.Classes.{actClass, Goes}
 use Rattle.gateway_laws.proofs.Found.{Found, refused, worked, verdict-found}
 
+-- an answer that goes with an act has its class
+pub goes-class : (x : Act) (a : Answer) → Goes x a → classOf a ≡ actClass x
+goes-class Leave a h = h
+goes-class Open a h = ap classOf h
+goes-class Close a h = h
+goes-class Begin a h = ap classOf h
+goes-class (Count n) a h = ap classOf h
+goes-class Collect a h = ap classOf h
+goes-class Refuse a h = h
+goes-class (Accept n) a h = ap classOf h
+goes-class (Store n) a h = ap classOf h
+goes-class (Object n) a h = h
+
 abbrev pub Proper : Verdict → Type 0
-Proper v = classOf (answerOf v) ≡ verdictClass v
+Proper v = Goes (v .act) (v .answer)
 
 abbrev LookProper : Look → Type 0
 LookProper (Done v) = Proper v
@@ -89,5 +104,5 @@ module _ (shares : List ℕ) (l : Line) (d : Ledger) (e : Event) (j u f : List �
   verdict-proper = by-found (verdictOf shares l d e j u f) (verdict-found shares l d e j u f)
     where
       by-found : (v : Verdict) → Found shares l d e j u f v → Proper v
-      by-found (Left a) (refused b q) = q
+      by-found v (refused b q) = q
       by-found v (worked w) = subst Proper (sym (w .work)) (work-proper (w .ready))

@@ -18,7 +18,7 @@ use Rattle.looking.specs.Inner.Fitting.{TextFits, Fitting}
 use Rattle.looking.specs.declared.Event.{Event}
 use Rattle.looking.specs.declared.Kind.{Kind}
 use Rattle.looking.specs.declared.Kind.the-variants.{Byte, Seconds}
-use Rattle.looking.specs.declared.Verdict.{Verdict}
+use Rattle.looking.specs.declared.Act.{Act}
 use Rattle.receiving.proofs.Pieces.{length-text}
 use Rattle.gateway_laws.specs.Inner.Own.{ownByte, ownFrames, ownTexts}
 use Rattle.gateway_laws.proofs.Rows.{text-rows, frame-rows}
@@ -40,8 +40,8 @@ module _ (l : Line) (i : ℕ) (u f : List ℕ) (ready : Ready l i u f) where
       ∙ part-around f (frameStart i) framePart (l .collected) (b ∷ []) (omega (arith, ready)) (omega (arith, within-facts l (ready .within)))
   byte-own (Seconds s) = refl
 
-  pub texts-own : (v : Verdict) → Fitting v l → textsOf i (textsAfter v l i u f) ≡ ownTexts v l (textsOf i u) (framesOf i f)
-  texts-own = text-rows l i u f (λ a own. textsOf i a ≡ own) refl text-own
+  pub texts-own : (a : Act) → Fitting a l → textsOf i (textsAfter a l i u f) ≡ ownTexts a l (textsOf i u) (framesOf i f)
+  texts-own = text-rows l i u f (λ x own. textsOf i x ≡ own) refl text-own
 
-  pub frames-own : (v : Verdict) (k : Kind) → framesOf i (framesAfter v k l i f) ≡ ownFrames v k l (framesOf i f)
-  frames-own v k = frame-rows l i u f (λ a own. framesOf i a ≡ own) k refl (byte-own k) v
+  pub frames-own : (a : Act) (k : Kind) → framesOf i (framesAfter a k l i f) ≡ ownFrames a k l (framesOf i f)
+  frames-own a k = frame-rows l i u f (λ x own. framesOf i x ≡ own) k refl (byte-own k) a

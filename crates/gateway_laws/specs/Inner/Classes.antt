@@ -1,17 +1,33 @@
--- The class that the answer of a verdict has.
+-- The answers that go with an act, and their class.
 -- Assumes nothing.
-use Rattle.looking.specs.declared.Verdict.{Verdict}
-use Rattle.looking.specs.declared.Verdict.the-variants.{Left, Opens, Closes, Begins, Counts, Collects, Refuses, Accepts, Stores, Against}
-use Rattle.gateway_laws.specs.Classes.{Class, quiet, opening, closing, refusing, accepting, storing, against}
+use mathlib.Core.Path.{_≡_}
+use Rattle.answers.specs.declared.Answer.{Answer}
+use Rattle.answers.specs.declared.Answer.the-variants.{Nothing, Opened, Accepted, Stored}
+use Rattle.looking.specs.declared.Act.{Act}
+use Rattle.looking.specs.declared.Act.the-variants.{Leave, Open, Close, Begin, Count, Collect, Refuse, Accept, Store, Object}
+use Rattle.gateway_laws.specs.Classes.{Class, quiet, opening, closing, refusing, accepting, storing, against, classOf}
 
-abbrev pub verdictClass : Verdict → Class
-verdictClass (Left a) = quiet
-verdictClass Opens = opening
-verdictClass (Closes a) = closing
-verdictClass Begins = quiet
-verdictClass (Counts n) = quiet
-verdictClass Collects = quiet
-verdictClass (Refuses a) = refusing
-verdictClass (Accepts n) = accepting
-verdictClass (Stores n) = storing
-verdictClass (Against a n) = against
+abbrev pub actClass : Act → Class
+actClass Leave = quiet
+actClass Open = opening
+actClass Close = closing
+actClass Begin = quiet
+actClass (Count n) = quiet
+actClass Collect = quiet
+actClass Refuse = refusing
+actClass (Accept n) = accepting
+actClass (Store n) = storing
+actClass (Object n) = against
+
+-- an answer goes with an act: where an act has more than one, by its class
+abbrev pub Goes : Act → Answer → Type 0
+Goes Leave a = classOf a ≡ quiet
+Goes Open a = a ≡ Opened
+Goes Close a = classOf a ≡ closing
+Goes Begin a = a ≡ Nothing
+Goes (Count n) a = a ≡ Nothing
+Goes Collect a = a ≡ Nothing
+Goes Refuse a = classOf a ≡ refusing
+Goes (Accept n) a = a ≡ Accepted
+Goes (Store n) a = a ≡ Stored
+Goes (Object n) a = classOf a ≡ against

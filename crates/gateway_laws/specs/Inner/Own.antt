@@ -8,15 +8,15 @@ use Rattle.line.specs.declared.Line.{Line}
 use Rattle.looking.specs.Views.{frameText}
 use Rattle.looking.specs.declared.Kind.{Kind}
 use Rattle.looking.specs.declared.Kind.the-variants.{Byte, Seconds}
-use Rattle.looking.specs.declared.Verdict.{Verdict}
+use Rattle.looking.specs.declared.Act.{Act}
 use Rattle.receiving.specs.Settled.{rowOf, byLength}
 
 abbrev pub ownByte : Kind → Line → List ℕ → List ℕ
 ownByte (Byte b) l frames = splice frames (l .collected) (b ∷ [])
 ownByte (Seconds s) l frames = frames
 
-abbrev pub ownFrames : Verdict → Kind → Line → List ℕ → List ℕ
-ownFrames v k l frames = cond (rowOf v .adds) (ownByte k l frames) frames
+abbrev pub ownFrames : Act → Kind → Line → List ℕ → List ℕ
+ownFrames a k l frames = cond (rowOf a .adds) (ownByte k l frames) frames
 
-abbrev pub ownTexts : Verdict → Line → List ℕ → List ℕ → List ℕ
-ownTexts v l texts frames = byLength (rowOf v .writes) texts (λ n. splice texts (l .joined) (frameText n frames))
+abbrev pub ownTexts : Act → Line → List ℕ → List ℕ → List ℕ
+ownTexts a l texts frames = byLength (rowOf a .writes) texts (λ n. splice texts (l .joined) (frameText n frames))
