@@ -18,11 +18,11 @@ use Rattle.receiving.specs.Steps.{Memory, stepOf}
 use Rattle.gateway.specs.Events.{lineAt, putBack, eventOf}
 use Rattle.looking.specs.declared.Event.{Event}
 use Rattle.gateway.specs.Gateway.{Gateway}
-use Rattle.looking.specs.declared.Verdict.{Verdict}
+use Rattle.looking.specs.declared.Act.{Act}
 use Rattle.gateway_laws.specs.Classes.{Class, quiet, opening, closing, refusing, accepting, storing, against, taking as gives, classOf}
-use Rattle.gateway_laws.specs.Inner.Classes.{verdictClass}
+use Rattle.gateway_laws.specs.Inner.Classes.{actClass}
 use Rattle.gateway_laws.proofs.Rows.{Of, of-class}
-use Rattle.gateway_laws.proofs.Proper.{verdict-proper}
+use Rattle.gateway_laws.proofs.Proper.{goes-class, verdict-proper}
 use Rattle.serial.specs.Serial.{event, taking, annotate, final, Every}
 use Rattle.promises.specs.Machine.{State, Response, GatewayItem, onLine, step, Sound}
 use Rattle.promises.specs.Runs.{fresh, answered, isFault}
@@ -48,14 +48,14 @@ abbrev isNone : List ℕ → Bool
 isNone [] = true
 isNone (v ∷ vs) = false
 
-never-gives : (c : Class) (v : Verdict) → Of c v → isGiving c ≡ false
-never-gives quiet v o = refl
-never-gives opening v o = refl
-never-gives closing v o = refl
-never-gives refusing v o = refl
-never-gives accepting v o = refl
-never-gives storing v o = refl
-never-gives against v o = refl
+never-gives : (c : Class) (x : Act) → Of c x → isGiving c ≡ false
+never-gives quiet x o = refl
+never-gives opening x o = refl
+never-gives closing x o = refl
+never-gives refusing x o = refl
+never-gives accepting x o = refl
+never-gives storing x o = refl
+never-gives against x o = refl
 
 -- and but for 8 no answer carries values
 abbrev isPlain : Answer → Bool
@@ -80,7 +80,7 @@ event-gives g e m = by-line (ltb (e .line) lines)
     by-line : (b : Bool) → isGiving (classOf (unless b (record { handled = record { gateway = g; answer = NoLine }; memory = m }) (putBack g (e .line) (stepOf todaysShares (lineAt g (e .line)) (g .ledger) e m)) .handled .answer)) ≡ false
     by-line true =
         let v = verdictOf todaysShares (lineAt g (e .line)) (g .ledger) e (m .journal) (m .unfinished) (m .frames) in
-        ap isGiving (verdict-proper todaysShares (lineAt g (e .line)) (g .ledger) e (m .journal) (m .unfinished) (m .frames)) ∙ never-gives (verdictClass v) v (of-class v)
+        ap isGiving (goes-class (v .act) (v .answer) (verdict-proper todaysShares (lineAt g (e .line)) (g .ledger) e (m .journal) (m .unfinished) (m .frames))) ∙ never-gives (actClass (v .act)) (v .act) (of-class (v .act))
     by-line false = refl
 
 -- one call: what the host sees is the gateway's response, and its numbers stand for the gateway's state then

@@ -31,7 +31,7 @@ use Rattle.looking.specs.declared.Kind.the-variants.{Byte, Seconds}
 use Rattle.looking.specs.declared.Look.{Look}
 use Rattle.looking.specs.declared.Look.the-variants.{Done}
 use Rattle.looking.specs.declared.Verdict.{Verdict}
-use Rattle.looking.specs.declared.Verdict.the-variants.{Left}
+use Rattle.looking.specs.Verdicts.{Left}
 use Rattle.receiving.specs.Verdicts.{decided, ownWork, workOf, verdictOf}
 use Rattle.receiving.specs.Steps.{Memory, AfterStep}
 use Rattle.gateway_laws.proofs.Laws.{parts-of-others}

@@ -20,7 +20,7 @@ use Rattle.looking.specs.Lent.{rightSizes}
 use Rattle.receiving.specs.Verdicts.{verdictOf}
 use Rattle.gateway.specs.Events.{AfterTake, takeOf}
 use Rattle.looking.specs.declared.Event.{Event}
-use Rattle.looking.specs.declared.Verdict.the-variants.{Left}
+use Rattle.looking.specs.Verdicts.{Left}
 use Rattle.gateway_laws.specs.Classes.{Class, classOf, quiet, opening, closing, refusing, accepting, storing, against, taking as gives}
 use Rattle.gateway_laws.proofs.Laws.{unchanged, left-unchanged, refused-unchanged}
 use Rattle.gateway_laws.proofs.Takings.{taking-refused}

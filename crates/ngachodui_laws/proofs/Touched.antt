@@ -23,7 +23,7 @@ use Rattle.receiving.specs.Settled.{ledgerAfter}
 use Rattle.receiving.specs.Verdicts.{verdictOf}
 use Rattle.receiving.specs.Steps.{Memory, stepOf}
 use Rattle.looking.specs.declared.Event.{Event}
-use Rattle.looking.specs.declared.Verdict.{Verdict}
+use Rattle.looking.specs.declared.Act.{Act}
 use Rattle.gateway_laws.proofs.Rows.{store-rows}
 
 -- one line's used count and serial are set, and nothing of another line
@@ -48,8 +48,8 @@ module _ (d : Ledger) (i : ℕ) (h : i < lines) (u : length (d .used) ≡ lines)
   unfolding grown
   by-storing n = record { used = one-set (d .used) i _ u h; serials = one-set (d .serials) i _ s h }
 
-  by-verdict : (v : Verdict) (text : ℕ → List ℕ) → Touched d i (ledgerAfter v d i text)
-  by-verdict v text = store-rows d i text [] (λ v ledger journal. Touched d i ledger) (λ v. as-it-was) (λ n. by-storing (length (text n))) v
+  by-act : (x : Act) (text : ℕ → List ℕ) → Touched d i (ledgerAfter x d i text)
+  by-act x text = store-rows d i text [] (λ y ledger journal. Touched d i ledger) (λ y. as-it-was) (λ n. by-storing (length (text n))) x
 
 -- a taking: no serial moves
 module _ (d : Ledger) (i : ℕ) (h : i < lines) (u : length (d .used) ≡ lines) where
@@ -86,4 +86,4 @@ pub step-touched : (shares : List ℕ) (l : Line) (d : Ledger) (e : Event) (m : 
     → Touched d (e .line) (stepOf shares l d e m .stepped .ledger)
 unfolding stepOf
 step-touched shares l d e m h u s =
-    by-verdict d (e .line) h u s (verdictOf shares l d e (m .journal) (m .unfinished) (m .frames)) (λ n. joinedText l n (textsOf (e .line) (m .unfinished)) (framesOf (e .line) (m .frames)))
+    by-act d (e .line) h u s (verdictOf shares l d e (m .journal) (m .unfinished) (m .frames) .act) (λ n. joinedText l n (textsOf (e .line) (m .unfinished)) (framesOf (e .line) (m .frames)))

@@ -25,12 +25,11 @@ use Rattle.looking.specs.Views.{joinedText}
 use Rattle.looking.specs.Looks.{lookOf}
 use Rattle.deciding.specs.Decisions.{objectionTo, roomOutcome}
 use Rattle.receiving.specs.Verdicts.{outcomeVerdict, decided, ownWork}
-use Rattle.looking.specs.Answers.{answerOf}
 use Rattle.looking.specs.declared.Kind.{Kind}
 use Rattle.looking.specs.declared.Look.{Look}
 use Rattle.looking.specs.declared.Look.the-variants.{Done, Decides}
 use Rattle.looking.specs.declared.Verdict.{Verdict}
-use Rattle.looking.specs.declared.Verdict.the-variants.{Stores, Against}
+use Rattle.looking.specs.Verdicts.{Stores, Against}
 use Rattle.looking.proofs.Views.{own-parts}
 use Rattle.looking.proofs.Cases.{Cases, every-look}
 use Rattle.looking.proofs.Fits.{LookFits, look-fits}
@@ -47,7 +46,7 @@ use Rattle.promises.proofs.Sound.{work, ready, event-answer, event-jour
 
 -- a look that is done decides nothing and comes to no fault: only a message that is complete is decided
 abbrev Harmless : Look → Type 0
-Harmless (Done v) = (isFault (numberOf (answerOf v)) ≡ false) × (isDecision (classOf (answerOf v)) ≡ false)
+Harmless (Done v) = (isFault (numberOf (v .answer)) ≡ false) × (isDecision (classOf (v .answer)) ≡ false)
 Harmless (Decides n) = Unit {0}
 
 harmless : (l : Line) → Cases Harmless l
@@ -88,8 +87,8 @@ module _ (s : State) (w : Intact s) (i : ℕ) (k : Kind) (line : i < lines) wher
 
   -- the answer and the store, once the verdict is known
   module _ (v : Verdict) (is : work s w i k line ≡ v) where
-    told-is : (step s (came i k)) .0 ≡ response (answerOf v) []
-    told-is = event-answer s w i k line ∙ ap (λ (x : Verdict). response (answerOf x) []) is
+    told-is : (step s (came i k)) .0 ≡ response (v .answer) []
+    told-is = event-answer s w i k line ∙ ap (λ (x : Verdict). response (x .answer) []) is
 
     store-is : storeOf ((step s (came i k)) .1) ≡ (left v i own k (storeOf s)) .2
     store-is = event-journal s w i k line ∙ ap (λ (x : Verdict). (left x i own k (storeOf s)) .2) is
@@ -103,7 +102,7 @@ module _ (s : State) (w : Intact s) (i : ℕ) (k : Kind) (line : i < lines) wher
   module _ (v : Verdict) (is : look ≡ Done v) (fits : LookFits (Done v) (own .line)) (plain : Harmless (Done v)) where
     same-store : (j : Store) → (left v i own k j) .2 ≡ j
     same-store j =
-        let (ledger, journal) = quiet-keeps v (j .ledger) i (λ n. joinedText (own .line) n (own .texts) (own .frames)) (j .journal) (fits .1) in
+        let (ledger, journal) = quiet-keeps (v .act) (j .ledger) i (λ n. joinedText (own .line) n (own .texts) (own .frames)) (j .journal) (fits .1) in
         λ z. record { ledger = ledger z; journal = journal z }
 
     passes : Passes s i k
@@ -124,7 +123,7 @@ module _ (s : State) (w : Intact s) (i : ℕ) (k : Kind) (line : i < lines) wher
     abbrev text : List ℕ
     text = joinedText (own .line) n (own .texts) (own .frames)
 
-    settles : (v : Verdict) → work s w i k line ≡ v → isDecision (classOf (answerOf v)) ≡ true → (Such : ℕ → Type 0) → Such (numberOf (answerOf v))
+    settles : (v : Verdict) → work s w i k line ≡ v → isDecision (classOf (v .answer)) ≡ true → (Such : ℕ → Type 0) → Such (numberOf (v .answer))
         → Settles s i k text Such ((left v i own k (storeOf s)) .2)
     settles v of d Such such = record {
       complete = ap (offeredBy s i) is;

@@ -30,7 +30,7 @@ use Rattle.answers.specs.declared.Answer.the-variants.{Accepted}
 use Rattle.journal_laws.specs.Runs.{State as Store}
 use Rattle.looking.specs.Looks.{endLook}
 use Rattle.looking.specs.declared.Look.the-variants.{Done}
-use Rattle.looking.specs.declared.Verdict.the-variants.{Accepts}
+use Rattle.looking.specs.Verdicts.{Accepts}
 use Rattle.promises.specs.Machine.{response}
 use Rattle.promises.specs.Sending.{Usable}
 use Rattle.promises.proofs.Feeding.{feed, ended, unanswered, ready, own-text, last, sent}

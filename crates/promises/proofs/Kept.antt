@@ -64,15 +64,15 @@ module _ (s : State) (w : Sound s) where
     abbrev after : State
     after = (afterEvent (putBack (s .gateway) i (settle (work s v i k h) (lineAt (s .gateway) i) (s .gateway .ledger) (onLine i k) (s .memory)))) .1
 
-    own-within : withinLimits (lineAfter (work s v i k h) (lineAt (s .gateway) i)) ≡ true
+    own-within : withinLimits (lineAfter (work s v i k h .act) (lineAt (s .gateway) i)) ≡ true
     own-within =
-        within-of (lineAfter (work s v i k h) (lineAt (s .gateway) i))
-        (line-within todaysShares (lineAt (s .gateway) i) (s .gateway .ledger) (onLine i k) (s .memory) (work s v i k h) (within-facts (lineAt (s .gateway) i) (w .within i h)) (fitting s v i k h))
+        within-of (lineAfter (work s v i k h .act) (lineAt (s .gateway) i))
+        (line-within todaysShares (lineAt (s .gateway) i) (s .gateway .ledger) (onLine i k) (s .memory) (work s v i k h .act) (within-facts (lineAt (s .gateway) i) (w .within i h)) (fitting s v i k h))
 
     each-within : (l : ℕ) → l < lines → withinLimits (lineAt (after .gateway) l) ≡ true
     each-within l m = elim (ℕ-discrete l i) [
-      | yes q ↦ rw (q, getD-set-same (s .gateway .lines) i (lineAfter (work s v i k h) (lineAt (s .gateway) i)) noRecord (omega (arith, w .as-many))) own-within
-      | no q ↦ rw (getD-set-other (s .gateway .lines) i l (lineAfter (work s v i k h) (lineAt (s .gateway) i)) noRecord q) (w .within l m)
+      | yes q ↦ rw (q, getD-set-same (s .gateway .lines) i (lineAfter (work s v i k h .act) (lineAt (s .gateway) i)) noRecord (omega (arith, w .as-many))) own-within
+      | no q ↦ rw (getD-set-other (s .gateway .lines) i l (lineAfter (work s v i k h .act) (lineAt (s .gateway) i)) noRecord q) (w .within l m)
     ]
 
     holds : Holds (storeOf after)
@@ -82,10 +82,10 @@ module _ (s : State) (w : Sound s) where
     event-sound =
         subst (λ (x : AfterEvent). Sound ((afterEvent x) .1)) (sym (event-is s v i k h))
         (record {
-          as-many = length-set (s .gateway .lines) i (lineAfter (work s v i k h) (lineAt (s .gateway) i)) ∙ w .as-many;
+          as-many = length-set (s .gateway .lines) i (lineAfter (work s v i k h .act) (lineAt (s .gateway) i)) ∙ w .as-many;
           within = each-within;
-          texts = texts-length (lineAt (s .gateway) i) i (s .memory .unfinished) (s .memory .frames) (ready s v i k h) (work s v i k h) (fitting s v i k h) ∙ w .texts;
-          frames = frames-length (lineAt (s .gateway) i) i (s .memory .unfinished) (s .memory .frames) (ready s v i k h) (work s v i k h) k ∙ w .frames;
+          texts = texts-length (lineAt (s .gateway) i) i (s .memory .unfinished) (s .memory .frames) (ready s v i k h) (work s v i k h .act) (fitting s v i k h) ∙ w .texts;
+          frames = frames-length (lineAt (s .gateway) i) i (s .memory .unfinished) (s .memory .frames) (ready s v i k h) (work s v i k h .act) k ∙ w .frames;
           entries = holds .entries;
           held = holds .held;
         })

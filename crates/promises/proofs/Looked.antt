@@ -16,7 +16,7 @@ use Rattle.faults.proofs.Messages.{message-ends, message-decided}
 use Rattle.cutting.specs.Pieces.{endAfter}
 use Rattle.looking.specs.Looks.{endLook}
 use Rattle.looking.specs.declared.Look.the-variants.{Done, Decides}
-use Rattle.looking.specs.declared.Verdict.the-variants.{Accepts}
+use Rattle.looking.specs.Verdicts.{Accepts}
 use Rattle.promises.proofs.Fronts.{front-decided}
 
 -- the last byte of t stands last in x ++ t

@@ -55,7 +55,7 @@ module _ (s : State) (w : Intact s) (i : ℕ) (k : Kind) (h : i < lines) where
   pub ready : Ready own i (s .memory .unfinished) (s .memory .frames)
   ready = record { line = h; within = w .within i h; texts = w .texts; bytes = w .frames }
 
-  pub fitting : Fitting work own
+  pub fitting : Fitting (work .act) own
   fitting = work-fits todaysShares own (s .gateway .ledger) (onLine i k) (s .memory .journal) (s .memory .unfinished) (s .memory .frames) ready
 
   pub event-is : eventOf todaysShares (s .gateway) (onLine i k) (s .memory) ≡ putBack (s .gateway) i (settle work own (s .gateway .ledger) (onLine i k) (s .memory))
@@ -78,15 +78,15 @@ module _ (s : State) (w : Intact s) (i : ℕ) (k : Kind) (h : i < lines) where
   -- its own line has what acting leaves of its parts
   pub event-own : partsOf ((step s (came i k)) .1) i ≡ (onEvent i (partsOf s i) k (storeOf s)) .1
   event-own =
-      let records = getD-set-same (s .gateway .lines) i (lineAfter work own) noRecord (omega (arith, w .as-many)) in
-      let texts = texts-own own i (s .memory .unfinished) (s .memory .frames) ready work fitting in
-      let frames = frames-own own i (s .memory .unfinished) (s .memory .frames) ready work k in
+      let records = getD-set-same (s .gateway .lines) i (lineAfter (work .act) own) noRecord (omega (arith, w .as-many)) in
+      let texts = texts-own own i (s .memory .unfinished) (s .memory .frames) ready (work .act) fitting in
+      let frames = frames-own own i (s .memory .unfinished) (s .memory .frames) ready (work .act) k in
       ap (λ (x : AfterEvent). partsOf ((afterEvent x) .1) i) event-is ∙ same-parts _ _ records texts frames
 
   -- and every other line what it had
   pub event-others : (l : ℕ) → l ≢ i → partsOf ((step s (came i k)) .1) l ≡ partsOf s l
   event-others l n =
-      let records = getD-set-other (s .gateway .lines) i l (lineAfter work own) noRecord n in
-      let texts = texts-other own i (s .memory .unfinished) (s .memory .frames) ready work fitting l (λ q. n (sym q)) in
-      let frames = frames-other own i (s .memory .unfinished) (s .memory .frames) ready work k l (λ q. n (sym q)) in
+      let records = getD-set-other (s .gateway .lines) i l (lineAfter (work .act) own) noRecord n in
+      let texts = texts-other own i (s .memory .unfinished) (s .memory .frames) ready (work .act) fitting l (λ q. n (sym q)) in
+      let frames = frames-other own i (s .memory .unfinished) (s .memory .frames) ready (work .act) k l (λ q. n (sym q)) in
       ap (λ (x : AfterEvent). partsOf ((afterEvent x) .1) l) event-is ∙ same-parts _ _ records texts frames

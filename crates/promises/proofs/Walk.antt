@@ -31,7 +31,7 @@ use Rattle.deciding.specs.Decisions.{outcomeOf}
 use Rattle.receiving.specs.Verdicts.{decisionOf, decided}
 use Rattle.looking.specs.declared.Kind.the-variants.{Byte}
 use Rattle.looking.specs.declared.Verdict.{Verdict}
-use Rattle.looking.specs.declared.Verdict.the-variants.{Stores}
+use Rattle.looking.specs.Verdicts.{Stores}
 use Rattle.looking.specs.declared.Look.{Look}
 use Rattle.looking.specs.declared.Look.the-variants.{Decides}
 use Rattle.promises.specs.Machine.{Response, response, Parts}

@@ -7,7 +7,6 @@ use Rattle.journal.specs.Removal.{takeOf as takeEntry}
 use Rattle.journal_laws.specs.Runs.{State as Store}
 use Rattle.looking.specs.Views.{joinedText}
 use Rattle.receiving.specs.Verdicts.{ownWork}
-use Rattle.looking.specs.Answers.{answerOf}
 use Rattle.receiving.specs.Settled.{lineAfter, ledgerAfter, journalAfter}
 use Rattle.taking.specs.Taking.{tookAnswer}
 use Rattle.looking.specs.declared.Kind.{Kind}
@@ -18,11 +17,11 @@ use Rattle.promises.specs.Machine.{Response, response, Parts}
 -- an event by its line's parts and the store alone
 abbrev pub left : Verdict → ℕ → Parts → Kind → Store → Response × Parts × Store
 left v i p k j = (
-  response (answerOf v) [],
-  record { line = lineAfter v (p .line); texts = ownTexts v (p .line) (p .texts) (p .frames); frames = ownFrames v k (p .line) (p .frames) },
+  response (v .answer) [],
+  record { line = lineAfter (v .act) (p .line); texts = ownTexts (v .act) (p .line) (p .texts) (p .frames); frames = ownFrames (v .act) k (p .line) (p .frames) },
   record {
-    ledger = ledgerAfter v (j .ledger) i (λ n. joinedText (p .line) n (p .texts) (p .frames));
-    journal = journalAfter v (j .ledger) i (λ n. joinedText (p .line) n (p .texts) (p .frames)) (j .journal);
+    ledger = ledgerAfter (v .act) (j .ledger) i (λ n. joinedText (p .line) n (p .texts) (p .frames));
+    journal = journalAfter (v .act) (j .ledger) i (λ n. joinedText (p .line) n (p .texts) (p .frames)) (j .journal);
   },
 )
 
