@@ -24,7 +24,7 @@ use Rattle.line.specs.declared.Line.{Line}
 use Rattle.looking.specs.Views.{framesOf, textsOf, joinedText}
 use Rattle.deciding.specs.Decisions.{roomOutcome}
 use Rattle.deciding.proofs.Decisions.{outcome-cases}
-use Rattle.receiving.specs.Verdicts.{outcomeAct, decisionOf}
+use Rattle.receiving.specs.Verdicts.{fateAct, decisionOf}
 use Rattle.looking.specs.Lent.{rightSizes}
 use Rattle.receiving.specs.Settled.{ledgerAfter}
 use Rattle.receiving.specs.Steps.{Memory}
@@ -44,7 +44,7 @@ module _ (d : Ledger) (i : ℕ) (j : List ℕ) (w : Narrow d) where
       omega (arith, k .whole .room, f .long, f .high, head-size-high n)
 
   module _ (text : ℕ → List ℕ) (n : ℕ) where
-    room-narrow : (q : Judgement) → judgeOf d todaysShares i (length (text n)) j ≡ q → Narrow (ledgerAfter (outcomeAct (roomOutcome q) n) d i text)
+    room-narrow : (q : Judgement) → judgeOf d todaysShares i (length (text n)) j ≡ q → Narrow (ledgerAfter (fateAct (roomOutcome q .fate) n) d i text)
     room-narrow Judgement.Fits e = grown-narrow (length (text n)) (ap isFits e)
     room-narrow Judgement.NoRoom e = w
     room-narrow Judgement.Broken e = w
@@ -53,7 +53,7 @@ module _ (d : Ledger) (i : ℕ) (j : List ℕ) (w : Narrow d) where
     room-narrow Judgement.Malformed e = w
 
     decision-narrow : Narrow (ledgerAfter (decisionOf todaysShares d i n (text n) j .act) d i text)
-    decision-narrow = outcome-cases todaysShares d i (text n) j (λ o. Narrow (ledgerAfter (outcomeAct o n) d i text)) w (room-narrow (judgeOf d todaysShares i (length (text n)) j) refl)
+    decision-narrow = outcome-cases todaysShares d i (text n) j (λ o. Narrow (ledgerAfter (fateAct (o .fate) n) d i text)) w (room-narrow (judgeOf d todaysShares i (length (text n)) j) refl)
 
 module _ (l : Line) (d : Ledger) (e : Event) (m : Memory) (w : Narrow d) where
   abbrev own-text : ℕ → List ℕ

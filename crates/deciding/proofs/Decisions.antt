@@ -20,9 +20,8 @@ use Rattle.answers.specs.Paper.{numberOf}
 use Rattle.answers.specs.Inner.Objections.{isObjection}
 use Rattle.answers.specs.declared.Answer.{Answer}
 use Rattle.answers.specs.declared.Answer.the-variants.{NoMessage}
-use Rattle.deciding.specs.Decisions.{objectionTo, roomOutcome, outcomeOf, ledgerBy, journalBy, DecidedBy, Decision}
+use Rattle.deciding.specs.Decisions.{Against, objectionTo, roomOutcome, outcomeOf, ledgerBy, journalBy, DecidedBy, Decision}
 use Rattle.deciding.specs.declared.Outcome.{Outcome}
-use Rattle.deciding.specs.declared.Outcome.the-variants.{Against}
 use Rattle.deciding.specs.declared.Decided.{Decided}
 
 -- a decision is known by its text
@@ -37,8 +36,8 @@ objection-number text = refl
 -- what the journal's storing leaves is what its answer comes to
 room-row : (q : Judgement) (d : Ledger) (i : ℕ) (text j : List ℕ)
     → (storeBy q d i text j .storing .answer ≡ q)
-    × (storeBy q d i text j .storing .ledger ≡ ledgerBy (roomOutcome q) d i text)
-    × (storeBy q d i text j .journal ≡ journalBy (roomOutcome q) d i text j)
+    × (storeBy q d i text j .storing .ledger ≡ ledgerBy (roomOutcome q .fate) d i text)
+    × (storeBy q d i text j .journal ≡ journalBy (roomOutcome q .fate) d i text j)
 room-row Judgement.Fits d i text j = (refl, refl, refl)
 room-row Judgement.NoRoom d i text j = (refl, refl, refl)
 room-row Judgement.Broken d i text j = (refl, refl, refl)
@@ -69,13 +68,13 @@ module _ (d : Ledger) (i : ℕ) (text j : List ℕ) where
   decision-by : (o : Outcome) {r : Decided} {j′ : List ℕ} → outcomeOf todaysShares d i text j ≡ o → DecidedBy o d i text j r j′ → Decision d i text j r j′
   decision-by o {r} {j′} e h = subst (λ (x : Outcome). DecidedBy x d i text j r j′) (sym e) h
 
-  pub no-message : (a : Answer) → a ≡ objectionTo text → isMessage text ≡ false → Decision d i text j (record { outcome = Against a; ledger = d }) j
-  no-message a of e = decision-by (Against (objectionTo text)) (is-objection todaysShares d i text j e) (record { outcome = ap Against of; ledger = refl; journal = refl })
+  pub no-message : (o : Outcome) → o ≡ Against (objectionTo text) → isMessage text ≡ false → Decision d i text j (record { outcome = o; ledger = d }) j
+  no-message o of e = decision-by (Against (objectionTo text)) (is-objection todaysShares d i text j e) (record { outcome = of; ledger = refl; journal = refl })
 
   -- a text that is longer than any message
-  pub too-long : messageLimit < length text → Decision d i text j (record { outcome = Against NoMessage; ledger = d }) j
+  pub too-long : (o : Outcome) → o ≡ Against NoMessage → messageLimit < length text → Decision d i text j (record { outcome = o; ledger = d }) j
   unfolding objectionTo
-  too-long h = no-message NoMessage refl (is-false (isMessage text) (λ m. absurd (omega (arith, message-short _ text m, h))))
+  too-long o of h = no-message o of (is-false (isMessage text) (λ m. absurd (omega (arith, message-short _ text m, h))))
 
   pub by-store : (s : Storing) (o : Outcome) (j′ : List ℕ) → isMessage text ≡ true → Stored d todaysShares i text j s j′ → o ≡ roomOutcome (s .answer) → Decision d i text j (record { outcome = o; ledger = s .ledger }) j′
   unfolding storeOf

@@ -4,9 +4,7 @@ use mathlib.Core.Path.{_≡_, sym, _∙_}
 use mathlib.Core.List.{List}
 use Prim.Native.Nat.{ℕ}
 use Rattle.journal.specs.declared.Ledger.{Ledger}
-use Rattle.deciding.specs.Decisions.{outcomeAnswer, Decision}
-use Rattle.answers.specs.declared.Answer.{Answer}
-use Rattle.deciding.specs.declared.Outcome.{Outcome}
+use Rattle.deciding.specs.Decisions.{Decision}
 use Rattle.deciding.specs.declared.Decided.{Decided}
 
 -- `decide`

@@ -14,8 +14,22 @@ use Rattle.journal.specs.declared.Verdict.{Verdict as Judgement}
 use Rattle.answers.specs.declared.Answer.{Answer}
 use Rattle.answers.specs.declared.Answer.the-variants.{Stored as IsStored, NoMessage, NoRoom, NoLine, WrongSize, Broken}
 use Rattle.deciding.specs.declared.Outcome.{Outcome}
-use Rattle.deciding.specs.declared.Outcome.the-variants.{Stored, Against, Left}
+use Rattle.deciding.specs.declared.Fate.{Fate}
+use Rattle.deciding.specs.declared.Fate.the-variants.{Store, Object, Leave}
 use Rattle.deciding.specs.declared.Decided.{Decided}
+
+abbrev pub outcomeWith : Fate → Answer → Outcome
+outcomeWith fate answer = record { fate = fate; answer = answer }
+
+-- the text is stored; it is decided against; or everything is left as it was
+abbrev pub Stored : Outcome
+Stored = outcomeWith Store IsStored
+
+abbrev pub Against : Answer → Outcome
+Against a = outcomeWith Object a
+
+abbrev pub Left : Answer → Outcome
+Left a = outcomeWith Leave a
 
 -- what the journal says of a message: 43, 31, or it is stored. That it has no line, no right size or no text is never asked here. [A31, A43]
 abbrev pub roomOutcome : Judgement → Outcome
@@ -34,29 +48,23 @@ objectionTo text = NoMessage
 unfoldable pub outcomeOf : List ℕ → Ledger → ℕ → List ℕ → List ℕ → Outcome
 outcomeOf shares d i text journal = unless (isMessage text) (Against (objectionTo text)) (roomOutcome (judgeOf d shares i (length text) journal))
 
--- the answer
-abbrev pub outcomeAnswer : Outcome → Answer
-outcomeAnswer Stored = IsStored
-outcomeAnswer (Against a) = a
-outcomeAnswer (Left a) = a
-
 -- the ledger
-abbrev pub ledgerBy : Outcome → Ledger → ℕ → List ℕ → Ledger
-ledgerBy Stored d i text = grown d i (length text)
-ledgerBy (Against a) d i text = d
-ledgerBy (Left a) d i text = d
+abbrev pub ledgerBy : Fate → Ledger → ℕ → List ℕ → Ledger
+ledgerBy Store d i text = grown d i (length text)
+ledgerBy Object d i text = d
+ledgerBy Leave d i text = d
 
 -- the journal
-abbrev pub journalBy : Outcome → Ledger → ℕ → List ℕ → List ℕ → List ℕ
-journalBy Stored d i text journal = appended d i text journal
-journalBy (Against a) d i text journal = journal
-journalBy (Left a) d i text journal = journal
+abbrev pub journalBy : Fate → Ledger → ℕ → List ℕ → List ℕ → List ℕ
+journalBy Store d i text journal = appended d i text journal
+journalBy Object d i text journal = journal
+journalBy Leave d i text journal = journal
 
 -- what deciding a text says, with the outcome o
 pub record DecidedBy (o : Outcome) (d : Ledger) (i : ℕ) (text j : List ℕ) (r : Decided) (j′ : List ℕ) : Type 0 where
   pub outcome : r .outcome ≡ o
-  pub ledger : r .ledger ≡ ledgerBy o d i text
-  pub journal : j′ ≡ journalBy o d i text j
+  pub ledger : r .ledger ≡ ledgerBy (o .fate) d i text
+  pub journal : j′ ≡ journalBy (o .fate) d i text j
 
 abbrev pub Decision : Ledger → ℕ → List ℕ → List ℕ → Decided → List ℕ → Type 0
 Decision d i text j r j′ = DecidedBy (outcomeOf todaysShares d i text j) d i text j r j′

@@ -3,16 +3,22 @@ ghost use mathlib.Core.Path.{_≡_};
 ghost use mathlib.Core.List.{_++_};
 ghost use lib.ListN.{length};
 ghost use Rattle.memory.specs.Sizes.{messageLimit};
-ghost use Rattle.deciding.specs.Decisions.{objectionTo, roomOutcome, outcomeAnswer, Decision};
+ghost use Rattle.deciding.specs.Decisions.{outcomeWith, objectionTo, roomOutcome, Decision};
 ghost use Rattle.deciding.specs.Inner.Joined.{Joined};
 use answers::Answer;
 use journal::Ledger;
 
-// What a decision comes to: the text is stored or decided against, or everything is left as it was.
-pub enum Outcome {
-    Stored,
-    Against(Answer),
-    Left(Answer),
+// What becomes of a text: it is stored or decided against, or everything is left as it was.
+pub enum Fate {
+    Store,
+    Object,
+    Leave,
+}
+
+// What a decision comes to.
+pub struct Outcome {
+    pub fate: Fate,
+    pub answer: Answer,
 }
 
 pub struct Decided {
@@ -42,7 +48,7 @@ fn in_place(
 {
     if !join(place, old, new) {
         return Decided {
-            outcome: Outcome::Against(Answer::NoMessage),
+            outcome: comes_to(Fate::Object, Answer::NoMessage),
             ledger,
         };
     }
@@ -66,7 +72,7 @@ fn of_text(ledger: Ledger, line: u8, text: &[u8], journal: &mut [u8]) -> Decided
 {
     if !message::is_message(text) {
         return Decided {
-            outcome: Outcome::Against(objection(text)),
+            outcome: comes_to(Fate::Object, objection(text)),
             ledger,
         };
     }
@@ -91,24 +97,17 @@ fn by_room(answer: journal::Verdict) -> Outcome
     ensures { λ r. ⌜ r ≡ roomOutcome answer ⌝ }
 {
     match answer {
-        journal::Verdict::Fits => Outcome::Stored,
-        journal::Verdict::NoRoom => Outcome::Against(Answer::NoRoom),
-        journal::Verdict::Broken => Outcome::Left(Answer::Broken),
-        journal::Verdict::NoLine => Outcome::Left(Answer::NoLine),
-        journal::Verdict::WrongSize => Outcome::Left(Answer::WrongSize),
-        journal::Verdict::Malformed => Outcome::Against(Answer::NoMessage),
+        journal::Verdict::Fits => comes_to(Fate::Store, Answer::Stored),
+        journal::Verdict::NoRoom => comes_to(Fate::Object, Answer::NoRoom),
+        journal::Verdict::Broken => comes_to(Fate::Leave, Answer::Broken),
+        journal::Verdict::NoLine => comes_to(Fate::Leave, Answer::NoLine),
+        journal::Verdict::WrongSize => comes_to(Fate::Leave, Answer::WrongSize),
+        journal::Verdict::Malformed => comes_to(Fate::Object, Answer::NoMessage),
     }
 }
 
-impl Outcome {
-    // The answer that an outcome gives.
-    pub fn answer(self) -> Answer
-        ensures { λ r. ⌜ r ≡ outcomeAnswer self ⌝ }
-    {
-        match self {
-            Outcome::Stored => Answer::Stored,
-            Outcome::Against(a) => a,
-            Outcome::Left(a) => a,
-        }
-    }
+fn comes_to(fate: Fate, answer: Answer) -> Outcome
+    ensures { λ r. ⌜ r ≡ outcomeWith fate answer ⌝ }
+{
+    Outcome { fate, answer }
 }

@@ -1,4 +1,4 @@
--- An act and an outcome are known by their case.
+-- An act and a fate are known by their case.
 -- Assumes nothing.
 use mathlib.Core.Path.{_≡_, sym, subst, ap, _∙_}
 use mathlib.Core.Bool.{true}
@@ -8,8 +8,8 @@ use Rattle.line.specs.declared.Line.{Line}
 use Rattle.looking.specs.Inner.Ready.{Ready}
 use Rattle.looking.specs.Inner.Fitting.{Fitting, Quiet, writes}
 use Rattle.receiving.specs.Inner.Settled.{Settled}
-use Rattle.deciding.specs.declared.Outcome.{Outcome}
-use Rattle.receiving.specs.Verdicts.{outcomeAct}
+use Rattle.deciding.specs.declared.Fate.{Fate}
+use Rattle.receiving.specs.Verdicts.{fateAct}
 use Rattle.looking.specs.declared.Kind.{Kind}
 use Rattle.looking.specs.declared.Act.{Act}
 
@@ -26,5 +26,5 @@ quiet-as e s = subst Quiet e s
 pub ready-as : {v w : Act} {l : Line} {i : ℕ} {u f : List ℕ} → v ≡ w → writes w ≡ true → Fitting v l × Quiet v × (writes v ≡ true → Ready l i u f) → Ready l i u f
 ready-as e t p = p .2 (ap writes e ∙ t)
 
-pub closed-as : {o p : Outcome} (n : ℕ) {k : Kind} {l : Line} {i : ℕ} {u f : List ℕ} {r : Line} {u′ f′ : List ℕ} → o ≡ p → Settled (outcomeAct p n) k l i u f r u′ f′ → Settled (outcomeAct o n) k l i u f r u′ f′
-closed-as n e s = settled-as (ap (λ (x : Outcome). outcomeAct x n) e) s
+pub closed-as : {o p : Fate} (n : ℕ) {k : Kind} {l : Line} {i : ℕ} {u f : List ℕ} {r : Line} {u′ f′ : List ℕ} → o ≡ p → Settled (fateAct p n) k l i u f r u′ f′ → Settled (fateAct o n) k l i u f r u′ f′
+closed-as n e s = settled-as (ap (λ (x : Fate). fateAct x n) e) s

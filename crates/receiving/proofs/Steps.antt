@@ -13,7 +13,8 @@ use Rattle.memory.specs.Tests.{unless}
 use Rattle.memory.proofs.Tests.{and-left, and-right}
 use Rattle.room.specs.Room.{todaysShares}
 use Rattle.journal.specs.declared.Ledger.{Ledger}
-use Rattle.deciding.specs.Decisions.{outcomeOf, outcomeAnswer, ledgerBy, journalBy}
+use Rattle.deciding.specs.Decisions.{outcomeOf, ledgerBy, journalBy}
+use Rattle.deciding.specs.declared.Fate.{Fate}
 use Rattle.deciding.specs.declared.Outcome.{Outcome}
 use Rattle.deciding.specs.declared.Decided.{Decided}
 use Rattle.line.specs.Line.{withinLimits}
@@ -26,7 +27,7 @@ use Rattle.looking.specs.Lent.{rightLengths, rightSizes}
 use Rattle.looking.specs.Looks.{lookOf, lookAlone}
 use Rattle.looking.specs.Fitting.{textFits}
 use Rattle.looking.specs.Inner.Fitting.{TextFits}
-use Rattle.receiving.specs.Verdicts.{outcomeAct, decided, ownWork, verdictOf}
+use Rattle.receiving.specs.Verdicts.{fateAct, decided, ownWork, verdictOf}
 use Rattle.receiving.specs.Settled.{lineAfter, textsAfter, framesAfter, ledgerAfter, journalAfter}
 use Rattle.receiving.specs.Inner.Settled.{Settled}
 use Rattle.receiving.specs.declared.completing.Tested.{Tested}
@@ -46,11 +47,11 @@ use Rattle.looking.proofs.Alone.{Acts, alone-acts, ready}
 use Rattle.receiving.proofs.Fits.{quiet-keeps}
 
 -- a decision stores the text of its own frame: what the line would have with another length does not matter
-outcome-row : (o : Outcome) (d : Ledger) (i n : ℕ) (text : ℕ → List ℕ) (j : List ℕ)
-    → (ledgerBy o d i (text n) ≡ ledgerAfter (outcomeAct o n) d i text) × (journalBy o d i (text n) j ≡ journalAfter (outcomeAct o n) d i text j)
-outcome-row Outcome.Stored d i n text j = (refl, refl)
-outcome-row (Outcome.Against a) d i n text j = (refl, refl)
-outcome-row (Outcome.Left a) d i n text j = (refl, refl)
+fate-row : (o : Fate) (d : Ledger) (i n : ℕ) (text : ℕ → List ℕ) (j : List ℕ)
+    → (ledgerBy o d i (text n) ≡ ledgerAfter (fateAct o n) d i text) × (journalBy o d i (text n) j ≡ journalAfter (fateAct o n) d i text j)
+fate-row Fate.Store d i n text j = (refl, refl)
+fate-row Fate.Object d i n text j = (refl, refl)
+fate-row Fate.Leave d i n text j = (refl, refl)
 
 -- lent memory is known by its three parts
 memory-is : {a b : Memory} → a .journal ≡ b .journal → a .unfinished ≡ b .unfinished → a .frames ≡ b .frames → a ≡ b
@@ -202,16 +203,16 @@ module _ (l : Line) (d : Ledger) (e : Event) (n : ℕ) (j u f : List ℕ) where
   module _ (r : Stepped) where
     -- what the decision and its row leave
     pub decision-settled : (c : Decided) (k : Line) (a : Answer) (j′ u′ f′ : List ℕ) → Completion l d (e .line) n j u f c j′
-        → Settled (outcomeAct (c .outcome) n) (e .kind) l (e .line) u f k u′ f′ → a ≡ outcomeAnswer (c .outcome) → r ≡ record { line = k; ledger = c .ledger; answer = a } → Completing l d e n (memoryOf j u f) r (memoryOf j′ u′ f′)
+        → Settled (fateAct (c .outcome .fate) n) (e .kind) l (e .line) u f k u′ f′ → a ≡ c .outcome .answer → r ≡ record { line = k; ledger = c .ledger; answer = a } → Completing l d e n (memoryOf j u f) r (memoryOf j′ u′ f′)
     decision-settled c k a j′ u′ f′ t s p q =
         let text : ℕ → List ℕ = λ m. joinedText l m (textsOf (e .line) u) (framesOf (e .line) f) in
         let o : Outcome = outcomeOf todaysShares d (e .line) (text n) j in
-        let act : Act = outcomeAct o n in
-        let (ledger, journal) = outcome-row o d (e .line) n text j in
-        let is : outcomeAct (c .outcome) n ≡ act = ap (λ (x : Outcome). outcomeAct x n) (t .outcome) in
+        let act : Act = fateAct (o .fate) n in
+        let (ledger, journal) = fate-row (o .fate) d (e .line) n text j in
+        let is : fateAct (c .outcome .fate) n ≡ act = ap (λ (x : Outcome). fateAct (x .fate) n) (t .outcome) in
         let booked : c .ledger ≡ ledgerAfter act d (e .line) text = t .ledger ∙ ledger in
-        let says : a ≡ outcomeAnswer o = p ∙ ap outcomeAnswer (t .outcome) in
+        let says : a ≡ o .answer = p ∙ ap (λ (x : Outcome). x .answer) (t .outcome) in
         record {
-          result = q ∙ rw (s .line, says, booked) (ap (λ (x : Act). record { line = lineAfter x l; ledger = ledgerAfter act d (e .line) text; answer = outcomeAnswer o }) is);
+          result = q ∙ rw (s .line, says, booked) (ap (λ (x : Act). record { line = lineAfter x l; ledger = ledgerAfter act d (e .line) text; answer = o .answer }) is);
           memory = memory-is (t .journal ∙ journal) (s .texts ∙ ap (λ (x : Act). textsAfter x l (e .line) u f) is) (s .frames ∙ ap (λ (x : Act). framesAfter x (e .kind) l (e .line) f) is);
         }

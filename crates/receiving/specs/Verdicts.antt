@@ -6,7 +6,8 @@ use lib.Dec.{ltb}
 use Rattle.memory.specs.Sizes.{lines}
 use Rattle.memory.specs.Tests.{unless}
 use Rattle.journal.specs.declared.Ledger.{Ledger}
-use Rattle.deciding.specs.Decisions.{outcomeOf, outcomeAnswer}
+use Rattle.deciding.specs.Decisions.{outcomeOf}
+use Rattle.deciding.specs.declared.Fate.{Fate}
 use Rattle.deciding.specs.declared.Outcome.{Outcome}
 use Rattle.line.specs.Line.{withinLimits}
 use Rattle.line.specs.declared.Line.{Line}
@@ -23,14 +24,14 @@ use Rattle.looking.specs.declared.Act.the-variants.{Leave, Store, Object}
 use Rattle.looking.specs.declared.Verdict.{Verdict}
 use Rattle.looking.specs.Verdicts.{verdict, Left}
 
--- what an outcome of deciding does with its line, where the text ends with n bytes of its frame, and the verdict that it is
-abbrev pub outcomeAct : Outcome → ℕ → Act
-outcomeAct Outcome.Stored n = Store n
-outcomeAct (Outcome.Against a) n = Object n
-outcomeAct (Outcome.Left a) n = Leave
+-- what is done with a line by the fate of its text, which ends with n bytes of its frame, and the verdict that the outcome of deciding is
+abbrev pub fateAct : Fate → ℕ → Act
+fateAct Fate.Store n = Store n
+fateAct Fate.Object n = Object n
+fateAct Fate.Leave n = Leave
 
 abbrev pub outcomeVerdict : Outcome → ℕ → Verdict
-outcomeVerdict o n = verdict (outcomeAct o n) (outcomeAnswer o)
+outcomeVerdict o n = verdict (fateAct (o .fate) n) (o .answer)
 
 -- a complete text is decided: the records, then the journal
 abbrev pub decisionOf : List ℕ → Ledger → ℕ → ℕ → List ℕ → List ℕ → Verdict

@@ -34,8 +34,9 @@ pub fn by_decision(
     let decided = complete(line, ledger, e.line, n, journal, unfinished, frames);
     let outcome = decided.outcome;
     let booked = decided.ledger;
-    let after = settling::close(line, i, kind, n, outcome, unfinished, frames);
-    let answer = outcome.answer();
+    let fate = outcome.fate;
+    let answer = outcome.answer;
+    let after = settling::close(line, i, kind, n, fate, unfinished, frames);
     Stepped {
         line: after,
         ledger: booked,

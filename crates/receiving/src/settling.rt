@@ -8,10 +8,10 @@ ghost use Rattle.line.specs.Line.{withinLimits, collectedLine, waitingLine};
 ghost use Rattle.looking.specs.Inner.Ready.{Ready};
 ghost use Rattle.looking.specs.Inner.Fitting.{TextFits, Fitting, Quiet, writes};
 ghost use Rattle.looking.specs.declared.Act.the-variants.{Accept};
-ghost use Rattle.receiving.specs.Verdicts.{outcomeAct};
+ghost use Rattle.receiving.specs.Verdicts.{fateAct};
 ghost use Rattle.receiving.specs.Settled.{withByte, withText};
 ghost use Rattle.receiving.specs.Inner.Settled.{Settled};
-use deciding::Outcome;
+use deciding::Fate;
 use line::Line;
 use looking::Act;
 use looking::Kind;
@@ -79,23 +79,23 @@ pub fn close(
     i: usize,
     kind: Kind,
     n: usize,
-    outcome: Outcome,
+    fate: Fate,
     unfinished: &mut [u8],
     frames: &mut [u8],
 ) -> Line
     requires { ⌜ Ready line i (now unfinished) (now frames) × TextFits line n ⌝ }
-    ensures { λ r. ⌜ Settled (outcomeAct outcome n) kind line i (now (unfinished .entry)) (now (frames .entry)) r (now (unfinished .exit)) (now (frames .exit)) ⌝ }
+    ensures { λ r. ⌜ Settled (fateAct fate n) kind line i (now (unfinished .entry)) (now (frames .entry)) r (now (unfinished .exit)) (now (frames .exit)) ⌝ }
 {
-    match outcome {
-        Outcome::Stored => {
+    match fate {
+        Fate::Store => {
             write_frame(line, i, kind, n, unfinished, frames);
             line.accepted(0)
         }
-        Outcome::Against(_) => {
+        Fate::Object => {
             write_frame(line, i, kind, n, unfinished, frames);
             line.against()
         }
-        Outcome::Left(_) => line,
+        Fate::Leave => line,
     }
 }
 

@@ -1,22 +1,22 @@
 -- `deciding::of_text` meets its contract: the storing judges and stores in one.
 -- Assumes nothing.
-use borrow.Author.Needs.{needs}
-use mathlib.Core.Path.{sym, _∙_}
+use mathlib.Core.Path.{sym, ap, _∙_}
 use denote.Ref.{now}
 use borrow.Author.Tests.{not-true, not-false}
+use Rattle.deciding.specs.Decisions.{Against}
 use Rattle.deciding.proofs.Decisions.{no-message, by-store}
+use borrow.Author.Needs.{needs}
 use Rattle.deciding.proofs.of_text.Statement.{statement}
 use Rattle.deciding.proofs.of_text.Tie as tie
 
 returns : tie.Need-returns
-returns c =
-    let t = c .before .before in
+returns c = let asked = c .before in
+    let t = asked .before .before in
     let a = t .before .before .before .args in
-    no-message (a .ledger) (a .line) (now (a .text)) (now (a .journal)) _ (c .objection .ensures) (sym (t .is-message .ensures) ∙ not-true _ (c .before .if1 .taken))
+    no-message (a .ledger) (a .line) (now (a .text)) (now (a .journal)) _ (c .comes-to .ensures ∙ ap Against (asked .objection .ensures)) (sym (t .is-message .ensures) ∙ not-true _ (asked .before .if1 .taken))
 
 returns-2 : tie.Need-returns-2
-returns-2 c =
-    let s = c .before .before .before .before in
+returns-2 c = let s = c .before .before .before .before in
     let h = s .before .before in
     let t = h .before .before in
     let a = t .before .before .before .args in
@@ -26,6 +26,7 @@ pub of-text-spec : {M : Type 1} → statement M
 of-text-spec =
     tie.close
     (tie.spec
+    (λ c κs. search needs)
     (λ c κs. search needs)
     (λ c κs. search needs)
     returns

@@ -13,18 +13,17 @@ entry c = let asked = c .before .before .before .before in asked .before .before
 
 returns : tie.Need-returns
 returns c =
-    let closed = c .before .before .before .before .before in
+    let closed = c .before .before .before .before in
     let booked = closed .before .before .before in
-    let decided = booked .before .before .before in
+    let decided = booked .before .before .before .before in
     let a = entry decided .args in
-    decision-settled (a .line) (a .ledger) (a .e) (a .n) (now (a .journal)) (now (a .unfinished)) (now (a .frames)) _ _ _ _ _ _ _ (decided .complete .ensures) (closed .close .ensures) (c .answer .ensures) refl
+    decision-settled (a .line) (a .ledger) (a .e) (a .n) (now (a .journal)) (now (a .unfinished)) (now (a .frames)) _ _ _ _ _ _ _ (decided .complete .ensures) (closed .close .ensures) refl refl
 
 pub by-decision-spec : {M : Type 1} → statement M
 by-decision-spec =
     tie.close
     (tie.spec
     (λ c. search needs)
-    (λ c κs. search needs)
     (λ c κs. search needs)
     (λ c κs. search needs)
     (λ c. search needs)
