@@ -50,7 +50,7 @@ module _ (shares : List ℕ) (l : Line) (d : Ledger) (e : Event) (j u f : List �
     where
       by-look : (k : Look) → LookFits k l → Fitting (decided k shares l d (e .line) j (textsOf (e .line) u) (framesOf (e .line) f) .act) l
       by-look (Done v) h = h .0
-      by-look (Decides n) h = decision-fits l (outcomeOf shares d (e .line) (joinedText l n (textsOf (e .line) u) (framesOf (e .line) f)) j) n h
+      by-look (Decides n) h = decision-fits l (outcomeOf shares d (e .line) (joinedText l n (textsOf (e .line) u) (framesOf (e .line) f)) j .fate) n h
 
   pub verdict-found : Found (verdictOf shares l d e j u f)
   unfolding verdictOf
