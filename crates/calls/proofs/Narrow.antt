@@ -28,7 +28,7 @@ use Rattle.receiving.specs.Verdicts.{fateAct, decisionOf}
 use Rattle.looking.specs.Lent.{rightSizes}
 use Rattle.receiving.specs.Settled.{ledgerAfter}
 use Rattle.receiving.specs.Steps.{Memory}
-use Rattle.receiving.specs.Alone.{completed, completionOf, decideOf}
+use Rattle.completing.specs.Deciding.{completed, completionOf, decideOf}
 use Rattle.looking.specs.declared.Event.{Event}
 use Rattle.looking.specs.Verdicts.{Left}
 use Rattle.looking.specs.Fitting.{textFits}

@@ -21,7 +21,8 @@ use Rattle.looking.specs.Looks.{byteLook, insideLook, waitingLook}
 use Rattle.receiving.specs.Verdicts.{ownWork, verdictOf}
 use Rattle.looking.specs.Lent.{rightSizes}
 use Rattle.receiving.specs.Steps.{Memory, AfterStep, Leaves, settle, stepOf}
-use Rattle.receiving.specs.Alone.{SteppingAlone, decideOf}
+use Rattle.receiving.specs.Alone.{SteppingAlone}
+use Rattle.completing.specs.Deciding.{decideOf}
 use Rattle.receiving.specs.declared.Alone.{Alone}
 use Rattle.looking.specs.declared.Look.the-variants.{Done, Decides}
 use Rattle.receiving.specs.declared.Stepped.{Stepped}
@@ -43,7 +44,8 @@ use Rattle.answers.specs.declared.Answered.{Answered}
 use Rattle.ledger.proofs.Ledgers.{there, used-back}
 use Rattle.numbers.proofs.Changes.{within-facts}
 use Rattle.numbers.proofs.Numbers.{line-within, serial-back, count-back, begun-back}
-use Rattle.receiving.proofs.Steps.{step-after, alone-asks, step-decides}
+use Rattle.receiving.proofs.Steps.{step-after, alone-asks}
+use Rattle.completing.proofs.Steps.{step-decides}
 use Rattle.calls.proofs.Narrow.{decide-narrow}
 
 as-called : {c d : AfterCall} {r : Answered} {t : HostState} → c ≡ d → Called d r t → Called c r t

@@ -164,7 +164,7 @@ fn decide(
         (record { numbers = now (numbers .exit); counts = now (counts .exit); memory = record { journal = now (journal .exit); unfinished = now (unfinished .exit); frames = now (frames .exit) } }) ⌝ }
 {
     let ledger = ledger::ledger_of(numbers, counts);
-    let s = receiving::decide(line, ledger, e, n, journal, unfinished, frames);
+    let s = completing::decide(line, ledger, e, n, journal, unfinished, frames);
     put_back(e.line, s, numbers, counts)
 }
 

@@ -2,4 +2,5 @@ pub mod Rows
 pub mod Pieces
 pub mod Fits
 pub mod Steps
+pub mod Closing
 pub mod OneOutcome

@@ -1,23 +1,22 @@
--- The pieces of a line's text: the frame's text written behind the joined one, and both joined in one place.
+-- A frame's text, written behind the line's joined one.
 -- Assumes nothing.
 use mathlib.Core.Path.{_≡_, sym, ap, _∙_}
 use mathlib.Core.Bool.{Bool}
 use mathlib.Core.List.{List, _++_}
 use Prim.Native.Nat.{ℕ, _+_, _-_, _≤_}
-use native.Mathlib.Nat.{zero-add}
 use native.Mathlib.Omega.{arith}
-use lib.ListN.{length, take, drop, length-append}
+use lib.ListN.{length, take, drop}
 use Rattle.memory.specs.Parts.{splice}
 use Rattle.memory.specs.Moves.{Copied}
-use Rattle.memory.proofs.Parts.{part-lent, part-start, part-splice, length-part, length-splice, splice-join}
+use Rattle.memory.proofs.Parts.{part-lent, length-part}
 use Rattle.memory.proofs.Moves.{lent-back, copied-fits}
 use Rattle.line.specs.declared.Line.{Line}
 use Rattle.line.proofs.Limits.{within-facts}
-use Rattle.looking.specs.Views.{frameStart, textStart, framesOf, textsOf, frameText, unfinishedText, joinedText}
+use Rattle.looking.specs.Views.{frameStart, textStart, framesOf, frameText}
 use Rattle.looking.specs.Inner.Ready.{Ready}
 use Rattle.looking.specs.Inner.Fitting.{TextFits}
 use Rattle.receiving.specs.Settled.{withText}
-use Rattle.looking.proofs.Views.{own-parts, lent-unfinished, lent-text}
+use Rattle.looking.proofs.Views.{own-parts, lent-text}
 
 module _ (l : Line) (i n : ℕ) (u f : List ℕ) (ready : Ready l i u f) (fits : TextFits l n) where
   pub length-text : length (frameText n (framesOf i f)) ≡ n
@@ -35,20 +34,3 @@ module _ (l : Line) (i n : ℕ) (u f : List ℕ) (ready : Ready l i u f) (fits :
       let here : at + length (frameText n (framesOf i f)) ≤ length u = omega (arith, room, p) in
       copied-fits u at (frameText n (framesOf i f)) (lent-back u at (frameText n (framesOf i f)) m b r here e c₁) here .1
       ∙ ap (λ (k : ℕ). splice u k (frameText n (framesOf i f))) p
-
--- the line's two pieces, as they are lent
-module _ (l : Line) (i n : ℕ) (u f : List ℕ) (ready : Ready l i u f) (fits : TextFits l n) where
-  abbrev oldLent : List ℕ
-  oldLent = take (textStart i + l .joined - textStart i) (drop (textStart i) u)
-
-  abbrev newLent : List ℕ
-  newLent = take (frameStart i + 1 + n - (frameStart i + 1)) (drop (frameStart i + 1) f)
-
-  old-is : oldLent ≡ unfinishedText l (textsOf i u)
-  old-is = part-lent u (textStart i) (l .joined) ∙ lent-unfinished l i u f ready
-
-  new-is : newLent ≡ frameText n (framesOf i f)
-  new-is = part-lent f (frameStart i + 1) n ∙ lent-text l i u f ready n (fits .0)
-
-  pub pieces-joined : oldLent ++ newLent ≡ joinedText l n (textsOf i u) (framesOf i f)
-  pieces-joined = ap (λ (x : List ℕ). x ++ newLent) old-is ∙ ap (λ (x : List ℕ). unfinishedText l (textsOf i u) ++ x) new-is

@@ -1,22 +1,18 @@
--- What each way out of a step says, and of its two parts: the line alone, and the deciding.
+-- What each way out of an event on its line alone says, and of the tests before a text is decided.
 -- Assumes nothing.
 use mathlib.Core.Path.{_≡_, refl, sym, ap, subst, _∙_}
 use mathlib.Core.Bool.{Bool, true, false, _&&_}
 use mathlib.Core.List.{List}
 use Prim.Native.Nat.{ℕ, _+_, _≤_, _<_}
 use native.Mathlib.Omega.{arith}
-use borrow.Author.Tests.{le-leb, leb-true, ltb-true}
+use borrow.Author.Tests.{le-leb, leb-true, ltb-true, lt-ltb, eq-eqb}
 use lib.ListN.{length}
 use lib.Dec.{ltb, leb}
-use Rattle.memory.specs.Sizes.{lines, messageLimit}
+use Rattle.memory.specs.Sizes.{lines, messageLimit, journalSize, unfinishedSize, framesSize}
 use Rattle.memory.specs.Tests.{unless}
 use Rattle.memory.proofs.Tests.{and-left, and-right}
 use Rattle.room.specs.Room.{todaysShares}
 use Rattle.journal.specs.declared.Ledger.{Ledger}
-use Rattle.deciding.specs.Decisions.{outcomeOf, ledgerBy, journalBy}
-use Rattle.deciding.specs.declared.Fate.{Fate}
-use Rattle.deciding.specs.declared.Outcome.{Outcome}
-use Rattle.deciding.specs.declared.Decided.{Decided}
 use Rattle.line.specs.Line.{withinLimits}
 use Rattle.line.specs.declared.Line.{Line}
 use Rattle.answers.specs.declared.Answer.{Answer}
@@ -27,34 +23,25 @@ use Rattle.looking.specs.Lent.{rightLengths, rightSizes}
 use Rattle.looking.specs.Looks.{lookOf, lookAlone}
 use Rattle.looking.specs.Fitting.{textFits}
 use Rattle.looking.specs.Inner.Fitting.{TextFits}
-use Rattle.receiving.specs.Verdicts.{fateAct, decided, ownWork, verdictOf}
-use Rattle.receiving.specs.Settled.{lineAfter, textsAfter, framesAfter, ledgerAfter, journalAfter}
+use Rattle.receiving.specs.Verdicts.{decided, ownWork, verdictOf}
+use Rattle.receiving.specs.Settled.{lineAfter, textsAfter, framesAfter}
 use Rattle.receiving.specs.Inner.Settled.{Settled}
-use Rattle.receiving.specs.declared.completing.Tested.{Tested}
-use Rattle.receiving.specs.declared.completing.Tested.the-variants.{Refused}
-use Rattle.receiving.specs.Steps.{Memory, AfterStep, settle, stepOf, Leaves, memoryOf, Stepping}
-use Rattle.receiving.specs.Alone.{lineAlone, textsAlone, framesAlone, SteppingAlone, completed, completionOf, decideOf, Deciding}
-use Rattle.receiving.specs.Inner.Completing.{testOf, Completion, Completing}
+use Rattle.receiving.specs.declared.Tested.{Tested}
+use Rattle.receiving.specs.declared.Tested.the-variants.{Refused}
+use Rattle.receiving.specs.Steps.{Memory, settle, stepOf, memoryOf, Stepping}
+use Rattle.receiving.specs.Alone.{lineAlone, textsAlone, framesAlone, SteppingAlone}
+use Rattle.receiving.specs.Closing.{testOf}
 use Rattle.receiving.specs.declared.Alone.{Alone}
 use Rattle.looking.specs.declared.Event.{Event}
 use Rattle.looking.specs.declared.Look.{Look}
 use Rattle.looking.specs.declared.Look.the-variants.{Done, Decides}
-use Rattle.receiving.specs.declared.Stepped.{Stepped}
-use Rattle.looking.specs.declared.Act.{Act}
 use Rattle.looking.specs.declared.Verdict.{Verdict}
 use Rattle.looking.specs.Verdicts.{Left}
 use Rattle.looking.proofs.Alone.{Acts, alone-acts, ready}
 use Rattle.receiving.proofs.Fits.{quiet-keeps}
 
--- a decision stores the text of its own frame: what the line would have with another length does not matter
-fate-row : (o : Fate) (d : Ledger) (i n : ℕ) (text : ℕ → List ℕ) (j : List ℕ)
-    → (ledgerBy o d i (text n) ≡ ledgerAfter (fateAct o n) d i text) × (journalBy o d i (text n) j ≡ journalAfter (fateAct o n) d i text j)
-fate-row Fate.Store d i n text j = (refl, refl)
-fate-row Fate.Object d i n text j = (refl, refl)
-fate-row Fate.Leave d i n text j = (refl, refl)
-
 -- lent memory is known by its three parts
-memory-is : {a b : Memory} → a .journal ≡ b .journal → a .unfinished ≡ b .unfinished → a .frames ≡ b .frames → a ≡ b
+pub memory-is : {a b : Memory} → a .journal ≡ b .journal → a .unfinished ≡ b .unfinished → a .frames ≡ b .frames → a ≡ b
 memory-is p q r = λ z. record { journal = p z; unfinished = q z; frames = r z }
 
 -- an event on its line alone: the row of the look's verdict, or a look that decides
@@ -79,7 +66,7 @@ module _ (l : Line) (e : Event) (n : ℕ) (u f : List ℕ) where
       }
 
 -- that a text fits is two tests
-fits-test : (l : Line) (n : ℕ) → TextFits l n → textFits l n ≡ true
+pub fits-test : (l : Line) (n : ℕ) → TextFits l n → textFits l n ≡ true
 fits-test l n t = rw (le-leb (n + 5) (l .collected) (t .0), le-leb (l .joined + n) messageLimit (t .1))
 
 test-fits : (l : Line) (n : ℕ) → textFits l n ≡ true → TextFits l n
@@ -89,7 +76,7 @@ test-fits l n h =
     (leb-true (n + 5) (l .collected) a, leb-true (l .joined + n) messageLimit b)
 
 module _ (l : Line) (d : Ledger) (e : Event) (j u f : List ℕ) where
-  abbrev by : Look → Verdict
+  abbrev pub by : Look → Verdict
   by k = decided k todaysShares l d (e .line) j (textsOf (e .line) u) (framesOf (e .line) f)
 
   -- the step is what the line alone comes to, with the decision where it asks for one
@@ -104,7 +91,7 @@ module _ (l : Line) (d : Ledger) (e : Event) (j u f : List ℕ) where
       by-tests true false c k = refl
       by-tests false b c k = refl
 
-  verdict-by : {k : Look} → lookAlone l e (length j) u f ≡ k → verdictOf todaysShares l d e j u f ≡ by k
+  pub verdict-by : {k : Look} → lookAlone l e (length j) u f ≡ k → verdictOf todaysShares l d e j u f ≡ by k
   verdict-by h = verdict-alone ∙ ap by h
 
   -- a step that is done on the line alone leaves the ledger and the journal
@@ -130,89 +117,25 @@ module _ (l : Line) (d : Ledger) (e : Event) (j u f : List ℕ) where
       let k = sym (t .look) ∙ h in
       (k, t .unfinished ∙ ap (λ (x : Look). textsAlone x l (e .line) u f) k, t .frames ∙ ap (λ (x : Look). framesAlone x (e .kind) l (e .line) f) k)
 
-  -- and the deciding is the step
-  completion-is : (n : ℕ) → lookAlone l e (length j) u f ≡ Decides n → textFits l n ≡ true → completionOf todaysShares l d e n (memoryOf j u f) ≡ completed todaysShares l d e n (memoryOf j u f)
-  unfolding lookAlone completionOf
-  completion-is n h t = by-tests (ltb (e .line) lines) (rightSizes j u f) (withinLimits l) (lookOf l (e .kind) (textsOf (e .line) u) (framesOf (e .line) f)) (completed todaysShares l d e n (memoryOf j u f)) h
-    where
-      by-tests : (a b c : Bool) (k : Look) (v : Verdict) → unless a (Done (Left NoLine)) (unless b (Done (Left WrongSize)) (unless c (Done (Left BeyondLimits)) k)) ≡ Decides n
-          → unless a (Left NoLine) (unless b (Left WrongSize) (unless (c && textFits l n) (Left BeyondLimits) v)) ≡ v
-      by-tests true true true k v h = rw t
-      by-tests true true false k v h = let z : _≡_ {A = ℕ} 0 1 = cc in absurd (omega arith)
-      by-tests true false c k v h = let z : _≡_ {A = ℕ} 0 1 = cc in absurd (omega arith)
-      by-tests false b c k v h = let z : _≡_ {A = ℕ} 0 1 = cc in absurd (omega arith)
-
-  pub step-decides : (n : ℕ) → lookAlone l e (length j) u f ≡ Decides n → stepOf todaysShares l d e (memoryOf j u f) ≡ decideOf todaysShares l d e n (memoryOf j u f)
-  unfolding stepOf decideOf
-  step-decides n h =
-      let t = subst (λ (x : Look). Acts x l (e .line) u f) h (alone-acts l e (length j) u f) in
-      ap (λ (v : Verdict). settle v l d e (memoryOf j u f)) (verdict-by h ∙ sym (completion-is n h (fits-test l n (t .0))))
-
-  pub step-asks : (s : Alone) {n : ℕ} {u₁ f₁ : List ℕ} {r : Stepped} {j′ u′ f′ : List ℕ} → SteppingAlone l e (length j) (record { unfinished = u; frames = f }) s (record { unfinished = u₁; frames = f₁ }) → s .look ≡ Decides n → Deciding l d e n (memoryOf j u₁ f₁) r (memoryOf j′ u′ f′)
-      → Stepping l d e (memoryOf j u f) r (memoryOf j′ u′ f′)
-  step-asks s {n} {u₁} {f₁} {r} {j′} {u′} {f′} a h t =
-      let (k, p, q) = alone-asks s a h in
-      let x : Deciding l d e n (memoryOf j u f) r (memoryOf j′ u′ f′) = rw (← p, ← q) t in
-      subst (λ (y : AfterStep). Leaves y r (memoryOf j′ u′ f′)) (sym (step-decides n k)) x
-
 -- what has passed the tests: the line is ready and the text fits
-pub tested-ready : (l : Line) (e : Event) (n : ℕ) (j u f : List ℕ) → testOf l (e .line) n (length j) (length u) (length f) ≡ Tested.Ready → Ready l (e .line) u f × TextFits l n
+pub tested-ready : (l : Line) (e : Event) (n : ℕ) (j : ℕ) (u f : List ℕ) → testOf l (e .line) n j (length u) (length f) ≡ Tested.Ready → Ready l (e .line) u f × TextFits l n
 unfolding testOf
 tested-ready l e n j u f h = by-line (ltb (e .line) lines) refl h
   where
-    by-limits : (b : Bool) → withinLimits l && textFits l n ≡ b → e .line < lines → rightLengths (length j) (length u) (length f) ≡ true → unless b (Refused BeyondLimits) Tested.Ready ≡ Tested.Ready → Ready l (e .line) u f × TextFits l n
-    by-limits true w p k h = (ready l e (length j) u f p k (and-left (withinLimits l) (textFits l n) w), test-fits l n (and-right (withinLimits l) (textFits l n) w))
+    by-limits : (b : Bool) → withinLimits l && textFits l n ≡ b → e .line < lines → rightLengths j (length u) (length f) ≡ true → unless b (Refused BeyondLimits) Tested.Ready ≡ Tested.Ready → Ready l (e .line) u f × TextFits l n
+    by-limits true w p k h = (ready l e j u f p k (and-left (withinLimits l) (textFits l n) w), test-fits l n (and-right (withinLimits l) (textFits l n) w))
     by-limits false w p k h = let z : _≡_ {A = ℕ} 0 1 = cc in absurd (omega arith)
 
-    by-sizes : (b : Bool) → rightLengths (length j) (length u) (length f) ≡ b → e .line < lines → unless b (Refused WrongSize) (unless (withinLimits l && textFits l n) (Refused BeyondLimits) Tested.Ready) ≡ Tested.Ready → Ready l (e .line) u f × TextFits l n
+    by-sizes : (b : Bool) → rightLengths j (length u) (length f) ≡ b → e .line < lines → unless b (Refused WrongSize) (unless (withinLimits l && textFits l n) (Refused BeyondLimits) Tested.Ready) ≡ Tested.Ready → Ready l (e .line) u f × TextFits l n
     by-sizes true k p h = by-limits (withinLimits l && textFits l n) refl p k h
     by-sizes false k p h = let z : _≡_ {A = ℕ} 0 1 = cc in absurd (omega arith)
 
-    by-line : (b : Bool) → ltb (e .line) lines ≡ b → unless b (Refused NoLine) (unless (rightLengths (length j) (length u) (length f)) (Refused WrongSize) (unless (withinLimits l && textFits l n) (Refused BeyondLimits) Tested.Ready)) ≡ Tested.Ready → Ready l (e .line) u f × TextFits l n
-    by-line true p h = by-sizes (rightLengths (length j) (length u) (length f)) refl (ltb-true (e .line) lines p) h
+    by-line : (b : Bool) → ltb (e .line) lines ≡ b → unless b (Refused NoLine) (unless (rightLengths j (length u) (length f)) (Refused WrongSize) (unless (withinLimits l && textFits l n) (Refused BeyondLimits) Tested.Ready)) ≡ Tested.Ready → Ready l (e .line) u f × TextFits l n
+    by-line true p h = by-sizes (rightLengths j (length u) (length f)) refl (ltb-true (e .line) lines p) h
     by-line false p h = let z : _≡_ {A = ℕ} 0 1 = cc in absurd (omega arith)
 
--- deciding: 40, 41, 42, then the decision
-module _ (l : Line) (d : Ledger) (e : Event) (n : ℕ) (j u f : List ℕ) where
-  abbrev byTest : Tested → Verdict
-  byTest Tested.Ready = completed todaysShares l d e n (memoryOf j u f)
-  byTest (Refused a) = Left a
-
-  decide-by : (v : Verdict) {r : Stepped} {j′ u′ f′ : List ℕ} → completionOf todaysShares l d e n (memoryOf j u f) ≡ v → Leaves (settle v l d e (memoryOf j u f)) r (memoryOf j′ u′ f′) → Deciding l d e n (memoryOf j u f) r (memoryOf j′ u′ f′)
-  unfolding decideOf
-  decide-by v {r} {j′} {u′} {f′} h s = subst (λ (x : Verdict). Leaves (settle x l d e (memoryOf j u f)) r (memoryOf j′ u′ f′)) (sym h) s
-
-  -- 40, 41 and 42 are the tests of the deciding
-  completion-tested : completionOf todaysShares l d e n (memoryOf j u f) ≡ byTest (testOf l (e .line) n (length j) (length u) (length f))
-  unfolding completionOf testOf
-  completion-tested = by-tests (ltb (e .line) lines) (rightSizes j u f) (withinLimits l && textFits l n)
-    where
-      by-tests : (a b c : Bool) → unless a (Left NoLine) (unless b (Left WrongSize) (unless c (Left BeyondLimits) (completed todaysShares l d e n (memoryOf j u f))))
-          ≡ byTest (unless a (Refused NoLine) (unless b (Refused WrongSize) (unless c (Refused BeyondLimits) Tested.Ready)))
-      by-tests true true true = refl
-      by-tests true true false = refl
-      by-tests true false c = refl
-      by-tests false b c = refl
-
-  pub decide-refused : (a : Answer) → testOf l (e .line) n (length j) (length u) (length f) ≡ Refused a → Deciding l d e n (memoryOf j u f) (record { line = l; ledger = d; answer = a }) (memoryOf j u f)
-  decide-refused a h = decide-by (Left a) (completion-tested ∙ ap byTest h) (record { result = refl; memory = refl })
-
-  pub decide-work : (r : Stepped) (j′ u′ f′ : List ℕ) → testOf l (e .line) n (length j) (length u) (length f) ≡ Tested.Ready → Completing l d e n (memoryOf j u f) r (memoryOf j′ u′ f′) → Deciding l d e n (memoryOf j u f) r (memoryOf j′ u′ f′)
-  decide-work r j′ u′ f′ h s = decide-by (completed todaysShares l d e n (memoryOf j u f)) (completion-tested ∙ ap byTest h) s
-
-  module _ (r : Stepped) where
-    -- what the decision and its row leave
-    pub decision-settled : (c : Decided) (k : Line) (a : Answer) (j′ u′ f′ : List ℕ) → Completion l d (e .line) n j u f c j′
-        → Settled (fateAct (c .outcome .fate) n) (e .kind) l (e .line) u f k u′ f′ → a ≡ c .outcome .answer → r ≡ record { line = k; ledger = c .ledger; answer = a } → Completing l d e n (memoryOf j u f) r (memoryOf j′ u′ f′)
-    decision-settled c k a j′ u′ f′ t s p q =
-        let text : ℕ → List ℕ = λ m. joinedText l m (textsOf (e .line) u) (framesOf (e .line) f) in
-        let o : Outcome = outcomeOf todaysShares d (e .line) (text n) j in
-        let act : Act = fateAct (o .fate) n in
-        let (ledger, journal) = fate-row (o .fate) d (e .line) n text j in
-        let is : fateAct (c .outcome .fate) n ≡ act = ap (λ (x : Outcome). fateAct (x .fate) n) (t .outcome) in
-        let booked : c .ledger ≡ ledgerAfter act d (e .line) text = t .ledger ∙ ledger in
-        let says : a ≡ o .answer = p ∙ ap (λ (x : Outcome). x .answer) (t .outcome) in
-        record {
-          result = q ∙ rw (s .line, says, booked) (ap (λ (x : Act). record { line = lineAfter x l; ledger = ledgerAfter act d (e .line) text; answer = o .answer }) is);
-          memory = memory-is (t .journal ∙ journal) (s .texts ∙ ap (λ (x : Act). textsAfter x l (e .line) u f) is) (s .frames ∙ ap (λ (x : Act). framesAfter x (e .kind) l (e .line) f) is);
-        }
+-- and a line that is ready, with a text that fits, passes them
+pub ready-tested : (l : Line) (i n : ℕ) (u f : List ℕ) → Ready l i u f → TextFits l n → testOf l i n journalSize (length u) (length f) ≡ Tested.Ready
+unfolding testOf
+ready-tested l i n u f r t =
+    rw (lt-ltb i lines (r .line), eq-eqb (length u) unfinishedSize (r .texts), eq-eqb (length f) framesSize (r .bytes), r .within, fits-test l n t)

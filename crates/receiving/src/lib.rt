@@ -1,15 +1,16 @@
-// One event on one line in two parts, each look and then act: the line alone, and the deciding of a complete message.
+// One event on its line alone: look, then act; and what a line is left with once its complete text is decided.
 ghost use mathlib.Core.Path.{_≡_};
-ghost use Rattle.receiving.specs.Alone.{SteppingAlone, Deciding};
+ghost use Rattle.receiving.specs.Alone.{SteppingAlone};
+ghost use Rattle.receiving.specs.Closing.{testOf, Closing};
 use answers::Answer;
-use completing::Tested;
+use deciding::Fate;
 use journal::Ledger;
 use line::Line;
 use looking::Event;
 use looking::Look;
 
-mod completing; // completing.rt: a complete message decided, and what is left after that
 mod settling; // settling.rt: what a look and a decision leave
+mod testing; // testing.rt: whether a frame's text fits its line
 
 // The line's record and the ledger after an event, with its answer.
 pub struct Stepped {
@@ -49,27 +50,62 @@ pub fn step_alone(
     }
 }
 
-// An event that completes a message, with n bytes of its frame's text: the message is decided. More bytes than the line has of it, or has room for, are beyond its limits.
-pub fn decide(
+// What 40, 41 and 42 say of an event that is to complete a text.
+pub enum Tested {
+    Ready,
+    Refused(Answer),
+}
+
+// An event that is to complete a text with n bytes of its frame: 40, 41, and 42, where more bytes than the line has of the frame, or has room for, are beyond its limits too.
+pub fn test(
     line: Line,
-    ledger: Ledger,
+    i: usize,
+    n: usize,
+    journal: usize,
+    unfinished: usize,
+    frames: usize,
+) -> Tested
+    ensures { λ r. ⌜ r ≡ testOf line i n journal unfinished frames ⌝ }
+{
+    if memory::LINES <= i {
+        return Tested::Refused(Answer::NoLine);
+    }
+    if !looking::are_right(journal, unfinished, frames) {
+        return Tested::Refused(Answer::WrongSize);
+    }
+    if !line.is_within_limits() {
+        return Tested::Refused(Answer::BeyondLimits);
+    }
+    if !testing::fits(line, n) {
+        return Tested::Refused(Answer::BeyondLimits);
+    }
+    Tested::Ready
+}
+
+// The line of a text that was decided, with n bytes of its frame: the row of the text's fate. An event that 40, 41 or 42 refuses leaves everything as it was.
+pub fn close(
+    line: Line,
     e: Event,
     n: usize,
-    journal: &mut [u8],
+    fate: Fate,
     unfinished: &mut [u8],
     frames: &mut [u8],
-) -> Stepped
-    ensures { λ r. ⌜ Deciding line ledger e n
-        (record { journal = now (journal .entry); unfinished = now (unfinished .entry); frames = now (frames .entry) })
-        r (record { journal = now (journal .exit); unfinished = now (unfinished .exit); frames = now (frames .exit) }) ⌝ }
+) -> Line
+    ensures { λ r. ⌜ Closing line e n fate
+        (record { unfinished = now (unfinished .entry); frames = now (frames .entry) })
+        r (record { unfinished = now (unfinished .exit); frames = now (frames .exit) }) ⌝ }
 {
     let i = e.line as usize;
-    match completing::test(line, i, n, journal.len(), unfinished.len(), frames.len()) {
-        Tested::Ready => completing::by_decision(line, ledger, e, n, journal, unfinished, frames),
-        Tested::Refused(answer) => Stepped {
-            line,
-            ledger,
-            answer,
-        },
+    let kind = e.kind;
+    match test(
+        line,
+        i,
+        n,
+        memory::JOURNAL_SIZE,
+        unfinished.len(),
+        frames.len(),
+    ) {
+        Tested::Ready => settling::close(line, i, kind, n, fate, unfinished, frames),
+        Tested::Refused(_) => line,
     }
 }

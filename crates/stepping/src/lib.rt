@@ -29,7 +29,7 @@ pub fn step(
             let answer = v.answer;
             done(after, ledger, answer)
         }
-        Look::Decides(n) => receiving::decide(line, ledger, e, n, journal, unfinished, frames),
+        Look::Decides(n) => completing::decide(line, ledger, e, n, journal, unfinished, frames),
     }
 }
 

@@ -7,7 +7,7 @@ use Rattle.room.specs.Room.{todaysShares}
 use Rattle.line.specs.declared.Line.{Line}
 use Rattle.looking.specs.declared.Event.{Event}
 use Rattle.receiving.specs.Steps.{stepOf}
-use Rattle.receiving.specs.Alone.{decideOf}
+use Rattle.completing.specs.Deciding.{decideOf}
 use Rattle.receiving.specs.declared.Stepped.{Stepped}
 use Rattle.ledger.specs.Ledgers.{ledgerOf, withSerial, withUsed}
 use Rattle.answers.specs.InNumbers.{inNumbers}

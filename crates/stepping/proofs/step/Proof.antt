@@ -3,7 +3,8 @@
 use borrow.Author.Needs.{needs}
 use mathlib.Core.Path.{refl}
 use denote.Ref.{now}
-use Rattle.receiving.proofs.Steps.{step-after, step-asks}
+use Rattle.receiving.proofs.Steps.{step-after}
+use Rattle.completing.proofs.Steps.{step-asks}
 use Rattle.stepping.proofs.step.Statement.{statement}
 use Rattle.stepping.proofs.step.Tie as tie
 

@@ -1,21 +1,43 @@
-// A complete message: its decision, and what is left after it.
+// A complete text: it is decided, and its line is left with what its fate says.
 ghost use mathlib.Core.Path.{_≡_};
-ghost use mathlib.Core.Bool.{true};
-ghost use Rattle.line.specs.Line.{withinLimits};
 ghost use Rattle.looking.specs.Inner.Ready.{Ready};
-ghost use Rattle.looking.specs.Fitting.{textFits};
 ghost use Rattle.looking.specs.Inner.Fitting.{TextFits};
-ghost use Rattle.receiving.specs.Inner.Completing.{testOf, Completion, Completing};
-use super::Stepped;
-use super::settling;
-use answers::Answer;
+ghost use Rattle.completing.specs.Deciding.{Deciding};
+ghost use Rattle.completing.specs.Inner.Completing.{Completion, Completing};
 use deciding::Decided;
 use journal::Ledger;
 use line::Line;
 use looking::Event;
+use receiving::Stepped;
+use receiving::Tested;
+
+// An event that completes a message, with n bytes of its frame's text: the message is decided. More bytes than the line has of it, or has room for, are beyond its limits.
+pub fn decide(
+    line: Line,
+    ledger: Ledger,
+    e: Event,
+    n: usize,
+    journal: &mut [u8],
+    unfinished: &mut [u8],
+    frames: &mut [u8],
+) -> Stepped
+    ensures { λ r. ⌜ Deciding line ledger e n
+        (record { journal = now (journal .entry); unfinished = now (unfinished .entry); frames = now (frames .entry) })
+        r (record { journal = now (journal .exit); unfinished = now (unfinished .exit); frames = now (frames .exit) }) ⌝ }
+{
+    let i = e.line as usize;
+    match receiving::test(line, i, n, journal.len(), unfinished.len(), frames.len()) {
+        Tested::Ready => by_decision(line, ledger, e, n, journal, unfinished, frames),
+        Tested::Refused(answer) => Stepped {
+            line,
+            ledger,
+            answer,
+        },
+    }
+}
 
 // The decision of a complete message, and what is left after it.
-pub fn by_decision(
+fn by_decision(
     line: Line,
     ledger: Ledger,
     e: Event,
@@ -29,14 +51,12 @@ pub fn by_decision(
         (record { journal = now (journal .entry); unfinished = now (unfinished .entry); frames = now (frames .entry) })
         r (record { journal = now (journal .exit); unfinished = now (unfinished .exit); frames = now (frames .exit) }) ⌝ }
 {
-    let i = e.line as usize;
-    let kind = e.kind;
     let decided = complete(line, ledger, e.line, n, journal, unfinished, frames);
     let outcome = decided.outcome;
     let booked = decided.ledger;
     let fate = outcome.fate;
     let answer = outcome.answer;
-    let after = settling::close(line, i, kind, n, fate, unfinished, frames);
+    let after = receiving::close(line, e, n, fate, unfinished, frames);
     Stepped {
         line: after,
         ledger: booked,
@@ -69,52 +89,4 @@ fn complete(
         &frames[start..stop],
         journal,
     )
-}
-
-// What 40, 41 and 42 say of an event that is to complete a message.
-pub enum Tested {
-    Ready,
-    Refused(Answer),
-}
-
-pub fn test(
-    line: Line,
-    i: usize,
-    n: usize,
-    journal: usize,
-    unfinished: usize,
-    frames: usize,
-) -> Tested
-    ensures { λ r. ⌜ r ≡ testOf line i n journal unfinished frames ⌝ }
-{
-    if memory::LINES <= i {
-        return Tested::Refused(Answer::NoLine);
-    }
-    if !looking::are_right(journal, unfinished, frames) {
-        return Tested::Refused(Answer::WrongSize);
-    }
-    if !line.is_within_limits() {
-        return Tested::Refused(Answer::BeyondLimits);
-    }
-    if !fits(line, n) {
-        return Tested::Refused(Answer::BeyondLimits);
-    }
-    Tested::Ready
-}
-
-// Whether n bytes of a frame's text lie in what the line has collected, and fit behind its joined text.
-fn fits(line: Line, n: usize) -> bool
-    requires { ⌜ withinLimits line ≡ true ⌝ }
-    ensures { λ r. ⌜ r ≡ textFits line n ⌝ }
-{
-    if (line.collected as usize) < 5 {
-        return false;
-    }
-    if line.collected as usize - 5 < n {
-        return false;
-    }
-    if memory::MESSAGE_LIMIT - (line.joined as usize) < n {
-        return false;
-    }
-    true
 }

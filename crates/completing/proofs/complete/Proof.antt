@@ -1,13 +1,13 @@
--- `receiving::completing::complete` meets its contract: what is decided is the line's text in one piece.
+-- `completing::complete` meets its contract: what is decided is the line's text in one piece.
 -- Assumes nothing.
 use borrow.Author.Needs.{needs}
 use native.Mathlib.Omega.{arith}
 use denote.Ref.{now}
 use Rattle.line.proofs.Limits.{within-facts}
-use Rattle.receiving.proofs.Pieces.{pieces-joined}
+use Rattle.completing.proofs.Pieces.{pieces-joined}
 use Rattle.deciding.proofs.Decisions.{decided-as}
-use Rattle.receiving.proofs.completing.complete.Statement.{statement}
-use Rattle.receiving.proofs.completing.complete.Tie as tie
+use Rattle.completing.proofs.complete.Statement.{statement}
+use Rattle.completing.proofs.complete.Tie as tie
 
 -- where the function was entered, from behind the lending of the first piece
 abbrev entered : tie.After-decide-arg → tie.Start

@@ -1,11 +1,13 @@
--- `receiving::decide` meets its contract: 40, 41, 42, then the decision.
+-- `completing::decide` meets its contract: 40, 41, 42, then the decision.
 -- Assumes nothing.
 use borrow.Author.Needs.{needs}
 use mathlib.Core.Path.{sym, _∙_}
 use denote.Ref.{now}
-use Rattle.receiving.proofs.Steps.{tested-ready, decide-refused, decide-work}
-use Rattle.receiving.proofs.decide.Statement.{statement}
-use Rattle.receiving.proofs.decide.Tie as tie
+use lib.ListN.{length}
+use Rattle.receiving.proofs.Steps.{tested-ready}
+use Rattle.completing.proofs.Steps.{decide-refused, decide-work}
+use Rattle.completing.proofs.decide.Statement.{statement}
+use Rattle.completing.proofs.decide.Tie as tie
 
 -- where the function was entered, from behind the tests
 abbrev entry : tie.After-test → tie.Start
@@ -16,7 +18,7 @@ by-decision-requires c κs =
     let told = c .before .before .before in
     let tested = told .before .before in
     let a = entry tested .args in
-    tested-ready (a .line) (a .e) (a .n) (now (a .journal)) (now (a .unfinished)) (now (a .frames)) (sym (tested .test .ensures) ∙ told .enum-told .given .1)
+    tested-ready (a .line) (a .e) (a .n) (length (now (a .journal))) (now (a .unfinished)) (now (a .frames)) (sym (tested .test .ensures) ∙ told .enum-told .given .1)
 
 returns : tie.Need-returns
 returns c =

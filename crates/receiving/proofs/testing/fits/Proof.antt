@@ -1,4 +1,4 @@
--- `receiving::completing::fits` meets its contract.
+-- `receiving::testing::fits` meets its contract.
 -- Assumes nothing.
 use borrow.Author.Needs.{needs}
 use Prim.Native.Nat.{_+_, _≤_, _<_}
@@ -6,8 +6,8 @@ use native.Mathlib.Omega.{arith}
 use borrow.Author.Tests.{lt-leb, le-leb}
 use Rattle.memory.specs.Sizes.{messageLimit}
 use Rattle.line.proofs.Limits.{within-facts}
-use Rattle.receiving.proofs.completing.fits.Statement.{statement}
-use Rattle.receiving.proofs.completing.fits.Tie as tie
+use Rattle.receiving.proofs.testing.fits.Statement.{statement}
+use Rattle.receiving.proofs.testing.fits.Tie as tie
 
 returns : tie.Need-returns
 returns c =

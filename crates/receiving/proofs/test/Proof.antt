@@ -1,4 +1,4 @@
--- `receiving::completing::test` meets its contract: 40, 41, 42.
+-- `receiving::test` meets its contract: 40, 41, 42.
 -- Assumes nothing.
 use borrow.Author.Needs.{needs}
 use mathlib.Core.Path.{sym, _∙_}
@@ -6,9 +6,9 @@ use Prim.Native.Nat.{_≤_, _<_}
 use native.Mathlib.Omega.{arith}
 use borrow.Author.Tests.{lt-ltb, le-ltb, not-true, not-false}
 use Rattle.memory.specs.Sizes.{lines}
-use Rattle.receiving.specs.Inner.Completing.{testOf}
-use Rattle.receiving.proofs.completing.test.Statement.{statement}
-use Rattle.receiving.proofs.completing.test.Tie as tie
+use Rattle.receiving.specs.Closing.{testOf}
+use Rattle.receiving.proofs.test.Statement.{statement}
+use Rattle.receiving.proofs.test.Tie as tie
 
 returns : tie.Need-returns
 unfolding testOf
