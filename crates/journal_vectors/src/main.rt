@@ -169,9 +169,7 @@ fn judge(ledger: journal::Ledger, line: usize, n: usize, lent: usize, bytes: [u8
 fn poked(mut bytes: [u8; MOST], at: usize, n: usize) -> [u8; MOST]
     ensures { λ r. ⌜ 65536 ≡ length r ⌝ }
 {
-    if at < MOST {
-        bytes[at] = (n % 256) as u8;
-    }
+    bytes[at % MOST] = (n % 256) as u8;
     bytes
 }
 
@@ -182,16 +180,8 @@ fn changed(mut ledger: journal::Ledger, letter: u8, line: usize, n: usize) -> jo
     match letter {
         b'F' => ledger = journal::Ledger::fresh(),
         b'I' => ledger.in_use = n,
-        b'U' => {
-            if line < 8 {
-                ledger.used[line] = n as u32;
-            }
-        }
-        b'N' => {
-            if line < 8 {
-                ledger.serials[line] = n as u16;
-            }
-        }
+        b'U' => ledger.used[line % 8] = n as u32,
+        b'N' => ledger.serials[line % 8] = n as u16,
         _ => {}
     }
     ledger

@@ -185,17 +185,11 @@ fn list(
 }
 
 fn byte_at(s: [u8; MOST], i: usize) -> u8 {
-    if i < MOST {
-        return s[i];
-    }
-    0
+    s[i % MOST]
 }
 
 fn number_at(s: [u16; MOST], i: usize) -> u16 {
-    if i < MOST {
-        return s[i];
-    }
-    0
+    s[i % MOST]
 }
 
 fn record(text: &[u8], n: usize, kind: u8, offset: u16, length: u16, owner: u16) {

@@ -8,5 +8,4 @@ use Rattle.journal_vectors.proofs.poked.Tie as tie
 
 pub poked-spec : {M : Type 1} → statement M
 poked-spec =
-    tie.close
-    (tie.spec (λ c. search needs) (λ c. search needs) (λ c. simp length-set (omega arith)) (λ c. search needs))
+    tie.close (tie.spec (λ c. search needs) (λ c. search needs) (λ c. simp length-set (omega arith)))
