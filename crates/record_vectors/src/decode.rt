@@ -1,26 +1,23 @@
 // Bytes from hex digits.
-ghost use Prim.Native.Nat.{_≤_, _<_};
+ghost use mathlib.Core.Path.{_≡_};
+ghost use Prim.Native.Nat.{_*_, _≤_, _<_};
 ghost use lib.ListN.{length};
 
-// Writes the bytes that pairs of hex digits stand for, as many as fit, and gives their number.
-pub fn from_hex(hex: &[u8], out: &mut [u8]) -> usize
-    ensures { λ r. ⌜ r ≤ length (now (out .exit)) ⌝ }
-{
-    let mut n: usize = 0;
-    let mut i: usize = 0;
-    while n < out.len() {
-        if hex.len() - i < 2 {
-            return n;
-        }
-        out[n] = byte(hex[i], hex[i + 1]);
-        i = i + 2;
-        n += 1;
-    }
-    n
-}
+// The most bytes of a case.
+pub const MOST: usize = 4096;
 
-fn byte(high: u8, low: u8) -> u8 {
-    digit(high) * 16 + digit(low)
+// The bytes that the first n pairs stand for.
+pub fn from_hex(hex: &[u8], n: usize) -> [u8; MOST]
+    requires { ⌜ (n ≤ 4096) × (n * 2 ≤ length (now hex)) ⌝ }
+    ensures { λ r. ⌜ 4096 ≡ length r ⌝ }
+{
+    let mut out = [0u8; MOST];
+    let mut i: usize = 0;
+    while i < n {
+        out[i] = digit(hex[i * 2]) * 16 + digit(hex[i * 2 + 1]);
+        i += 1;
+    }
+    out
 }
 
 // The value of a hex digit: 0 to 9 are the bytes 30 to 39, and a to f 61 to 66.

@@ -12,18 +12,7 @@ use records::Ending;
 // The most records of a message that are listed.
 const MOST: usize = 1024;
 
-pub fn show(kind: u8, text: &[u8]) {
-    match kind {
-        b'm' => message(text),
-        b's' => short(text),
-        b'e' => escaped(text),
-        b'u' => unescaped(text),
-        b'c' => components(text),
-        _ => byte(b'\n'),
-    }
-}
-
-fn byte(b: u8) {
+pub fn byte(b: u8) {
     io::write_all(1, &[b]);
 }
 
@@ -41,14 +30,6 @@ fn small(n: u16) {
     number(n as usize);
 }
 
-fn numbers(s: &[u16]) {
-    let mut i: usize = 0;
-    while i < s.len() {
-        small(s[i]);
-        i += 1;
-    }
-}
-
 fn part(bytes: &[u8]) {
     letter(b'[');
     io::write_all(1, bytes);
@@ -61,39 +42,47 @@ fn line_end(n: usize) {
 }
 
 // A text: what the check finds, whether it ends with an L record, and its records.
-fn message(text: &[u8]) {
+pub fn message(text: &[u8]) {
     number(text.len());
     found(faults::check(Delimiters::standard(), text));
-    if message::is_message(text) {
+    whole(message::is_message(text));
+    last(text);
+    reading(text, MOST, MOST);
+}
+
+fn whole(is_message: bool) {
+    if is_message {
         io::write_all(1, b" message");
     }
-    last(text);
-    rows(text);
 }
 
 // What the check of a text finds, by the numbers of request [1].
 fn found(c: Checked) {
     match c {
-        Checked::Message => no_fault(),
+        Checked::Message => {
+            letter(b'n');
+            byte(b'o');
+            byte(b'n');
+            byte(b'e');
+        }
         Checked::NotText => number(46),
-        Checked::Faulty(f, place) => fault(f, place),
+        Checked::Faulty(f, place) => {
+            number(fault(f));
+            letter(b'a');
+            byte(b't');
+            small(place);
+        }
     }
 }
 
-fn no_fault() {
-    io::write_all(1, b" none");
-}
-
-fn fault(f: Fault, place: u16) {
+fn fault(f: Fault) -> usize {
     match f {
-        Fault::NoHeader => number(50),
-        Fault::UnknownType => number(51),
-        Fault::Misplaced => number(52),
-        Fault::WrongNumber => number(53),
-        Fault::Unended => number(54),
+        Fault::NoHeader => 50,
+        Fault::UnknownType => 51,
+        Fault::Misplaced => 52,
+        Fault::WrongNumber => 53,
+        Fault::Unended => 54,
     }
-    io::write_all(1, b" at");
-    small(place);
 }
 
 // Whether the text ends with an L record, and for a short one at how many places it can be cut in two so that the pieces, joined, do.
@@ -130,21 +119,28 @@ fn ends_with_l(text: &[u8], cut: usize) -> bool
     }
 }
 
-// Each record of a message: its number, type, offset, length and owner.
-fn rows(text: &[u8]) {
-    let mut types = [0u8; MOST];
-    let mut offsets = [0u16; MOST];
-    let mut lengths = [0u16; MOST];
-    let mut owners = [0u16; MOST];
+// Reads a message into memory with so many places for the records, and for their owners.
+pub fn reading(text: &[u8], places: usize, owned: usize)
+    requires { ⌜ (places ≤ 1024) × (owned ≤ 1024) ⌝ }
+{
+    let mut types = [b'.'; MOST];
+    let mut offsets = [7u16; MOST];
+    let mut lengths = [7u16; MOST];
+    let mut owners = [7u16; MOST];
     let r = owner::read(
         Delimiters::standard(),
         text,
-        &mut types,
-        &mut offsets,
-        &mut lengths,
-        &mut owners,
+        &mut types[..places],
+        &mut offsets[..places],
+        &mut lengths[..places],
+        &mut owners[..owned],
     );
-    list(answer(r), text, &types, &offsets, &lengths, &owners);
+    if places < MOST {
+        memory(types, offsets, lengths, owners);
+        answer(r);
+    } else {
+        list(answer(r), text, types, offsets, lengths, owners);
+    }
 }
 
 // Ends the line with the answer, and gives the number of records that were read.
@@ -165,13 +161,14 @@ fn answer(r: Reading) -> usize {
     }
 }
 
-fn list<'a>(
+// Each record of a message: its number, type, offset, length and owner.
+fn list(
     n: usize,
-    text: &'a [u8],
-    types: &'a [u8; MOST],
-    offsets: &'a [u16; MOST],
-    lengths: &'a [u16; MOST],
-    owners: &'a [u16; MOST],
+    text: &[u8],
+    types: [u8; MOST],
+    offsets: [u16; MOST],
+    lengths: [u16; MOST],
+    owners: [u16; MOST],
 ) {
     let mut i: usize = 0;
     while i < n {
@@ -187,18 +184,12 @@ fn list<'a>(
     }
 }
 
-fn byte_at(s: &[u8; MOST], i: usize) -> u8 {
-    if i < MOST {
-        return s[i];
-    }
-    0
+fn byte_at(s: [u8; MOST], i: usize) -> u8 {
+    s[i % MOST]
 }
 
-fn number_at(s: &[u16; MOST], i: usize) -> u16 {
-    if i < MOST {
-        return s[i];
-    }
-    0
+fn number_at(s: [u16; MOST], i: usize) -> u16 {
+    s[i % MOST]
 }
 
 fn record(text: &[u8], n: usize, kind: u8, offset: u16, length: u16, owner: u16) {
@@ -224,7 +215,8 @@ fn result(text: &[u8], offset: u16, length: u16) {
 }
 
 fn fields(rec: &[u8]) {
-    io::write_all(1, b"    ");
+    letter(b' ');
+    letter(b' ');
     named(rec, ResultField::Test);
     named(rec, ResultField::Value);
     named(rec, ResultField::Units);
@@ -238,38 +230,23 @@ fn named(rec: &[u8], field: ResultField) {
     part(component::result_field(Delimiters::standard(), rec, field));
 }
 
-// A text that is read into memory for two records: the answer, and the memory after it.
-fn short(text: &[u8]) {
-    let mut types = [b'.'; 2];
-    let mut offsets = [7u16; 2];
-    let mut lengths = [7u16; 2];
-    let mut owners = [7u16; 3];
-    let r = owner::read(
-        Delimiters::standard(),
-        text,
-        &mut types,
-        &mut offsets,
-        &mut lengths,
-        &mut owners,
-    );
-    memory(&types, &offsets, &lengths, &owners);
-    answer(r);
-}
-
-fn memory<'a>(
-    types: &'a [u8; 2],
-    offsets: &'a [u16; 2],
-    lengths: &'a [u16; 2],
-    owners: &'a [u16; 3],
-) {
-    part(types);
-    numbers(offsets);
-    numbers(lengths);
-    numbers(owners);
+// The memory of a text that is read into places for two records and three owners.
+fn memory(types: [u8; MOST], offsets: [u16; MOST], lengths: [u16; MOST], owners: [u16; MOST]) {
+    letter(b'[');
+    byte(byte_at(types, 0));
+    byte(byte_at(types, 1));
+    byte(b']');
+    small(number_at(offsets, 0));
+    small(number_at(offsets, 1));
+    small(number_at(lengths, 0));
+    small(number_at(lengths, 1));
+    small(number_at(owners, 0));
+    small(number_at(owners, 1));
+    small(number_at(owners, 2));
 }
 
 // A text escaped into memory of 16 bytes.
-fn escaped(text: &[u8]) {
+pub fn escaped(text: &[u8]) {
     let mut out = [b'.'; 16];
     put(escaping::escape(Delimiters::standard(), text, &mut out));
     part(&out);
@@ -277,7 +254,7 @@ fn escaped(text: &[u8]) {
 }
 
 // A component unescaped into memory of 8 bytes.
-fn unescaped(text: &[u8]) {
+pub fn unescaped(text: &[u8]) {
     let mut out = [b'.'; 8];
     put(escaping::unescape(Delimiters::standard(), text, &mut out));
     part(&out);
@@ -293,7 +270,7 @@ fn put(r: Put) {
 }
 
 // Where each component of a text ends.
-fn components(text: &[u8]) {
+pub fn components(text: &[u8]) {
     let d = Delimiters::standard();
     let mut at: usize = 0;
     while at < text.len() {

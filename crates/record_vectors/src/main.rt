@@ -26,9 +26,8 @@ fn run(input: &[u8]) {
 
 fn case(line: &[u8]) {
     io::write_all(1, word(line, 2));
-    let kind = word(line, 1);
-    if kind.len() == 1 {
-        show(kind[0], word(line, 3));
+    if 0 < line.len() {
+        show(line[0], word(line, 3));
     }
 }
 
@@ -43,8 +42,22 @@ fn word<'a>(line: &'a [u8], n: usize) -> &'a [u8] {
     component::field_of(d, line, n)
 }
 
+// A case of more bytes than fit shows nothing.
 fn show(kind: u8, hex: &[u8]) {
-    let mut text = [0u8; 4096];
-    let n = decode::from_hex(hex, &mut text);
-    listing::show(kind, &text[..n]);
+    let n = hex.len() / 2;
+    if n <= decode::MOST {
+        let bytes = decode::from_hex(hex, n);
+        shown(kind, &bytes[..n]);
+    }
+}
+
+fn shown(kind: u8, text: &[u8]) {
+    match kind {
+        b'm' => listing::message(text),
+        b's' => listing::reading(text, 2, 3),
+        b'e' => listing::escaped(text),
+        b'u' => listing::unescaped(text),
+        b'c' => listing::components(text),
+        _ => listing::byte(b'\n'),
+    }
 }

@@ -2,15 +2,14 @@
 -- Assumes nothing.
 use Prim.Native.Nat.{_-_, _<_}
 use native.Mathlib.Omega.{arith}
-use lib.ListN.{length}
 use Rattle.journal_vectors.proofs.digest.Statement.{statement}
 use Rattle.journal_vectors.proofs.digest.Tie as tie
 
 abbrev Inv-loop : tie.InvT-loop
-Inv-loop s sum₀ i₀ sum i = sum < 1000003
+Inv-loop n s sum₀ i₀ sum i = sum < 1000003
 
 abbrev μ-loop : tie.MeasureT-loop
-μ-loop s sum₀ i₀ sum i = length s - i
+μ-loop n s sum₀ i₀ sum i = n - i
 
 pub digest-spec : {M : Type 1} → statement M
 digest-spec =

@@ -1,4 +1,4 @@
--- `journal_vectors::judge` is safe and ends: what it lends of its slice lies within it.
+-- `journal_vectors::judge` is safe and ends: what it lends of the journal lies within it.
 -- Assumes nothing.
 use native.Mathlib.Omega.{arith}
 use lib.ListN.{length-take}
@@ -13,11 +13,10 @@ pub judge-spec : {M : Type 1} → statement M
 judge-spec =
     tie.close
     (tie.spec
+    (λ c. search needs)
     (λ c κs. search needs)
-    (λ c κs. search needs)
+    (λ c. search needs)
     slice-aggregate-judge
-    (λ c κs. search needs)
-    (λ c κs. search needs)
     (λ c κs. search needs)
     (λ c κs. search needs)
     (λ c κs. search needs)

@@ -1,4 +1,4 @@
--- `journal_vectors::store` is safe and ends: what it lends of its slices lies within them.
+-- `journal_vectors::store` is safe and ends: what it lends of the text lies within it.
 -- Assumes nothing.
 use native.Mathlib.Omega.{arith}
 use lib.ListN.{length-take}
@@ -15,13 +15,6 @@ store-spec =
     (tie.spec
     (λ c κs. search needs)
     (λ c κs. search needs)
-    (λ c. search needs)
-    (λ c κs. search needs)
-    (λ c. search needs)
-    (λ c κs. search needs)
-    (λ c. search needs)
-    (λ c. search needs)
-    (λ c. search needs)
     (λ c. search needs)
     slice-aggregate-store
     (λ c κs. search needs)
