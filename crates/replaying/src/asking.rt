@@ -7,7 +7,7 @@ ghost use Rattle.replaying.specs.Inner.Asking.{askLeaves, askedBy, RowPu
 use answers::Answered;
 use listing::Written;
 
-// A letter's line asks, with a byte or seconds or the length of a buffer.
+// What a line asks, by its letter: a byte has come, seconds have passed, or a reader takes into a buffer of so many bytes.
 pub fn ask(
     letter: u8,
     line: u8,
@@ -44,6 +44,7 @@ pub fn put_row(number: u64, line: u8, answer: u8, size: usize, out: &mut [u8], p
     }
 }
 
+// The smaller of two lengths.
 fn least(a: usize, b: usize) -> usize
     ensures { λ r. ⌜ (r ≤ b) × (r ≡ min a b) ⌝ }
 {

@@ -72,6 +72,7 @@ fn of_item(item: Item, behind: usize) -> Order
     }
 }
 
+// An event in numbers, by its kind.
 fn of_event(e: Event, behind: usize) -> Order
     ensures { λ r. ⌜ r ≡ orderedBy (e .kind) (e .line) behind ⌝ }
 {

@@ -39,10 +39,10 @@ abbrev row : tie.After-slice-known10 Inv-loop μ-loop → tie.After-put-row Inv-
 row c = c .before .before
 
 abbrev asked : tie.After-put-row-arg Inv-loop μ-loop → tie.After-ask Inv-loop μ-loop
-asked c = c .before .before .before .before .before .before .before .before .before
+asked c = let frames-back = c .before .before .before .before in frames-back .before .before .before .before .before
 
 abbrev counted : tie.After-ask Inv-loop μ-loop → tie.After-wrapping-add-u64 Inv-loop μ-loop
-counted c = c .before .before .before .before .before .before .before
+counted c = let journal-lent = c .before .before .before .before in journal-lent .before .before .before
 
 abbrev found : tie.After-struct-known Inv-loop μ-loop → tie.After-order Inv-loop μ-loop
 found c = c .before
@@ -51,7 +51,7 @@ abbrev turning : tie.After-order Inv-loop μ-loop → tie.At-loop Inv-loop μ-lo
 turning c = c .before .before
 
 abbrev start : tie.At-loop Inv-loop μ-loop → tie.Start Inv-loop μ-loop
-start c = c .before .before .before .before .before .before .before
+start c = let known = c .before .before .before .before in known .before .before .before
 
 -- the line of a turn that goes on, and of one that stops
 abbrev line : tie.After-ask Inv-loop μ-loop → tie.After-order Inv-loop μ-loop

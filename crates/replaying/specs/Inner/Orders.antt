@@ -26,7 +26,7 @@ secondsLetter = 0x53
 abbrev pub takingLetter : ℕ
 takingLetter = 0x54
 
--- in place of a letter
+-- in place of a letter: no whole line, no room for a row, a line that is not an event
 abbrev pub noLine : ℕ
 noLine = 0
 
@@ -36,18 +36,22 @@ noRoom = 1
 abbrev pub notAnEvent : ℕ
 notAnEvent = 2
 
+-- no line
 abbrev pub nothing : ℕ → Order
 nothing why = record { letter = why; line = 0; value = 0; size = 0; behind = 0 }
 
+-- an event, by its kind
 abbrev pub orderedBy : Kind → ℕ → ℕ → Order
 orderedBy (Byte b) line behind = record { letter = byteLetter; line = line; value = b; size = 0; behind = behind }
 orderedBy (Seconds s) line behind = record { letter = secondsLetter; line = line; value = s; size = 0; behind = behind }
 
+-- an item
 abbrev pub ordered : Item → ℕ → Order
 ordered (Event e) behind = orderedBy (e .kind) (e .line) behind
 ordered (Taking line n) behind = record { letter = takingLetter; line = line; value = 0; size = n; behind = behind }
 ordered NoItem behind = nothing notAnEvent
 
+-- the next line, or none
 abbrev pub orderBy : Next → Order
 orderBy Unended = nothing noLine
 orderBy (Whole item behind) = ordered item behind
@@ -60,5 +64,6 @@ orderOf input at put most = unless (leb (put + rowRoom) most) (nothing noRoom) (
 abbrev pub stopOf : ℕ → Stop
 stopOf why = cond (is noLine why) Input (cond (is noRoom why) Output NotAnEvent)
 
+-- where it stands then
 abbrev pub stoppedBy : ℕ → ℕ → ℕ → ℕ → Progress
 stoppedBy events at put why = record { events = events; read = at; written = put; stop = stopOf why }

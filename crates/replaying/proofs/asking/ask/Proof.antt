@@ -14,16 +14,16 @@ abbrev start : tie.After-slice-known4 → tie.Start
 start c = c .before .before .before .before
 
 abbrev byte : tie.After-slice-known7 → tie.After-byte
-byte c = c .before .before .before .before .before .before
+byte c = let unfinished-back = c .before .before .before in unfinished-back .before .before .before
 
 abbrev byte-letter : tie.After-byte → tie.Then1
-byte-letter c = c .before .before .before .before .before .before
+byte-letter c = let journal-lent = c .before .before .before in journal-lent .before .before .before
 
 abbrev seconds : tie.After-slice-known10 → tie.After-seconds
-seconds c = c .before .before .before .before .before .before
+seconds c = let unfinished-back = c .before .before .before in unfinished-back .before .before .before
 
 abbrev seconds-letter : tie.After-seconds → tie.Then2
-seconds-letter c = c .before .before .before .before .before .before
+seconds-letter c = let journal-lent = c .before .before .before in journal-lent .before .before .before
 
 abbrev taking : tie.After-slice-known12 → tie.After-take
 taking c = c .before .before .before .before
