@@ -21,7 +21,7 @@ pub fn run(fd: i32, name: &[u8], n: usize, input: &mut [u8])
     let mut kept = streaming::begin(n);
     let mut turns = u64::MAX;
     while 0 < turns {
-        let turned = streaming::turn(
+        kept = streaming::turn(
             kept,
             input,
             &mut out,
@@ -32,7 +32,7 @@ pub fn run(fd: i32, name: &[u8], n: usize, input: &mut [u8])
             &mut frames,
             &mut buffer,
         );
-        kept = pass(fd, name, turned, &out, input);
+        kept = pass(fd, name, kept, &out, input);
         let stage = kept.stage;
         if streaming::is_over(stage) {
             return;

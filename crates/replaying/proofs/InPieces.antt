@@ -18,14 +18,12 @@ use Rattle.listing.specs.Texts.{newline}
 use Rattle.listing.specs.Items.{itemOf}
 use Rattle.listing.specs.declared.Item.{Item}
 use Rattle.listing.specs.declared.Item.the-variants.{Event, Taking, NotAnEvent as NoItem}
-use Rattle.replaying.specs.Lines.{firstLine, nextOf}
+use Rattle.replaying.specs.Lines.{Next, Whole, Unended, firstLine, nextOf}
 use Rattle.replaying.specs.Desk.{rowRoom, Desk, Asked, eventAsked, takingAsked}
 use Rattle.replaying.specs.Turns.{AfterTurn, stopped, rowOf, acted, onLine, turnOf}
 use Rattle.replaying.specs.Runs.{AfterRun, following, left, byTurn, runOf, pieceOf}
 use Rattle.replaying.specs.Listed.{Listed, noRows, inFront, rowThen, byItem, byLine, listed, listingOf}
 use Rattle.replaying.specs.Inner.Pieces.{Because, Goes}
-use Rattle.replaying.specs.declared.Next.{Next}
-use Rattle.replaying.specs.declared.Next.the-variants.{Whole, Unended}
 use Rattle.replaying.specs.declared.Stop.{Stop}
 use Rattle.replaying.specs.declared.Stop.the-variants.{Input, Output, NotAnEvent}
 

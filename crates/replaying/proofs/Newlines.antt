@@ -16,10 +16,8 @@ use Rattle.memory.proofs.Tests.{and-left, and-right, find-le}
 use Rattle.listing.specs.Texts.{newline}
 use Rattle.listing.specs.Items.{itemOf}
 use Rattle.listing.specs.declared.Item.{Item}
-use Rattle.replaying.specs.Lines.{firstLine, nextOf}
+use Rattle.replaying.specs.Lines.{Next, Whole, Unended, firstLine, nextOf}
 use Rattle.replaying.specs.Inner.Usual.{usual, hasNewline, isUsual}
-use Rattle.replaying.specs.declared.Next.{Next}
-use Rattle.replaying.specs.declared.Next.the-variants.{Whole, Unended}
 
 module _ (text : List ℕ) (at : ℕ) where
   -- no newline in it

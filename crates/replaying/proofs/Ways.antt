@@ -5,14 +5,14 @@ use mathlib.Core.List.{List, [], _∷_, _++_}
 use Prim.Native.Nat.{ℕ, zero, suc, _+_, _-_, _^_, _≤_, _<_, min}
 use native.Mathlib.Omega.{arith}
 use native.Mathlib.Numerals.{unary-clauses}
-use borrow.Author.Tests.{le-leb, lt-leb, leb-true, leb-false}
+use borrow.Author.Tests.{le-leb, lt-leb, leb-true, leb-false, ne-eqb}
 use lib.Dec.{leb}
 use lib.ListN.{length, take, drop}
 use Rattle.memory.specs.Parts.{splice}
 use Rattle.memory.specs.Moves.{copied}
 use Rattle.memory.proofs.Parts.{length-splice}
 use mathlib.Core.Bool.{Bool, true, false, cond, true≢false}
-use Rattle.memory.specs.Tests.{is}
+use Rattle.memory.specs.Tests.{is, unless}
 use Rattle.listing.specs.Texts.{taken, replyDigits, lastText, rowText, endOf, TextWritten}
 use Rattle.decimal.specs.Decimal.{decimalOf}
 use Rattle.listing.specs.declared.Item.{Item}
@@ -21,26 +21,19 @@ use Rattle.listing.specs.declared.Written.{Written}
 use Rattle.listing.specs.declared.Written.the-variants.{To, NotFitting}
 use Rattle.listing.proofs.Columns.{length-row}
 use Rattle.decimal.proofs.Digits.{most-digits, twenty}
-use Rattle.looking.specs.declared.Event.{Event as GatewayEvent}
 use Rattle.looking.specs.declared.Kind.{Kind}
+use Rattle.looking.specs.declared.Kind.the-variants.{Byte, Seconds}
 use Rattle.calls.specs.Calls.{HostState, Calling}
 use Rattle.reader.specs.Takings.{TakeState, Taken}
 use Rattle.answers.specs.declared.Answered.{Answered}
-use Rattle.replaying.specs.Lines.{nextOf}
-use Rattle.replaying.specs.Desk.{rowRoom, Desk, deskOf, lentToEvent, eventAsked, lentToTaking, takingAsked}
-use Rattle.replaying.specs.Turns.{AfterTurn, turnLeaves, stopped, acted, onLine, turnOf}
-use Rattle.replaying.specs.Inner.Asking.{AfterAsking, askLeaves, askedBy, turnBy, outBy, RowPut, ColumnsPut}
-use Rattle.replaying.specs.Inner.Bounds.{ReadIn}
-use Rattle.replaying.specs.declared.Columns.{Columns}
-use Rattle.replaying.specs.declared.Columns.the-variants.{Row, NoRow}
-use Rattle.replaying.specs.declared.Next.{Next}
-use Rattle.replaying.specs.declared.Stop.the-variants.{Output, NotAnEvent}
-use Rattle.replaying.specs.declared.Turn.{Turn}
-use Rattle.replaying.specs.declared.Turn.the-variants.{Went, Stopped}
-
--- an event is its line and its kind
-pub as-kind : (s : HostState) (e : GatewayEvent) {k : Kind} {r : Answered} {t : HostState} → e .kind ≡ k → Calling s (record { line = e .line; kind = k }) r t → Calling s e r t
-as-kind s e {k} {r} {t} q c = subst (λ (x : Kind). Calling s (record { line = e .line; kind = x }) r t) (sym q) c
+use Rattle.replaying.specs.Lines.{Next, Whole, Unended, nextOf}
+use Rattle.replaying.specs.Desk.{rowRoom, Desk, Asked, deskOf, lentToEvent, eventAsked, lentToTaking, takingAsked}
+use Rattle.replaying.specs.Turns.{Went, AfterTurn, turnLeaves, stopped, wrote, acted, onLine, turnOf}
+use Rattle.replaying.specs.Inner.Orders.{byteLetter, secondsLetter, noRoom, notAnEvent, nothing, orderedBy, ordered, orderBy, orderOf, stopOf}
+use Rattle.replaying.specs.Inner.Asking.{askLeaves, askedBy, RowPut}
+use Rattle.replaying.specs.declared.Order.{Order}
+use Rattle.replaying.specs.declared.Stop.the-variants.{Output}
+use Rattle.replaying.proofs.Newlines.{behind-within}
 
 -- the first n bytes, or all where there are fewer
 take-least : (n : ℕ) (b : List ℕ) → take (min n (length b)) b ≡ take n b
@@ -83,7 +76,7 @@ fits-written text out at h w =
     (rw t at (w .answer), rw t at (w .after))
 
 -- a row that has its room ends behind its bytes
-module _ (number line answer size behind : ℕ) (out : List ℕ) (put : ℕ) {w : Written} {out′ : List ℕ} (room : put + length (rowText number line answer size) ≤ length out)
+module _ (number line answer size : ℕ) (out : List ℕ) (put : ℕ) {w : Written} {out′ : List ℕ} (room : put + length (rowText number line answer size) ≤ length out)
     (t : TextWritten (rowText number line answer size) out put w out′) where
   abbrev endIn : Written → ℕ
   endIn (To n) = n
@@ -93,83 +86,125 @@ module _ (number line answer size behind : ℕ) (out : List ℕ) (put : ℕ) {w 
   isTo (To n) = true
   isTo NotFitting = false
 
-  pub row-put : {end : ℕ} → w ≡ To end → RowPut number line answer size behind out put (Went behind end) out′
+  pub row-put : {end : ℕ} → w ≡ To end → RowPut number line answer size out put end out′
   row-put {end} e =
-      let (ends, after) = fits-written (rowText number line answer size) out put room t in
-      record { turn = ap (λ (x : Written). Went behind (endIn x)) (sym e ∙ ends); after = after }
-
-  pub row-within : {end : ℕ} → w ≡ To end → end ≤ length out′
-  row-within {end} e =
       let (ends, after) = fits-written (rowText number line answer size) out put room t in
       let is : end ≡ put + length (rowText number line answer size) = ap endIn (sym e ∙ ends) in
       let long : length out′ ≡ length out = ap length after ∙ length-splice out put (rowText number line answer size) room in
-      omega (arith, is, long, room)
+      record { ends = is; after = after; within = omega (arith, is, long, room) }
 
   pub never-short : w ≡ NotFitting → ⊥
   never-short e = true≢false (ap isTo (sym (fits-written (rowText number line answer size) out put room t .0) ∙ e))
 
--- the row of what a line asked, by its columns
-module _ (columns : Columns) (number behind : ℕ) (out : List ℕ) (put : ℕ) where
-  pub columns-put : {line answer size : ℕ} {r : Turn} {out′ : List ℕ} → columns ≡ Row line answer size → RowPut number line answer size behind out put r out′
-      → ColumnsPut columns number behind out put r out′
-  columns-put q p =
-      record { turn = p .turn ∙ ap (λ (x : Columns). turnBy x number behind put) (sym q); after = p .after ∙ ap (λ (x : Columns). outBy x number out put) (sym q) }
-
-  pub nothing-put : columns ≡ NoRow → ColumnsPut columns number behind out put (Stopped NotAnEvent) out
-  nothing-put q = record { turn = ap (λ (x : Columns). turnBy x number behind put) (sym q); after = ap (λ (x : Columns). outBy x number out put) (sym q) }
-
--- what each item asks
-module _ (d : Desk) (item : Item) where
-  pub asks-event : {e : GatewayEvent} {a : Answered} {t : HostState} → item ≡ Event e → Calling (lentToEvent d) e a t
-      → askLeaves (Row (e .line) (a .number) (a .length)) (deskOf (t .numbers) (t .counts) (t .memory .journal) (t .memory .unfinished) (t .memory .frames) (d .buffer)) ≡ askedBy item d
+-- what each letter asks
+module _ (d : Desk) (letter line value size : ℕ) where
+  pub asks-byte : {a : Answered} {t : HostState} → letter ≡ byteLetter → Calling (lentToEvent d) (record { line = line; kind = Byte value }) a t
+      → askLeaves a (deskOf (t .numbers) (t .counts) (t .memory .journal) (t .memory .unfinished) (t .memory .frames) (d .buffer)) ≡ askedBy letter line value size d
   unfolding eventAsked
-  asks-event q c = rw (q, c .result, c .state)
+  asks-byte q c = rw (q, c .result, c .state)
 
-  pub asks-taking : {i n m : ℕ} {a : Answered} {t : TakeState} {b : List ℕ} → item ≡ Taking i n → m ≡ min n (length (d .buffer)) → Taken (d .numbers) i (lentToTaking m d) a t → b ≡ t .buffer ++ drop m (d .buffer)
-      → askLeaves (Row i (a .number) (a .length)) (deskOf (d .numbers) (t .counts) (t .journal) (d .unfinished) (d .frames) b) ≡ askedBy item d
+  pub asks-seconds : {a : Answered} {t : HostState} → letter ≡ secondsLetter → Calling (lentToEvent d) (record { line = line; kind = Seconds value }) a t
+      → askLeaves a (deskOf (t .numbers) (t .counts) (t .memory .journal) (t .memory .unfinished) (t .memory .frames) (d .buffer)) ≡ askedBy letter line value size d
+  unfolding eventAsked
+  asks-seconds q c = rw (q, c .result, c .state)
+
+  pub asks-taking : {m : ℕ} {a : Answered} {t : TakeState} {b : List ℕ} → (letter ≡ byteLetter → ⊥) → (letter ≡ secondsLetter → ⊥) → m ≡ min size (length (d .buffer))
+      → Taken (d .numbers) line (lentToTaking m d) a t → b ≡ t .buffer ++ drop m (d .buffer)
+      → askLeaves a (deskOf (d .numbers) (t .counts) (t .journal) (d .unfinished) (d .frames) b) ≡ askedBy letter line value size d
   unfolding takingAsked
-  asks-taking {i} {n} {m} {a} {t} q p c e =
-      let behind-lent : drop m (d .buffer) ≡ drop n (d .buffer) = rw p (drop-least n (d .buffer)) in
-      let lent : take m (d .buffer) ≡ take n (d .buffer) = rw p (take-least n (d .buffer)) in
-      let x : Taken (d .numbers) i (lentToTaking n d) a t = rw (← lent) c in
-      rw (q, e, behind-lent, x .result, x .state)
+  asks-taking {m} {a} {t} p q l c e =
+      let behind-lent : drop m (d .buffer) ≡ drop size (d .buffer) = rw l (drop-least size (d .buffer)) in
+      let lent : take m (d .buffer) ≡ take size (d .buffer) = rw l (take-least size (d .buffer)) in
+      let x : Taken (d .numbers) line (lentToTaking size d) a t = rw (← lent) c in
+      rw (ne-eqb letter byteLetter p, ne-eqb letter secondsLetter q, e, behind-lent, x .result, x .state)
 
-  pub asks-nothing : item ≡ NoItem → askLeaves NoRow d ≡ askedBy item d
-  asks-nothing q = rw q
+-- what comes next, by the room that is left
+module _ (input : List ℕ) (at put most : ℕ) where
+  pub full : leb (put + rowRoom) most ≡ false → nothing noRoom ≡ orderOf input at put most
+  full h = rw h
 
-module _ (d : Desk) (out : List ℕ) (put : ℕ) where
-  module _ (item : Item) (number behind : ℕ) where
-    -- what a line asks, done, and its row put
-    acted-is : acted item number behind out put d
-        ≡ turnLeaves (turnBy (askedBy item d .columns) number behind put) (outBy (askedBy item d .columns) number out put) (askedBy item d .desk)
-    acted-is = by-item item
-      where
-        by-item : (x : Item)
-            → acted x number behind out put d ≡ turnLeaves (turnBy (askedBy x d .columns) number behind put) (outBy (askedBy x d .columns) number out put) (askedBy x d .desk)
-        by-item (Event e) = refl
-        by-item (Taking i n) = refl
-        by-item NoItem = refl
+  pub roomy : {o : Order} → leb (put + rowRoom) most ≡ true → o ≡ orderBy (nextOf input at) → o ≡ orderOf input at put most
+  roomy h q = rw h q
 
-    pub asked-put : {c : Columns} {r : Turn} {out′ : List ℕ} {d′ : Desk} → askLeaves c d′ ≡ askedBy item d → ColumnsPut c number behind out put r out′
-        → turnLeaves r out′ d′ ≡ acted item number behind out put d
-    asked-put a t =
-        rw (t .turn, t .after)
-        (ap (λ (x : AfterAsking). turnLeaves (turnBy (x .columns) number behind put) (outBy (x .columns) number out put) (x .desk)) a ∙ sym acted-is)
+-- what comes next, and the turn that it is
+module _ (input : List ℕ) (at : ℕ) (out : List ℕ) (put : ℕ) where
+  abbrev order : Bool → Next → Order
+  order room x = unless room (nothing noRoom) (orderBy x)
 
-    -- where the line behind starts
-    pub acted-behind : (most : ℕ) {r : Turn} → behind ≤ most → r ≡ acted item number behind out put d .turn → ReadIn r most
-    acted-behind most {r} h q = subst (λ (x : Turn). ReadIn x most) (sym q) (by-item item)
-      where
-        by-item : (x : Item) → ReadIn (acted x number behind out put d .turn) most
-        by-item (Event e) = h
-        by-item (Taking i n) = h
-        by-item NoItem = tt
+  -- the line behind starts within the piece
+  pub order-within : {o : Order} → o ≡ orderOf input at put (length out) → o .behind ≤ length input
+  order-within q = subst (λ (x : Order). x .behind ≤ length input) (sym q) (by-room (leb (put + rowRoom) (length out)) (nextOf input at) refl)
+    where
+      by-item : (x : Item) (behind : ℕ) → behind ≤ length input → ordered x behind .behind ≤ length input
+      by-item (Event e) behind h = by-kind (e .kind)
+        where
+          by-kind : (k : Kind) → orderedBy k (e .line) behind .behind ≤ length input
+          by-kind (Byte b) = h
+          by-kind (Seconds s) = h
+      by-item (Taking i n) behind h = h
+      by-item NoItem behind h = omega arith
 
-  module _ (input : List ℕ) (at number : ℕ) where
-    pub no-room : leb (put + rowRoom) (length out) ≡ false → stopped Output out d ≡ turnOf number input at out put d
+      by-room : (t : Bool) (x : Next) → x ≡ nextOf input at → order t x .behind ≤ length input
+      by-room false x e = omega arith
+      by-room true Unended e = omega arith
+      by-room true (Whole item behind) e = by-item item behind (behind-within input at e)
+
+  -- a letter stands only where there is room
+  pub order-fits : {o : Order} → o ≡ orderOf input at put (length out) → notAnEvent < o .letter → put + rowRoom ≤ length out
+  order-fits q h = by-room (leb (put + rowRoom) (length out)) refl (subst (λ (x : Order). notAnEvent < x .letter) q h)
+    where
+      by-room : (t : Bool) → leb (put + rowRoom) (length out) ≡ t → notAnEvent < order t (nextOf input at) .letter → put + rowRoom ≤ length out
+      by-room true e h = leb-true (put + rowRoom) (length out) e
+      by-room false e h = absurd (omega arith)
+
+  module _ (number : ℕ) (d : Desk) where
+    -- a letter: what it asks, and its row
+    abbrev put-by : Order → AfterTurn
+    put-by o = wrote number (o .line) (o .behind) out put (askedBy (o .letter) (o .line) (o .value) (o .size) d)
+
+    turn-is : notAnEvent < orderOf input at put (length out) .letter → turnOf number input at out put d ≡ put-by (orderOf input at put (length out))
     unfolding turnOf
-    no-room h = rw h
+    turn-is = by-room (leb (put + rowRoom) (length out)) (nextOf input at)
+      where
+        by-item : (x : Item) (behind : ℕ) → notAnEvent < ordered x behind .letter → acted x number behind out put d ≡ put-by (ordered x behind)
+        by-item (Event e) behind h = by-kind (e .kind)
+          where
+            by-kind : (k : Kind) → wrote number (e .line) behind out put (eventAsked (record { line = e .line; kind = k }) d) ≡ put-by (orderedBy k (e .line) behind)
+            by-kind (Byte b) = refl
+            by-kind (Seconds s) = refl
+        by-item (Taking i n) behind h = refl
+        by-item NoItem behind h = absurd (omega arith)
 
-    pub has-room : {x : Next} {t : AfterTurn} → leb (put + rowRoom) (length out) ≡ true → x ≡ nextOf input at → t ≡ onLine x number out put d → t ≡ turnOf number input at out put d
+        by-room : (t : Bool) (x : Next) → notAnEvent < order t x .letter → unless t (stopped Output out d) (onLine x number out put d) ≡ put-by (order t x)
+        by-room false x h = absurd (omega arith)
+        by-room true Unended h = absurd (omega arith)
+        by-room true (Whole item behind) h = by-item item behind h
+
+    pub went : {o : Order} {a : Answered} {end : ℕ} {out′ : List ℕ} {d′ : Desk} → o ≡ orderOf input at put (length out) → notAnEvent < o .letter
+        → askLeaves a d′ ≡ askedBy (o .letter) (o .line) (o .value) (o .size) d → RowPut number (o .line) (a .number) (a .length) out put end out′
+        → turnLeaves (Went (o .behind) end) out′ d′ ≡ turnOf number input at out put d
+    went {o} q h asked row =
+        let is = subst (λ (x : Order). notAnEvent < x .letter → turnOf number input at out put d ≡ put-by x) (sym q) turn-is h in
+        rw (row .ends, row .after) (ap (λ (x : Asked). wrote number (o .line) (o .behind) out put x) asked ∙ sym is)
+
+    -- none: nothing is done
+    turn-stops : orderOf input at put (length out) .letter ≤ notAnEvent → stopped (stopOf (orderOf input at put (length out) .letter)) out d ≡ turnOf number input at out put d
     unfolding turnOf
-    has-room h q l = rw (h, ← q) l
+    turn-stops = by-room (leb (put + rowRoom) (length out)) (nextOf input at)
+      where
+        by-item : (x : Item) (behind : ℕ) → ordered x behind .letter ≤ notAnEvent → stopped (stopOf (ordered x behind .letter)) out d ≡ acted x number behind out put d
+        by-item (Event e) behind h = absurd (by-kind (e .kind) h)
+          where
+            by-kind : (k : Kind) → orderedBy k (e .line) behind .letter ≤ notAnEvent → ⊥
+            by-kind (Byte b) h = omega arith
+            by-kind (Seconds s) h = omega arith
+        by-item (Taking i n) behind h = absurd (omega arith)
+        by-item NoItem behind h = refl
+
+        by-room : (t : Bool) (x : Next) → order t x .letter ≤ notAnEvent → stopped (stopOf (order t x .letter)) out d ≡ unless t (stopped Output out d) (onLine x number out put d)
+        by-room false x h = refl
+        by-room true Unended h = refl
+        by-room true (Whole item behind) h = by-item item behind h
+
+    pub stops : {o : Order} → o ≡ orderOf input at put (length out) → o .letter ≤ notAnEvent → stopped (stopOf (o .letter)) out d ≡ turnOf number input at out put d
+    stops q = subst (λ (x : Order). x .letter ≤ notAnEvent → stopped (stopOf (x .letter)) out d ≡ turnOf number input at out put d) (sym q) turn-stops

@@ -1,4 +1,4 @@
 pub mod Usual
+pub mod Orders
 pub mod Asking
-pub mod Bounds
 pub mod Pieces

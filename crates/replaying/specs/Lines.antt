@@ -7,8 +7,12 @@ use lib.Dec.{ltb}
 use Rattle.memory.specs.Tests.{is, find, unless}
 use Rattle.listing.specs.Texts.{newline}
 use Rattle.listing.specs.Items.{itemOf}
-use Rattle.replaying.specs.declared.Next.{Next}
-use Rattle.replaying.specs.declared.Next.the-variants.{Whole, Unended}
+use Rattle.listing.specs.declared.Item.{Item}
+
+-- the next line: its item and where the line behind it starts; or no whole line
+pub data Next : Type 0 where
+  Whole : Item → ℕ → Next
+  Unended : Next
 
 -- the first line of a text: its item, and where the text behind it starts, `at` bytes having stood before it
 unfoldable pub firstLine : List ℕ → ℕ → Next

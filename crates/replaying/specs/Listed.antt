@@ -5,12 +5,10 @@ use mathlib.Core.List.{List, [], _++_}
 use lib.ListN.{length, drop}
 use Rattle.listing.specs.declared.Item.{Item}
 use Rattle.listing.specs.declared.Item.the-variants.{Event, Taking, NotAnEvent as NoItem}
-use Rattle.replaying.specs.Lines.{firstLine}
+use Rattle.replaying.specs.Lines.{Next, Whole, Unended, firstLine}
 use Rattle.replaying.specs.Desk.{Desk, Asked, eventAsked, takingAsked}
 use Rattle.replaying.specs.Turns.{rowOf}
 use Rattle.replaying.specs.Runs.{following}
-use Rattle.replaying.specs.declared.Next.{Next}
-use Rattle.replaying.specs.declared.Next.the-variants.{Whole, Unended}
 use Rattle.replaying.specs.declared.Stop.{Stop}
 use Rattle.replaying.specs.declared.Stop.the-variants.{Input, NotAnEvent}
 

@@ -4,12 +4,10 @@ use Prim.Native.Nat.{ℕ, zero, suc, _+_, _%_, _^_}
 use mathlib.Core.List.{List}
 use lib.ListN.{length}
 use Rattle.replaying.specs.Desk.{Desk}
-use Rattle.replaying.specs.Turns.{turnOf}
+use Rattle.replaying.specs.Turns.{Turn, Went, Stopped, turnOf}
 use Rattle.replaying.specs.declared.Progress.{Progress}
 use Rattle.replaying.specs.declared.Stop.{Stop}
 use Rattle.replaying.specs.declared.Stop.the-variants.{Input}
-use Rattle.replaying.specs.declared.Turn.{Turn}
-use Rattle.replaying.specs.declared.Turn.the-variants.{Went, Stopped}
 
 pub record AfterRun : Type 0 where
   pub progress : Progress

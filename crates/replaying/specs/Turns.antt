@@ -10,14 +10,15 @@ use Rattle.listing.specs.Texts.{rowText}
 use Rattle.listing.specs.declared.Item.{Item}
 use Rattle.listing.specs.declared.Item.the-variants.{Event, Taking, NotAnEvent as NoItem}
 use Rattle.answers.specs.declared.Answered.{Answered}
-use Rattle.replaying.specs.Lines.{nextOf}
+use Rattle.replaying.specs.Lines.{Next, Whole, Unended, nextOf}
 use Rattle.replaying.specs.Desk.{rowRoom, Desk, Asked, eventAsked, takingAsked}
-use Rattle.replaying.specs.declared.Next.{Next}
-use Rattle.replaying.specs.declared.Next.the-variants.{Whole, Unended}
 use Rattle.replaying.specs.declared.Stop.{Stop}
 use Rattle.replaying.specs.declared.Stop.the-variants.{Input, Output, NotAnEvent}
-use Rattle.replaying.specs.declared.Turn.{Turn}
-use Rattle.replaying.specs.declared.Turn.the-variants.{Went, Stopped}
+
+-- one line replayed, with where the next one and the next row start; or nothing done
+pub data Turn : Type 0 where
+  Went : ℕ → ℕ → Turn
+  Stopped : Stop → Turn
 
 pub record AfterTurn : Type 0 where
   pub turn : Turn

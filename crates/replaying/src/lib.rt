@@ -4,9 +4,10 @@ ghost use lib.ListN.{length};
 ghost use mathlib.Core.Path.{_≡_};
 ghost use Rattle.replaying.specs.Desk.{deskOf};
 ghost use Rattle.replaying.specs.Runs.{runLeaves, pieceOf};
+ghost use Rattle.replaying.specs.Inner.Orders.{stopOf, stoppedBy};
 
+mod asking; // asking.rt: what a line asks, done, and its row written
 mod lines; // lines.rt: the next line of a trace
-mod turns; // turns.rt: one line replayed
 
 // Why a piece is left: no whole line of it is left, no room is left for a row, or its next line is not an event.
 pub enum Stop {
@@ -23,23 +24,28 @@ pub struct Progress {
     pub stop: Stop,
 }
 
-// One line replayed, with where the next one and the next row start; or nothing done.
-pub enum Turn {
-    Went(usize, usize),
-    Stopped(Stop),
+// What comes next, in numbers: the letter of the next line, or what stands in its place; its line, its byte or seconds, the length of its buffer, and where the line behind it starts.
+pub struct Order {
+    pub letter: u8,
+    pub line: u8,
+    pub value: u8,
+    pub size: usize,
+    pub behind: usize,
 }
 
-// The columns of a line's row behind its number: the line, the answer's number and the length of the entry taken; or no row, where a line is not an event.
-pub enum Columns {
-    Row(u8, u8, usize),
-    NoRow,
-}
+// The letters of a line: a byte, seconds, a taking.
+const BYTE: u8 = b'B';
 
-// The next line: its item and where the line behind it starts; or no whole line.
-pub enum Next {
-    Whole(listing::Item, usize),
-    Unended,
-}
+const SECONDS: u8 = b'S';
+
+const TAKING: u8 = b'T';
+
+// In place of a letter: no whole line is left, no room is left, or the line is not an event.
+const NO_LINE: u8 = 0;
+
+const NO_ROOM: u8 = 1;
+
+const NOT_AN_EVENT: u8 = 2;
 
 // The room that is kept for a row: the longest has 50 bytes.
 pub const ROW_ROOM: usize = 50;
@@ -65,13 +71,16 @@ pub fn run(
     let mut put = 0;
     let mut left = input.len();
     while 0 < left {
-        let next = std::num::wrapping_add_u64(count, 1);
-        let turn = turns::turn(
-            next,
-            input,
-            at,
-            out,
-            put,
+        let order = lines::order(input, at, put, out.len());
+        if order.letter <= NOT_AN_EVENT {
+            return stopped(count, at, put, order.letter);
+        }
+        count = std::num::wrapping_add_u64(count, 1);
+        let answered = asking::ask(
+            order.letter,
+            order.line,
+            order.value,
+            order.size,
             numbers,
             counts,
             journal,
@@ -79,27 +88,40 @@ pub fn run(
             frames,
             buffer,
         );
-        match turn {
-            Turn::Stopped(stop) => {
-                return Progress {
-                    events: count,
-                    read: at,
-                    written: put,
-                    stop,
-                };
-            }
-            Turn::Went(behind, end) => {
-                at = behind;
-                put = end;
-                count = next;
-            }
-        }
+        put = asking::put_row(
+            count,
+            order.line,
+            answered.number,
+            answered.length,
+            out,
+            put,
+        );
+        at = order.behind;
         left -= 1;
     }
+    stopped(count, at, put, NO_LINE)
+}
+
+// A run that stops, by what stands in place of a letter.
+fn stopped(events: u64, read: usize, written: usize, why: u8) -> Progress
+    ensures { λ r. ⌜ r ≡ stoppedBy events read written why ⌝ }
+{
     Progress {
-        events: count,
-        read: at,
-        written: put,
-        stop: Stop::Input,
+        events,
+        read,
+        written,
+        stop: stop_of(why),
     }
+}
+
+fn stop_of(why: u8) -> Stop
+    ensures { λ r. ⌜ r ≡ stopOf why ⌝ }
+{
+    if why == NO_LINE {
+        return Stop::Input;
+    }
+    if why == NO_ROOM {
+        return Stop::Output;
+    }
+    Stop::NotAnEvent
 }

@@ -2,38 +2,110 @@
 ghost use Prim.Native.Nat.{_+_, _≤_, _<_, _^_};
 ghost use mathlib.Core.Path.{_≡_};
 ghost use lib.ListN.{length};
-ghost use Rattle.replaying.specs.Lines.{nextOf, firstLine};
+ghost use lib.Dec.{leb};
+ghost use Rattle.replaying.specs.Desk.{rowRoom};
+ghost use Rattle.replaying.specs.Lines.{firstLine};
+ghost use Rattle.replaying.specs.Inner.Orders.{nothing, orderedBy, ordered, orderBy, orderOf};
 ghost use Rattle.replaying.specs.Inner.Usual.{hasNewline, isUsual};
-use super::Next;
+use super::Order;
+use listing::Item;
+use looking::Event;
+use looking::Kind;
 
 const NEWLINE: u8 = b'\n';
 
 // The length of the usual line, as `0 B 41`.
 const USUAL: usize = 6;
 
-// The line that starts at `at`.
-pub fn next(input: &[u8], at: usize) -> Next
-    ensures { λ r. ⌜ r ≡ nextOf (now (input .entry)) at ⌝ }
+// What comes next: the line that starts at `at`, where a listing of so many bytes has room for its row behind `put`.
+pub fn order(input: &[u8], at: usize, put: usize, most: usize) -> Order
+    ensures { λ r. ⌜ r ≡ orderOf (now (input .entry)) at put most ⌝ }
 {
+    if !has_room(put, most) {
+        return none(super::NO_ROOM);
+    }
     if input.len() < at {
-        return Next::Unended;
+        return none(super::NO_LINE);
     }
     first(&input[at..], at)
 }
 
+// Whether a listing of so many bytes has room for a row behind `put`.
+fn has_room(put: usize, most: usize) -> bool
+    ensures { λ r. ⌜ r ≡ leb (put + rowRoom) most ⌝ }
+{
+    if most < put {
+        return false;
+    }
+    super::ROW_ROOM <= most - put
+}
+
 // The first line of what is left behind `at` bytes. A line of the usual length is seen without a scan.
-fn first(rest: &[u8], at: usize) -> Next
+fn first(rest: &[u8], at: usize) -> Order
     requires { ⌜ at + length (now rest) < 2 ^ 64 ⌝ }
-    ensures { λ r. ⌜ r ≡ firstLine (now (rest .entry)) at ⌝ }
+    ensures { λ r. ⌜ r ≡ orderBy (firstLine (now (rest .entry)) at) ⌝ }
 {
     if is_usual(rest) {
-        return Next::Whole(listing::read(&rest[..USUAL]), at + USUAL + 1);
+        return of_item(listing::read(&rest[..USUAL]), at + USUAL + 1);
     }
     let n = records::index_of(rest, NEWLINE);
     if n == rest.len() {
-        return Next::Unended;
+        return none(super::NO_LINE);
     }
-    Next::Whole(listing::read(&rest[..n]), at + n + 1)
+    of_item(listing::read(&rest[..n]), at + n + 1)
+}
+
+// An item in numbers.
+fn of_item(item: Item, behind: usize) -> Order
+    ensures { λ r. ⌜ r ≡ ordered item behind ⌝ }
+{
+    match item {
+        Item::Event(e) => of_event(e, behind),
+        Item::Taking(line, size) => Order {
+            letter: super::TAKING,
+            line,
+            value: 0,
+            size,
+            behind,
+        },
+        Item::NotAnEvent => none(super::NOT_AN_EVENT),
+    }
+}
+
+// An event in numbers, by its kind.
+fn of_event(e: Event, behind: usize) -> Order
+    ensures { λ r. ⌜ r ≡ orderedBy (e .kind) (e .line) behind ⌝ }
+{
+    let kind = e.kind;
+    match kind {
+        Kind::Byte(value) => Order {
+            letter: super::BYTE,
+            line: e.line,
+            value,
+            size: 0,
+            behind,
+        },
+        Kind::Seconds(value) => Order {
+            letter: super::SECONDS,
+            line: e.line,
+            value,
+            size: 0,
+            behind,
+        },
+    }
+}
+
+// No line, by what stands in place of its letter.
+fn none(why: u8) -> Order
+    ensures { λ r. ⌜ r ≡ nothing why ⌝ }
+{
+    Order {
+        letter: why,
+        line: 0,
+        value: 0,
+        size: 0,
+        behind: 0,
+    }
 }
 
 // Whether the first newline is the seventh byte.

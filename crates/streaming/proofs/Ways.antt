@@ -9,7 +9,7 @@ use borrow.Author.Tests.{lt-ltb, le-ltb, le-leb, lt-leb, leb-true, leb-false}
 use lib.Dec.{ltb, leb}
 use lib.ListN.{length}
 use Rattle.memory.specs.Parts.{splice}
-use Rattle.memory.specs.Moves.{copied, ClosedUp}
+use Rattle.memory.specs.Moves.{copied, closedUp}
 use Rattle.memory.proofs.Parts.{length-splice}
 use Rattle.memory.proofs.Tests.{and-left, and-right}
 use Rattle.listing.specs.Items.{lineLimit}
@@ -21,12 +21,13 @@ use Rattle.replaying.specs.Runs.{AfterRun, runLeaves, pieceOf}
 use Rattle.replaying.specs.declared.Progress.{Progress}
 use Rattle.replaying.specs.declared.Stop.{Stop}
 use Rattle.replaying.specs.declared.Stop.the-variants.{Input, Output, NotAnEvent}
-use Rattle.streaming.specs.Stages.{isRunning, wants, nothing, closes}
+use Rattle.streaming.specs.Stages.{isRunning, nothing, closes}
 use Rattle.streaming.specs.Fed.{grown, finished, fedOf}
 use Rattle.streaming.specs.Handed.{onward, byStop, handed, moved}
 use Rattle.streaming.specs.Said.{Said, behind, silent, saying, saidOf}
 use Rattle.streaming.specs.Inner.Places.{LiesIn}
 use Rattle.streaming.specs.Inner.Ready.{isReady, insteadAt, insteadOf}
+use Rattle.streaming.specs.Inner.Rest.{movedFor}
 use Rattle.streaming.specs.Streams.{Stream, streamOf, waiting, handedOn, ran, spoken, turned}
 use Rattle.streaming.specs.declared.Kept.{Kept}
 use Rattle.streaming.specs.declared.Stage.{Stage}
@@ -92,18 +93,40 @@ module _ (k : Kept) (out : List ℕ) where
 
 -- ---- what is left of a run
 
-module _ (k : Kept) (p : Progress) (input : List ℕ) {r : Kept} (e : r ≡ handed k p) where
-  pub stays-put : wants (r .stage) ≡ false → input ≡ moved k p input
-  unfolding moved
-  stays-put w =
-      let q : wants (handed k p .stage) ≡ false = ap (λ (x : Kept). wants (x .stage)) (sym e) ∙ w in
-      rw q
+-- all whole lines are run
+module _ (at end : ℕ) (ended : Bool) (events written : ℕ) (input : List ℕ) where
+  abbrev Rests : Kept → List ℕ → Type 0
+  Rests r input′ = (r ≡ onward (end - at) ended events written) × (input′ ≡ movedFor r at end input)
 
-  pub moves : {done : Bool} {input′ : List ℕ} → wants (r .stage) ≡ true → ClosedUp input 0 (k .from + p .read) (k .end) done input′ → input′ ≡ moved k p input
-  unfolding moved
-  moves w c =
-      let q : wants (handed k p .stage) ≡ true = ap (λ (x : Kept). wants (x .stage)) (sym e) ∙ w in
-      rw q (c .after)
+  pub at-end : {r : Kept} → ended ≡ true → r ≡ closes events written Total → Rests r input
+  unfolding onward
+  at-end t e = (rw t e, rw e)
+
+  pub too-long : {r : Kept} → ended ≡ false → lineLimit < end - at → r ≡ closes events written Fault → Rests r input
+  unfolding onward
+  too-long t l e = (rw (t, lt-ltb lineLimit (end - at) l) e, rw e)
+
+  pub waits-on : {input′ : List ℕ} → ended ≡ false → end - at ≤ lineLimit → input′ ≡ closedUp input 0 at end
+      → Rests (record { from = 0; end = end - at; events = events; ended = false; written = written; stage = Wants }) input′
+  unfolding onward
+  waits-on t l m = (rw (t, le-ltb lineLimit (end - at) l), m)
+
+-- a run stopped
+module _ (k : Kept) (p : Progress) (input : List ℕ) where
+  abbrev HandedOn : Kept → List ℕ → Type 0
+  HandedOn r input′ = (r ≡ handed k p) × (input′ ≡ moved k p input)
+
+  pub no-room : p .stop ≡ Output → HandedOn (byStop Output k p) input
+  unfolding handed moved
+  no-room q = (rw q, rw q)
+
+  pub no-event : {r : Kept} → p .stop ≡ NotAnEvent → r ≡ closes (p .events) (p .written) Fault → HandedOn r input
+  unfolding handed moved
+  no-event q e = (rw q e, rw q)
+
+  pub no-line : {r : Kept} {input′ : List ℕ} → p .stop ≡ Input → r ≡ byStop Input k p → input′ ≡ movedFor r (k .from + p .read) (k .end) input → HandedOn r input′
+  unfolding handed moved
+  no-line {r} {input′} q e m = (rw q e, rw q (subst (λ (x : Kept). input′ ≡ movedFor x (k .from + p .read) (k .end) input) e m))
 
 -- what is to be written are the rows
 pub rows-shown : (k : Kept) (p : Progress) → handed k p .written ≡ p .written

@@ -14,17 +14,17 @@ use Rattle.streaming.specs.declared.Stage.the-variants.{Runs, Wants, Tot
 use Rattle.streaming.specs.Stages.{wants, closes}
 
 -- all whole lines are run, and n bytes are left: a line that is too long is not an event, wherever it ends
-unfoldable pub onward : ℕ → Bool → Progress → Kept
-onward n ended p =
-    cond ended (closes (p .events) (p .written) Total)
-    (cond (ltb lineLimit n) (closes (p .events) (p .written) Fault)
-    (record { from = 0; end = n; events = p .events; ended = false; written = p .written; stage = Wants }))
+unfoldable pub onward : ℕ → Bool → ℕ → ℕ → Kept
+onward n ended events written =
+    cond ended (closes events written Total)
+    (cond (ltb lineLimit n) (closes events written Fault)
+    (record { from = 0; end = n; events = events; ended = false; written = written; stage = Wants }))
 
 -- no room for a row: the rest is run next; a line that is not an event: it is told; no newline: more is read
 abbrev pub byStop : Stop → Kept → Progress → Kept
 byStop Output k p = record { from = k .from + p .read; end = k .end; events = p .events; ended = k .ended; written = p .written; stage = Runs }
 byStop NotAnEvent k p = closes (p .events) (p .written) Fault
-byStop Input k p = onward (k .end - (k .from + p .read)) (k .ended) p
+byStop Input k p = onward (k .end - (k .from + p .read)) (k .ended) (p .events) (p .written)
 
 unfoldable pub handed : Kept → Progress → Kept
 handed k p = byStop (p .stop) k p

@@ -3,7 +3,6 @@ ghost use Prim.Native.Nat.{_+_, _≤_, _<_, _^_};
 ghost use mathlib.Core.Path.{_≡_};
 ghost use lib.Dec.{leb};
 ghost use lib.ListN.{length};
-ghost use Rattle.streaming.specs.Stages.{closes};
 ghost use Rattle.streaming.specs.Fed.{grown, finished};
 use super::Kept;
 use super::Stage;
@@ -42,10 +41,10 @@ pub fn finish(kept: Kept, input: &mut [u8]) -> Kept
 {
     let end = kept.end;
     if kept.from == end {
-        return close(kept.events, Stage::Total);
+        return super::close(kept.events, 0, Stage::Total);
     }
     if end == input.len() {
-        return close(kept.events, Stage::Fault);
+        return super::close(kept.events, 0, Stage::Fault);
     }
     input[end] = NEWLINE;
     Kept {
@@ -55,19 +54,5 @@ pub fn finish(kept: Kept, input: &mut [u8]) -> Kept
         ended: true,
         written: 0,
         stage: Stage::Runs,
-    }
-}
-
-// The line that closes the listing comes next.
-fn close(events: u64, stage: Stage) -> Kept
-    ensures { λ r. ⌜ r ≡ closes events 0 stage ⌝ }
-{
-    Kept {
-        from: 0,
-        end: 0,
-        events,
-        ended: true,
-        written: 0,
-        stage,
     }
 }

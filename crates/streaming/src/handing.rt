@@ -1,10 +1,11 @@
 // What waits: whether it is run, and what is left of it behind a run handed on.
-ghost use Prim.Native.Nat.{_+_, _≤_};
+ghost use Prim.Native.Nat.{_+_, _-_, _≤_};
 ghost use mathlib.Core.Path.{_≡_};
 ghost use lib.ListN.{length};
-ghost use Rattle.streaming.specs.Stages.{isRunning, closes};
+ghost use Rattle.streaming.specs.Stages.{isRunning};
 ghost use Rattle.streaming.specs.Handed.{handed, moved, onward};
 ghost use Rattle.streaming.specs.Inner.Ready.{isReady};
+ghost use Rattle.streaming.specs.Inner.Rest.{movedFor};
 use super::Kept;
 use super::Stage;
 use replaying::Progress;
@@ -37,75 +38,47 @@ fn runs(stage: Stage) -> bool
     }
 }
 
-// Where more is wanted, what is left moves to the start of the input.
+// What comes behind a run, by why it stopped.
 pub fn hand_on(kept: Kept, p: Progress, input: &mut [u8]) -> Kept
     requires { ⌜ (kept .from + p .read ≤ kept .end) × (kept .end ≤ length (now input)) ⌝ }
     ensures { λ r. ⌜ (r ≡ handed kept p) × (now (input .exit) ≡ moved kept p (now (input .entry))) ⌝ }
 {
-    let next = advance(kept, p);
-    let stage = next.stage;
-    if !super::wants_more(stage) {
-        return next;
-    }
-    let at = kept.from + p.read;
-    let end = kept.end;
-    memory::close_up(input, 0, at, end);
-    next
-}
-
-// What comes behind a run, by why it stopped.
-fn advance(kept: Kept, p: Progress) -> Kept
-    requires { ⌜ kept .from + p .read ≤ kept .end ⌝ }
-    ensures { λ r. ⌜ r ≡ handed kept p ⌝ }
-{
     let stop = p.stop;
+    let at = kept.from + p.read;
     match stop {
         Stop::Output => Kept {
-            from: kept.from + p.read,
+            from: at,
             end: kept.end,
             events: p.events,
             ended: kept.ended,
             written: p.written,
             stage: Stage::Runs,
         },
-        Stop::NotAnEvent => close(p, Stage::Fault),
-        Stop::Input => {
-            let at = kept.from + p.read;
-            rest(kept.end - at, kept.ended, p)
-        }
+        Stop::NotAnEvent => super::close(p.events, p.written, Stage::Fault),
+        Stop::Input => rest(at, kept.end, kept.ended, p.events, p.written, input),
     }
 }
 
-// All whole lines are run, and n bytes are left: none at the end of the trace. A line that is too long is not an event, wherever it ends.
-fn rest(n: usize, ended: bool, p: Progress) -> Kept
-    ensures { λ r. ⌜ r ≡ onward n ended p ⌝ }
+// All whole lines are run, up to `at`: at the end of the trace nothing is left. A line that is too long is not an event, wherever it ends.
+// Else more is wanted, and what is left moves to the start of the input.
+fn rest(at: usize, end: usize, ended: bool, events: u64, written: usize, input: &mut [u8]) -> Kept
+    requires { ⌜ at ≤ end ⌝ }
+    ensures { λ r. ⌜ (r ≡ onward (end - at) ended events written) × (now (input .exit) ≡ movedFor r at end (now (input .entry))) ⌝ }
 {
     if ended {
-        return close(p, Stage::Total);
+        return super::close(events, written, Stage::Total);
     }
+    let n = end - at;
     if listing::LINE_LIMIT < n {
-        return close(p, Stage::Fault);
+        return super::close(events, written, Stage::Fault);
     }
+    memory::close_up(input, 0, at, end);
     Kept {
         from: 0,
         end: n,
-        events: p.events,
+        events,
         ended: false,
-        written: p.written,
+        written,
         stage: Stage::Wants,
-    }
-}
-
-// The line that closes the listing comes behind the rows.
-fn close(p: Progress, stage: Stage) -> Kept
-    ensures { λ r. ⌜ r ≡ closes (p .events) (p .written) stage ⌝ }
-{
-    Kept {
-        from: 0,
-        end: 0,
-        events: p.events,
-        ended: true,
-        written: p.written,
-        stage,
     }
 }

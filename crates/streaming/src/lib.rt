@@ -4,7 +4,7 @@ ghost use Prim.Native.Nat.{_≤_};
 ghost use mathlib.Core.Path.{_≡_};
 ghost use lib.ListN.{length};
 ghost use Rattle.replaying.specs.Desk.{deskOf};
-ghost use Rattle.streaming.specs.Stages.{begun, wants, isOver, nothing};
+ghost use Rattle.streaming.specs.Stages.{begun, wants, isOver, nothing, closes};
 ghost use Rattle.streaming.specs.Fed.{fedOf};
 ghost use Rattle.streaming.specs.Streams.{streamOf, turned};
 
@@ -89,6 +89,20 @@ pub fn over() -> Kept
     }
 }
 
+// The line that closes the listing comes behind so many bytes of rows.
+fn close(events: u64, written: usize, stage: Stage) -> Kept
+    ensures { λ r. ⌜ r ≡ closes events written stage ⌝ }
+{
+    Kept {
+        from: 0,
+        end: 0,
+        events,
+        ended: true,
+        written,
+        stage,
+    }
+}
+
 // n bytes were read behind what waits; none where the trace is at its end.
 pub fn feed(kept: Kept, n: usize, input: &mut [u8]) -> Kept
     ensures { λ r. ⌜ (r ≡ fedOf kept n (now (input .entry)) .kept) × (now (input .exit) ≡ fedOf kept n (now (input .entry)) .input) ⌝ }
@@ -123,16 +137,19 @@ pub fn turn(
     }
     let from = kept.from;
     let end = kept.end;
-    let p = replaying::run(
-        kept.events,
-        &input[from..end],
-        out,
-        numbers,
-        counts,
-        journal,
-        unfinished,
-        frames,
-        buffer,
-    );
-    handing::hand_on(kept, p, input)
+    handing::hand_on(
+        kept,
+        replaying::run(
+            kept.events,
+            &input[from..end],
+            out,
+            numbers,
+            counts,
+            journal,
+            unfinished,
+            frames,
+            buffer,
+        ),
+        input,
+    )
 }

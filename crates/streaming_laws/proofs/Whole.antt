@@ -19,7 +19,7 @@ use Rattle.listing.specs.declared.Item.the-variants.{NotAnEvent as NoItem}
 use Rattle.replaying.specs.Desk.{Desk}
 use Rattle.replaying.specs.Runs.{following}
 use Rattle.replaying.specs.Listed.{Listed, noRows, inFront, byLine, listed, listingOf}
-use Rattle.replaying.specs.declared.Next.{Next}
+use Rattle.replaying.specs.Lines.{Next}
 use Rattle.replaying.specs.declared.Stop.{Stop}
 use Rattle.replaying.specs.declared.Stop.the-variants.{Input, Output, NotAnEvent}
 use Rattle.replaying.proofs.Newlines.{unended, whole}

@@ -3,13 +3,14 @@
 use borrow.Author.Needs.{needs}
 use native.Mathlib.Omega.{arith}
 use Prim.Native.Nat.{ℕ, _≤_}
-use mathlib.Core.Path.{_≡_, refl, sym, ap, subst, _∙_}
+use mathlib.Core.Path.{_≡_, refl, sym, ap, _∙_}
 use denote.Ref.{now}
 use lib.ListN.{length}
 use mathlib.Core.List.{List}
 use Rattle.replaying.specs.Desk.{Desk, deskOf}
-use Rattle.replaying.specs.Runs.{AfterRun, runOf, pieceOf}
-use Rattle.replaying.proofs.Pieces.{one-less, none-left, went-on, stopped-at, ran-out, read-in, ends-in}
+use Rattle.replaying.specs.Runs.{AfterRun, following, runOf, pieceOf}
+use Rattle.replaying.proofs.Ways.{order-within, order-fits, went, stops}
+use Rattle.replaying.proofs.Pieces.{leaves, one-less, none-left, went-on, stopped-at, ran-out}
 use Rattle.replaying.proofs.run.Statement.{statement}
 use Rattle.replaying.proofs.run.Tie as tie
 
@@ -33,40 +34,46 @@ Inv-loop events input out₀ numbers₀ counts₀ journal₀ unfinished₀ frame
 abbrev μ-loop : tie.MeasureT-loop
 μ-loop events input out₀ numbers₀ counts₀ journal₀ unfinished₀ frames₀ buffer₀ count₀ at₀ put₀ left₀ out numbers counts journal unfinished frames buffer count at put left = left
 
--- the places, each from one behind it: the call of `turn`, the count before it, the start of this turn of the loop, the function's start
-abbrev call : tie.After-slice-known10 Inv-loop μ-loop → tie.After-turn Inv-loop μ-loop
-call c = c .before .before .before .before .before .before .before .before .before .before
+-- the places, each from one behind it: the calls of `put_row` and `ask`, the count before them, the line found, the start of this turn of the loop, the function's start
+abbrev row : tie.After-slice-known10 Inv-loop μ-loop → tie.After-put-row Inv-loop μ-loop
+row c = c .before .before
 
-abbrev counted : tie.After-turn Inv-loop μ-loop → tie.After-wrapping-add-u64 Inv-loop μ-loop
-counted c = c .before .before .before .before .before .before .before .before
+abbrev asked : tie.After-put-row-arg Inv-loop μ-loop → tie.After-ask Inv-loop μ-loop
+asked c = let frames-back = c .before .before .before .before in frames-back .before .before .before .before .before
 
-abbrev turning : tie.After-turn Inv-loop μ-loop → tie.At-loop Inv-loop μ-loop
-turning c = counted c .before .before
+abbrev counted : tie.After-ask Inv-loop μ-loop → tie.After-wrapping-add-u64 Inv-loop μ-loop
+counted c = let journal-lent = c .before .before .before .before in journal-lent .before .before .before
+
+abbrev found : tie.After-struct-known Inv-loop μ-loop → tie.After-order Inv-loop μ-loop
+found c = c .before
+
+abbrev turning : tie.After-order Inv-loop μ-loop → tie.At-loop Inv-loop μ-loop
+turning c = c .before .before
 
 abbrev start : tie.At-loop Inv-loop μ-loop → tie.Start Inv-loop μ-loop
-start c = c .before .before .before .before .before .before .before
+start c = let known = c .before .before .before .before in known .before .before .before
 
--- the call of a turn that stopped, and the start of that turn
-abbrev stopped-call : tie.After-known-told Inv-loop μ-loop → tie.After-turn Inv-loop μ-loop
-stopped-call c = call (c .before .before .before)
+-- the line of a turn that goes on, and of one that stops
+abbrev line : tie.After-ask Inv-loop μ-loop → tie.After-order Inv-loop μ-loop
+line c = found (counted c .before .before)
 
-abbrev stopped-from : tie.After-known-told Inv-loop μ-loop → tie.At-loop Inv-loop μ-loop
-stopped-from c = turning (stopped-call c)
+abbrev last-line : tie.After-stopped Inv-loop μ-loop → tie.After-order Inv-loop μ-loop
+last-line c = found (c .before .before)
 
--- the test before a turn that went on
-abbrev tested : tie.After-known-told2 Inv-loop μ-loop → tie.In-loop Inv-loop μ-loop
-tested c = let t = call (c .before .before .before) in counted t .before
+-- the test before a turn that goes on
+abbrev tested : tie.After-slice-known10 Inv-loop μ-loop → tie.In-loop Inv-loop μ-loop
+tested c = line (asked (row c .before)) .before
 
 -- the desk before a turn
 abbrev desk : tie.At-loop Inv-loop μ-loop → Desk
 desk l = deskOf (l .loop .numbers) (l .loop .counts) (l .loop .journal) (l .loop .unfinished) (l .loop .frames) (l .loop .buffer)
 
--- the listing and the desk behind it
-abbrev out-behind : tie.After-turn Inv-loop μ-loop → List ℕ
-out-behind t = t .turn .last .1 .1 .1 .0
+-- the desk and the listing behind it
+abbrev desk-behind : tie.After-ask Inv-loop μ-loop → Desk
+desk-behind q = let m = q .ask .last .1 .1 .1 .1 in deskOf (m .0) (m .1 .0) (m .1 .1 .0) (m .1 .1 .1 .0) (m .1 .1 .1 .1 .0) (m .1 .1 .1 .1 .1 .0)
 
-abbrev desk-behind : tie.After-turn Inv-loop μ-loop → Desk
-desk-behind t = let m = t .turn .last .1 .1 .1 .1 .1 in deskOf (m .0) (m .1 .0) (m .1 .1 .0) (m .1 .1 .1 .0) (m .1 .1 .1 .1 .0) (m .1 .1 .1 .1 .1 .0)
+abbrev out-behind : tie.After-put-row Inv-loop μ-loop → List ℕ
+out-behind p = p .put-row .last .1 .1 .1 .1 .0
 
 loop-holds : tie.Need-loop-holds Inv-loop μ-loop
 loop-holds c = record {
@@ -80,48 +87,55 @@ loop-holds c = record {
   written-within = omega arith;
 }
 
--- the listing has its length after a turn
-out-kept : (t : tie.After-turn Inv-loop μ-loop) → length (out-behind t) ≡ length (turning t .loop .out)
-out-kept t = t .turn .kept .1 .1 .1 .0
+-- there is room for the row of a line that asks
+put-row-requires : tie.Need-put-row-requires Inv-loop μ-loop
+put-row-requires c κs =
+    let q = asked c in
+    let o = line q in
+    let l = turning o in
+    order-fits (now (start l .args .input)) (l .loop .at) (l .loop .out) (l .loop .put) (o .order .ensures) (counted q .before .if1 .left)
 
 returns : tie.Need-returns Inv-loop μ-loop
 returns c =
-    let t = call (c .before .before .before) in
-    let l = turning t in
+    let o = last-line c in
+    let l = turning o in
     let i = l .loop .inv in
-    let stop =
-    stopped-at (now (start l .args .input)) (l .loop .count) (l .loop .at) (l .loop .put) (l .loop .out) (desk l) {out′ = out-behind t} {d′ = desk-behind t}
-    (counted t .wrapping-add-u64 .ensures) (t .turn .ensures .0) (l .loop .left) (counted t .before .loop-test .taken) (c .before .turn2 .given .1) in
-    (stop ∙ sym (i .comes-to), i .read-within, subst (λ (n : ℕ). l .loop .put ≤ n) (sym (out-kept t)) (i .written-within))
+    let input = now (start l .args .input) in
+    let none = stops input (l .loop .at) (l .loop .out) (l .loop .put) (following (l .loop .count)) (desk l) (o .order .ensures) (c .before .if1 .taken) in
+    let stop = stopped-at input (l .loop .count) (l .loop .at) (l .loop .put) (l .loop .out) (desk l) (l .loop .left) (o .before .loop-test .taken) none in
+    leaves (l .loop .out) (desk l) (c .stopped .ensures) (stop ∙ sym (i .comes-to)) (i .read-within) (i .written-within)
 
 loop-again : tie.Need-loop-again Inv-loop μ-loop
 loop-again c =
-    let t = call (c .before .before .before) in
-    let l = turning t in
+    let p = row c in
+    let q = asked (p .before) in
+    let o = line q in
+    let l = turning o in
     let i = l .loop .inv in
-    let w = c .before .turn3 .given .1 in
-    let k = t .turn .kept .1 .1 .1 in
-    let m = k .1 .1 .1 .1 in record {
+    let n = counted q in
+    let input = now (start l .args .input) in
+    let goes = went input (l .loop .at) (l .loop .out) (l .loop .put) (n .wrapping-add-u64 .result) (desk l) {out′ = out-behind p} {d′ = desk-behind q} (o .order .ensures) (n .before .if1 .left) (q .ask .ensures) (p .put-row .ensures) in
+    let m = q .ask .kept .1 .1 .1 .1 .1 .1 in record {
       comes-to =
           i .comes-to
-          ∙ went-on (now (start l .args .input)) (l .loop .count) (l .loop .at) (l .loop .put) (l .loop .out) (desk l) {out′ = out-behind t} {d′ = desk-behind t}
-          (counted t .wrapping-add-u64 .ensures) (t .turn .ensures .0) (l .loop .left) (counted t .before .loop-test .taken) w;
-      out-length = k .0 ∙ i .out-length;
+          ∙ went-on input (l .loop .count) (l .loop .at) (l .loop .put) (l .loop .out) (desk l) (l .loop .left) {out′ = out-behind p} {d′ = desk-behind q}
+          (o .before .loop-test .taken) (n .wrapping-add-u64 .ensures) goes;
+      out-length = p .put-row .kept .1 .1 .1 .1 .0 ∙ i .out-length;
       journal-length = m .0 ∙ i .journal-length;
       unfinished-length = m .1 .0 ∙ i .unfinished-length;
       frames-length = m .1 .1 .0 ∙ i .frames-length;
       buffer-length = m .1 .1 .1 .0 ∙ i .buffer-length;
-      read-within = read-in w (t .turn .ensures .1);
-      written-within = ends-in w (t .turn .ensures .2);
+      read-within = order-within input (l .loop .at) (l .loop .out) (l .loop .put) (o .order .ensures);
+      written-within = p .put-row .ensures .within;
     }
 
 returns-2 : tie.Need-returns-2 Inv-loop μ-loop
 returns-2 c =
-    let l = c .before in
+    let l = c .before .before in
     let i = l .loop .inv in
-    let none : l .loop .left ≡ 0 = none-left (l .loop .left) (c .loop-test .left) in
+    let none : l .loop .left ≡ 0 = none-left (l .loop .left) (c .before .loop-test .left) in
     let done = ap (λ (n : ℕ). runOf n (now (start l .args .input)) (l .loop .count) (l .loop .at) (l .loop .put) (l .loop .out) (desk l)) none in
-    (ran-out _ _ _ _ _ _ ∙ sym (i .comes-to ∙ done), i .read-within, i .written-within)
+    leaves (l .loop .out) (desk l) (c .stopped2 .ensures) (ran-out _ _ _ _ _ _ ∙ sym (i .comes-to ∙ done)) (i .read-within) (i .written-within)
 
 pub run-spec : {M : Type 1} → statement M
 run-spec =
@@ -132,20 +146,22 @@ run-spec =
     loop-holds
     (λ c κs. search needs)
     (λ c κs. search needs)
-    (λ c. search needs)
-    (λ c. out-kept (stopped-call c) ∙ stopped-from c .loop .inv .out-length)
-    (λ c. stopped-call c .turn .kept .1 .1 .1 .1 .1 .1 .1 .0 ∙ stopped-from c .loop .inv .journal-length)
-    (λ c. stopped-call c .turn .kept .1 .1 .1 .1 .1 .1 .1 .1 .0 ∙ stopped-from c .loop .inv .unfinished-length)
-    (λ c. stopped-call c .turn .kept .1 .1 .1 .1 .1 .1 .1 .1 .1 .0 ∙ stopped-from c .loop .inv .frames-length)
-    (λ c. stopped-call c .turn .kept .1 .1 .1 .1 .1 .1 .1 .1 .1 .1 .0 ∙ stopped-from c .loop .inv .buffer-length)
+    (λ c. turning (last-line c) .loop .inv .out-length)
+    (λ c. turning (last-line c) .loop .inv .journal-length)
+    (λ c. turning (last-line c) .loop .inv .unfinished-length)
+    (λ c. turning (last-line c) .loop .inv .frames-length)
+    (λ c. turning (last-line c) .loop .inv .buffer-length)
     returns
-    (λ c. search needs)
+    (λ c κs. search needs)
+    (λ c κs. search needs)
+    put-row-requires
     (λ c. tested c .loop-test .taken)
     (λ c. one-less (tested c .before .loop .left) (tested c .loop-test .taken))
     loop-again
-    (λ c. c .before .loop .inv .out-length)
-    (λ c. c .before .loop .inv .journal-length)
-    (λ c. c .before .loop .inv .unfinished-length)
-    (λ c. c .before .loop .inv .frames-length)
-    (λ c. c .before .loop .inv .buffer-length)
+    (λ c κs. search needs)
+    (λ c. c .before .before .loop .inv .out-length)
+    (λ c. c .before .before .loop .inv .journal-length)
+    (λ c. c .before .before .loop .inv .unfinished-length)
+    (λ c. c .before .before .loop .inv .frames-length)
+    (λ c. c .before .before .loop .inv .buffer-length)
     returns-2)

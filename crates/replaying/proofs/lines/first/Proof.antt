@@ -2,7 +2,7 @@
 -- Assumes nothing.
 use borrow.Author.Needs.{needs}
 use native.Mathlib.Omega.{arith}
-use mathlib.Core.Path.{_≡_, sym, _∙_}
+use mathlib.Core.Path.{_≡_, sym, ap, _∙_}
 use Prim.Native.Nat.{_<_, _≤_}
 use denote.Ref.{now}
 use lib.ListN.{length}
@@ -10,6 +10,7 @@ use lib.Seq.{length-take-le}
 use Rattle.memory.specs.Tests.{is, find}
 use Rattle.listing.specs.Texts.{newline}
 use Rattle.replaying.specs.Inner.Usual.{usual}
+use Rattle.replaying.specs.Inner.Orders.{orderBy}
 use Rattle.replaying.proofs.Newlines.{whole, unended, usual-line, scanned, below}
 use Rattle.replaying.proofs.lines.first.Statement.{statement}
 use Rattle.replaying.proofs.lines.first.Tie as tie
@@ -36,39 +37,40 @@ slice-aggregate-read c =
     let short : usual ≤ length (now (usual-start (c .before) .args .rest)) = omega (arith, is-usual (c .before) .0) in
     sym (length-take-le usual (now (usual-start (c .before) .args .rest)) short)
 
-add-t8 : tie.Need-add-t8
-add-t8 c = omega (arith, is-usual (c .before .before) .0, usual-start (c .before .before) .pre)
+add-of-item : tie.Need-add-of-item
+add-of-item c = omega (arith, is-usual (c .before .before) .0, usual-start (c .before .before) .pre)
 
-add-t9 : tie.Need-add-t9
-add-t9 c = omega (arith, is-usual (c .before .before) .0, usual-start (c .before .before) .pre)
+add-of-item-2 : tie.Need-add-of-item-2
+add-of-item-2 c = omega (arith, is-usual (c .before .before) .0, usual-start (c .before .before) .pre)
 
 returns : tie.Need-returns
 returns c =
-    let u = c .before .before in
+    let u = c .before .before .before in
     let a = usual-start u .args in
-    whole (now (a .rest)) (a .at) (is-usual u .1) (is-usual u .0) (c .read .ensures)
+    c .of-item .ensures ∙ ap orderBy (whole (now (a .rest)) (a .at) (is-usual u .1) (is-usual u .0) (c .before .read .ensures))
 
 returns-2 : tie.Need-returns-2
 returns-2 c =
-    let a = scan-start (c .before) .args in
-    unended (now (a .rest)) (a .at) (sym (c .before .index-of .ensures) ∙ c .if2 .taken)
+    let i = c .before .before in
+    let a = scan-start i .args in
+    c .none .ensures ∙ ap orderBy (unended (now (a .rest)) (a .at) (sym (i .index-of .ensures) ∙ c .before .if2 .taken))
 
 slice-aggregate-read-2 : tie.Need-slice-aggregate-read-2
 slice-aggregate-read-2 c =
     let i = c .before .before in
     sym (length-take-le (i .index-of .result) (now (scan-start i .args .rest)) (within i))
 
-add-t10 : tie.Need-add-t10
-add-t10 c = let i = c .before .before .before in omega (arith, within i, scan-start i .pre)
+add-of-item-3 : tie.Need-add-of-item-3
+add-of-item-3 c = let i = c .before .before .before in omega (arith, within i, scan-start i .pre)
 
-add-t15 : tie.Need-add-t15
-add-t15 c = omega (arith, ended (c .before .before), scan-start (c .before .before .before) .pre)
+add-of-item-4 : tie.Need-add-of-item-4
+add-of-item-4 c = omega (arith, ended (c .before .before), scan-start (c .before .before .before) .pre)
 
 returns-3 : tie.Need-returns-3
 returns-3 c =
-    let e = c .before .before in
+    let e = c .before .before .before in
     let a = scan-start (e .before) .args in
-    whole (now (a .rest)) (a .at) (e .before .index-of .ensures) (ended e) (c .read2 .ensures)
+    c .of-item2 .ensures ∙ ap orderBy (whole (now (a .rest)) (a .at) (e .before .index-of .ensures) (ended e) (c .before .read2 .ensures))
 
 pub first-spec : {M : Type 1} → statement M
 first-spec =
@@ -77,13 +79,16 @@ first-spec =
     (λ c κs. search needs)
     slice-aggregate-read
     (λ c κs. search needs)
-    add-t8
-    add-t9
+    add-of-item
+    add-of-item-2
+    (λ c κs. search needs)
     returns
+    (λ c κs. search needs)
     (λ c κs. search needs)
     returns-2
     slice-aggregate-read-2
     (λ c κs. search needs)
-    add-t10
-    add-t15
+    add-of-item-3
+    add-of-item-4
+    (λ c κs. search needs)
     returns-3)

@@ -1,4 +1,4 @@
--- `replaying::turns::put_row` meets its contract.
+-- `replaying::asking::put_row` meets its contract.
 -- Assumes nothing.
 use borrow.Author.Needs.{needs}
 use native.Mathlib.Omega.{arith}
@@ -6,9 +6,9 @@ use denote.Ref.{now}
 use Prim.Native.Nat.{_+_, _≤_}
 use lib.ListN.{length}
 use Rattle.listing.specs.Texts.{rowText}
-use Rattle.replaying.proofs.Ways.{row-fits, row-put, row-within, never-short}
-use Rattle.replaying.proofs.turns.put_row.Statement.{statement}
-use Rattle.replaying.proofs.turns.put_row.Tie as tie
+use Rattle.replaying.proofs.Ways.{row-fits, row-put, never-short}
+use Rattle.replaying.proofs.asking.put_row.Statement.{statement}
+use Rattle.replaying.proofs.asking.put_row.Tie as tie
 
 abbrev row : tie.After-slice-known2 → tie.After-write-row
 row c = c .before .before
@@ -25,16 +25,14 @@ fits c =
 returns : tie.Need-returns
 returns c =
     let w = row (c .before .before .before) in
-    let a = start w .args in (
-      row-put (a .number) (a .line) (a .answer) (a .size) (a .behind) (now (a .out)) (a .put) (fits w) (w .write-row .ensures) (c .before .end .given .1),
-      row-within (a .number) (a .line) (a .answer) (a .size) (a .behind) (now (a .out)) (a .put) (fits w) (w .write-row .ensures) (c .before .end .given .1),
-    )
+    let a = start w .args in
+    row-put (a .number) (a .line) (a .answer) (a .size) (now (a .out)) (a .put) (fits w) (w .write-row .ensures) (c .before .end .given .1)
 
 returns-2 : tie.Need-returns-2
 returns-2 c =
     let w = row (c .before .before) in
     let a = start w .args in
-    absurd (never-short (a .number) (a .line) (a .answer) (a .size) (a .behind) (now (a .out)) (a .put) (fits w) (w .write-row .ensures) (c .enum-told .given .1))
+    absurd (never-short (a .number) (a .line) (a .answer) (a .size) (now (a .out)) (a .put) (fits w) (w .write-row .ensures) (c .enum-told .given .1))
 
 pub put-row-spec : {M : Type 1} → statement M
 put-row-spec =

@@ -1,4 +1,4 @@
--- `replaying::turns::has_room` meets its contract.
+-- `replaying::lines::has_room` meets its contract.
 -- Assumes nothing.
 use borrow.Author.Tests.{lt-leb}
 use native.Mathlib.Omega.{arith}
@@ -6,8 +6,8 @@ use Prim.Native.Nat.{_+_, _≤_, _<_}
 use mathlib.Core.Path.{sym}
 use Rattle.replaying.specs.Desk.{rowRoom}
 use Rattle.replaying.proofs.Ways.{as-sum}
-use Rattle.replaying.proofs.turns.has_room.Statement.{statement}
-use Rattle.replaying.proofs.turns.has_room.Tie as tie
+use Rattle.replaying.proofs.lines.has_room.Statement.{statement}
+use Rattle.replaying.proofs.lines.has_room.Tie as tie
 
 returns : tie.Need-returns
 returns c =
