@@ -29,9 +29,9 @@ use Rattle.answers.specs.declared.Answered.{Answered}
 use Rattle.replaying.specs.Lines.{Next, Whole, Unended, nextOf}
 use Rattle.replaying.specs.Desk.{rowRoom, Desk, Asked, deskOf, lentToEvent, eventAsked, lentToTaking, takingAsked}
 use Rattle.replaying.specs.Turns.{Went, AfterTurn, turnLeaves, stopped, wrote, acted, onLine, turnOf}
-use Rattle.replaying.specs.Inner.Orders.{byteLetter, secondsLetter, noRoom, notAnEvent, nothing, orderedBy, ordered, orderBy, orderOf, stopOf}
+use Rattle.replaying.specs.Inner.Asks.{byteLetter, secondsLetter, noRoom, notAnEvent, nothing, asksOfKind, asksOfItem, asksBy, asksOf, stopOf}
 use Rattle.replaying.specs.Inner.Asking.{askLeaves, askedBy, RowPut}
-use Rattle.replaying.specs.declared.Order.{Order}
+use Rattle.replaying.specs.declared.Asks.{Asks}
 use Rattle.replaying.specs.declared.Stop.the-variants.{Output}
 use Rattle.replaying.proofs.Newlines.{behind-within}
 
@@ -120,91 +120,91 @@ module _ (d : Desk) (letter line value size : ℕ) where
 
 -- what comes next, by the room that is left
 module _ (input : List ℕ) (at put most : ℕ) where
-  pub full : leb (put + rowRoom) most ≡ false → nothing noRoom ≡ orderOf input at put most
+  pub full : leb (put + rowRoom) most ≡ false → nothing noRoom ≡ asksOf input at put most
   full h = rw h
 
-  pub roomy : {o : Order} → leb (put + rowRoom) most ≡ true → o ≡ orderBy (nextOf input at) → o ≡ orderOf input at put most
+  pub roomy : {o : Asks} → leb (put + rowRoom) most ≡ true → o ≡ asksBy (nextOf input at) → o ≡ asksOf input at put most
   roomy h q = rw h q
 
 -- what comes next, and the turn that it is
 module _ (input : List ℕ) (at : ℕ) (out : List ℕ) (put : ℕ) where
-  abbrev order : Bool → Next → Order
-  order room x = unless room (nothing noRoom) (orderBy x)
+  abbrev asks : Bool → Next → Asks
+  asks room x = unless room (nothing noRoom) (asksBy x)
 
   -- the line behind starts within the piece
-  pub order-within : {o : Order} → o ≡ orderOf input at put (length out) → o .behind ≤ length input
-  order-within q = subst (λ (x : Order). x .behind ≤ length input) (sym q) (by-room (leb (put + rowRoom) (length out)) (nextOf input at) refl)
+  pub asks-within : {o : Asks} → o ≡ asksOf input at put (length out) → o .behind ≤ length input
+  asks-within q = subst (λ (x : Asks). x .behind ≤ length input) (sym q) (by-room (leb (put + rowRoom) (length out)) (nextOf input at) refl)
     where
-      by-item : (x : Item) (behind : ℕ) → behind ≤ length input → ordered x behind .behind ≤ length input
+      by-item : (x : Item) (behind : ℕ) → behind ≤ length input → asksOfItem x behind .behind ≤ length input
       by-item (Event e) behind h = by-kind (e .kind)
         where
-          by-kind : (k : Kind) → orderedBy k (e .line) behind .behind ≤ length input
+          by-kind : (k : Kind) → asksOfKind k (e .line) behind .behind ≤ length input
           by-kind (Byte b) = h
           by-kind (Seconds s) = h
       by-item (Taking i n) behind h = h
       by-item NoItem behind h = omega arith
 
-      by-room : (t : Bool) (x : Next) → x ≡ nextOf input at → order t x .behind ≤ length input
+      by-room : (t : Bool) (x : Next) → x ≡ nextOf input at → asks t x .behind ≤ length input
       by-room false x e = omega arith
       by-room true Unended e = omega arith
       by-room true (Whole item behind) e = by-item item behind (behind-within input at e)
 
   -- a letter stands only where there is room
-  pub order-fits : {o : Order} → o ≡ orderOf input at put (length out) → notAnEvent < o .letter → put + rowRoom ≤ length out
-  order-fits q h = by-room (leb (put + rowRoom) (length out)) refl (subst (λ (x : Order). notAnEvent < x .letter) q h)
+  pub asks-fits : {o : Asks} → o ≡ asksOf input at put (length out) → notAnEvent < o .letter → put + rowRoom ≤ length out
+  asks-fits q h = by-room (leb (put + rowRoom) (length out)) refl (subst (λ (x : Asks). notAnEvent < x .letter) q h)
     where
-      by-room : (t : Bool) → leb (put + rowRoom) (length out) ≡ t → notAnEvent < order t (nextOf input at) .letter → put + rowRoom ≤ length out
+      by-room : (t : Bool) → leb (put + rowRoom) (length out) ≡ t → notAnEvent < asks t (nextOf input at) .letter → put + rowRoom ≤ length out
       by-room true e h = leb-true (put + rowRoom) (length out) e
       by-room false e h = absurd (omega arith)
 
   module _ (number : ℕ) (d : Desk) where
     -- a letter: what it asks, and its row
-    abbrev put-by : Order → AfterTurn
+    abbrev put-by : Asks → AfterTurn
     put-by o = wrote number (o .line) (o .behind) out put (askedBy (o .letter) (o .line) (o .value) (o .size) d)
 
-    turn-is : notAnEvent < orderOf input at put (length out) .letter → turnOf number input at out put d ≡ put-by (orderOf input at put (length out))
+    turn-is : notAnEvent < asksOf input at put (length out) .letter → turnOf number input at out put d ≡ put-by (asksOf input at put (length out))
     unfolding turnOf
     turn-is = by-room (leb (put + rowRoom) (length out)) (nextOf input at)
       where
-        by-item : (x : Item) (behind : ℕ) → notAnEvent < ordered x behind .letter → acted x number behind out put d ≡ put-by (ordered x behind)
+        by-item : (x : Item) (behind : ℕ) → notAnEvent < asksOfItem x behind .letter → acted x number behind out put d ≡ put-by (asksOfItem x behind)
         by-item (Event e) behind h = by-kind (e .kind)
           where
-            by-kind : (k : Kind) → wrote number (e .line) behind out put (eventAsked (record { line = e .line; kind = k }) d) ≡ put-by (orderedBy k (e .line) behind)
+            by-kind : (k : Kind) → wrote number (e .line) behind out put (eventAsked (record { line = e .line; kind = k }) d) ≡ put-by (asksOfKind k (e .line) behind)
             by-kind (Byte b) = refl
             by-kind (Seconds s) = refl
         by-item (Taking i n) behind h = refl
         by-item NoItem behind h = absurd (omega arith)
 
-        by-room : (t : Bool) (x : Next) → notAnEvent < order t x .letter → unless t (stopped Output out d) (onLine x number out put d) ≡ put-by (order t x)
+        by-room : (t : Bool) (x : Next) → notAnEvent < asks t x .letter → unless t (stopped Output out d) (onLine x number out put d) ≡ put-by (asks t x)
         by-room false x h = absurd (omega arith)
         by-room true Unended h = absurd (omega arith)
         by-room true (Whole item behind) h = by-item item behind h
 
-    pub went : {o : Order} {a : Answered} {end : ℕ} {out′ : List ℕ} {d′ : Desk} → o ≡ orderOf input at put (length out) → notAnEvent < o .letter
+    pub went : {o : Asks} {a : Answered} {end : ℕ} {out′ : List ℕ} {d′ : Desk} → o ≡ asksOf input at put (length out) → notAnEvent < o .letter
         → askLeaves a d′ ≡ askedBy (o .letter) (o .line) (o .value) (o .size) d → RowPut number (o .line) (a .number) (a .length) out put end out′
         → turnLeaves (Went (o .behind) end) out′ d′ ≡ turnOf number input at out put d
     went {o} q h asked row =
-        let is = subst (λ (x : Order). notAnEvent < x .letter → turnOf number input at out put d ≡ put-by x) (sym q) turn-is h in
+        let is = subst (λ (x : Asks). notAnEvent < x .letter → turnOf number input at out put d ≡ put-by x) (sym q) turn-is h in
         rw (row .ends, row .after) (ap (λ (x : Asked). wrote number (o .line) (o .behind) out put x) asked ∙ sym is)
 
     -- none: nothing is done
-    turn-stops : orderOf input at put (length out) .letter ≤ notAnEvent → stopped (stopOf (orderOf input at put (length out) .letter)) out d ≡ turnOf number input at out put d
+    turn-stops : asksOf input at put (length out) .letter ≤ notAnEvent → stopped (stopOf (asksOf input at put (length out) .letter)) out d ≡ turnOf number input at out put d
     unfolding turnOf
     turn-stops = by-room (leb (put + rowRoom) (length out)) (nextOf input at)
       where
-        by-item : (x : Item) (behind : ℕ) → ordered x behind .letter ≤ notAnEvent → stopped (stopOf (ordered x behind .letter)) out d ≡ acted x number behind out put d
+        by-item : (x : Item) (behind : ℕ) → asksOfItem x behind .letter ≤ notAnEvent → stopped (stopOf (asksOfItem x behind .letter)) out d ≡ acted x number behind out put d
         by-item (Event e) behind h = absurd (by-kind (e .kind) h)
           where
-            by-kind : (k : Kind) → orderedBy k (e .line) behind .letter ≤ notAnEvent → ⊥
+            by-kind : (k : Kind) → asksOfKind k (e .line) behind .letter ≤ notAnEvent → ⊥
             by-kind (Byte b) h = omega arith
             by-kind (Seconds s) h = omega arith
         by-item (Taking i n) behind h = absurd (omega arith)
         by-item NoItem behind h = refl
 
-        by-room : (t : Bool) (x : Next) → order t x .letter ≤ notAnEvent → stopped (stopOf (order t x .letter)) out d ≡ unless t (stopped Output out d) (onLine x number out put d)
+        by-room : (t : Bool) (x : Next) → asks t x .letter ≤ notAnEvent → stopped (stopOf (asks t x .letter)) out d ≡ unless t (stopped Output out d) (onLine x number out put d)
         by-room false x h = refl
         by-room true Unended h = refl
         by-room true (Whole item behind) h = by-item item behind h
 
-    pub stops : {o : Order} → o ≡ orderOf input at put (length out) → o .letter ≤ notAnEvent → stopped (stopOf (o .letter)) out d ≡ turnOf number input at out put d
-    stops q = subst (λ (x : Order). x .letter ≤ notAnEvent → stopped (stopOf (x .letter)) out d ≡ turnOf number input at out put d) (sym q) turn-stops
+    pub stops : {o : Asks} → o ≡ asksOf input at put (length out) → o .letter ≤ notAnEvent → stopped (stopOf (o .letter)) out d ≡ turnOf number input at out put d
+    stops q = subst (λ (x : Asks). x .letter ≤ notAnEvent → stopped (stopOf (x .letter)) out d ≡ turnOf number input at out put d) (sym q) turn-stops

@@ -1,4 +1,4 @@
 pub mod Usual
-pub mod Orders
+pub mod Asks
 pub mod Asking
 pub mod Pieces

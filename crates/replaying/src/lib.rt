@@ -4,7 +4,7 @@ ghost use lib.ListN.{length};
 ghost use mathlib.Core.Path.{_≡_};
 ghost use Rattle.replaying.specs.Desk.{deskOf};
 ghost use Rattle.replaying.specs.Runs.{runLeaves, pieceOf};
-ghost use Rattle.replaying.specs.Inner.Orders.{stopOf, stoppedBy};
+ghost use Rattle.replaying.specs.Inner.Asks.{stopOf, stoppedBy};
 
 mod asking; // asking.rt: what a line asks, done, and its row written
 mod lines; // lines.rt: the next line of a trace
@@ -25,7 +25,7 @@ pub struct Progress {
 }
 
 // What comes next, in numbers: the letter of the next line, or what stands in its place; its line, its byte or seconds, the length of its buffer, and where the line behind it starts.
-pub struct Order {
+pub struct Asks {
     pub letter: u8,
     pub line: u8,
     pub value: u8,
@@ -71,16 +71,16 @@ pub fn run(
     let mut put = 0;
     let mut left = input.len();
     while 0 < left {
-        let order = lines::order(input, at, put, out.len());
-        if order.letter <= NOT_AN_EVENT {
-            return stopped(count, at, put, order.letter);
+        let asks = lines::next(input, at, put, out.len());
+        if asks.letter <= NOT_AN_EVENT {
+            return stopped(count, at, put, asks.letter);
         }
         count = std::num::wrapping_add_u64(count, 1);
         let answered = asking::ask(
-            order.letter,
-            order.line,
-            order.value,
-            order.size,
+            asks.letter,
+            asks.line,
+            asks.value,
+            asks.size,
             numbers,
             counts,
             journal,
@@ -88,15 +88,8 @@ pub fn run(
             frames,
             buffer,
         );
-        put = asking::put_row(
-            count,
-            order.line,
-            answered.number,
-            answered.length,
-            out,
-            put,
-        );
-        at = order.behind;
+        put = asking::put_row(count, asks.line, answered.number, answered.length, out, put);
+        at = asks.behind;
         left -= 1;
     }
     stopped(count, at, put, NO_LINE)

@@ -5,9 +5,9 @@ ghost use lib.ListN.{length};
 ghost use lib.Dec.{leb};
 ghost use Rattle.replaying.specs.Desk.{rowRoom};
 ghost use Rattle.replaying.specs.Lines.{firstLine};
-ghost use Rattle.replaying.specs.Inner.Orders.{nothing, orderedBy, ordered, orderBy, orderOf};
+ghost use Rattle.replaying.specs.Inner.Asks.{nothing, asksOfKind, asksOfItem, asksBy, asksOf};
 ghost use Rattle.replaying.specs.Inner.Usual.{hasNewline, isUsual};
-use super::Order;
+use super::Asks;
 use listing::Item;
 use looking::Event;
 use looking::Kind;
@@ -18,8 +18,8 @@ const NEWLINE: u8 = b'\n';
 const USUAL: usize = 6;
 
 // What comes next: the line that starts at `at`, where a listing of so many bytes has room for its row behind `put`.
-pub fn order(input: &[u8], at: usize, put: usize, most: usize) -> Order
-    ensures { λ r. ⌜ r ≡ orderOf (now (input .entry)) at put most ⌝ }
+pub fn next(input: &[u8], at: usize, put: usize, most: usize) -> Asks
+    ensures { λ r. ⌜ r ≡ asksOf (now (input .entry)) at put most ⌝ }
 {
     if !has_room(put, most) {
         return none(super::NO_ROOM);
@@ -41,9 +41,9 @@ fn has_room(put: usize, most: usize) -> bool
 }
 
 // The first line of what is left behind `at` bytes. A line of the usual length is seen without a scan.
-fn first(rest: &[u8], at: usize) -> Order
+fn first(rest: &[u8], at: usize) -> Asks
     requires { ⌜ at + length (now rest) < 2 ^ 64 ⌝ }
-    ensures { λ r. ⌜ r ≡ orderBy (firstLine (now (rest .entry)) at) ⌝ }
+    ensures { λ r. ⌜ r ≡ asksBy (firstLine (now (rest .entry)) at) ⌝ }
 {
     if is_usual(rest) {
         return of_item(listing::read(&rest[..USUAL]), at + USUAL + 1);
@@ -56,12 +56,12 @@ fn first(rest: &[u8], at: usize) -> Order
 }
 
 // An item in numbers.
-fn of_item(item: Item, behind: usize) -> Order
-    ensures { λ r. ⌜ r ≡ ordered item behind ⌝ }
+fn of_item(item: Item, behind: usize) -> Asks
+    ensures { λ r. ⌜ r ≡ asksOfItem item behind ⌝ }
 {
     match item {
         Item::Event(e) => of_event(e, behind),
-        Item::Taking(line, size) => Order {
+        Item::Taking(line, size) => Asks {
             letter: super::TAKING,
             line,
             value: 0,
@@ -73,19 +73,19 @@ fn of_item(item: Item, behind: usize) -> Order
 }
 
 // An event in numbers, by its kind.
-fn of_event(e: Event, behind: usize) -> Order
-    ensures { λ r. ⌜ r ≡ orderedBy (e .kind) (e .line) behind ⌝ }
+fn of_event(e: Event, behind: usize) -> Asks
+    ensures { λ r. ⌜ r ≡ asksOfKind (e .kind) (e .line) behind ⌝ }
 {
     let kind = e.kind;
     match kind {
-        Kind::Byte(value) => Order {
+        Kind::Byte(value) => Asks {
             letter: super::BYTE,
             line: e.line,
             value,
             size: 0,
             behind,
         },
-        Kind::Seconds(value) => Order {
+        Kind::Seconds(value) => Asks {
             letter: super::SECONDS,
             line: e.line,
             value,
@@ -96,10 +96,10 @@ fn of_event(e: Event, behind: usize) -> Order
 }
 
 // No line, by what stands in place of its letter.
-fn none(why: u8) -> Order
+fn none(why: u8) -> Asks
     ensures { λ r. ⌜ r ≡ nothing why ⌝ }
 {
-    Order {
+    Asks {
         letter: why,
         line: 0,
         value: 0,

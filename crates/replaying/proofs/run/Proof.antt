@@ -9,7 +9,7 @@ use lib.ListN.{length}
 use mathlib.Core.List.{List}
 use Rattle.replaying.specs.Desk.{Desk, deskOf}
 use Rattle.replaying.specs.Runs.{AfterRun, following, runOf, pieceOf}
-use Rattle.replaying.proofs.Ways.{order-within, order-fits, went, stops}
+use Rattle.replaying.proofs.Ways.{asks-within, asks-fits, went, stops}
 use Rattle.replaying.proofs.Pieces.{leaves, one-less, none-left, went-on, stopped-at, ran-out}
 use Rattle.replaying.proofs.run.Statement.{statement}
 use Rattle.replaying.proofs.run.Tie as tie
@@ -44,20 +44,20 @@ asked c = let frames-back = c .before .before .before .before in frames-back .be
 abbrev counted : tie.After-ask Inv-loop μ-loop → tie.After-wrapping-add-u64 Inv-loop μ-loop
 counted c = let journal-lent = c .before .before .before .before in journal-lent .before .before .before
 
-abbrev found : tie.After-struct-known Inv-loop μ-loop → tie.After-order Inv-loop μ-loop
+abbrev found : tie.After-struct-known Inv-loop μ-loop → tie.After-next Inv-loop μ-loop
 found c = c .before
 
-abbrev turning : tie.After-order Inv-loop μ-loop → tie.At-loop Inv-loop μ-loop
+abbrev turning : tie.After-next Inv-loop μ-loop → tie.At-loop Inv-loop μ-loop
 turning c = c .before .before
 
 abbrev start : tie.At-loop Inv-loop μ-loop → tie.Start Inv-loop μ-loop
 start c = let known = c .before .before .before .before in known .before .before .before
 
 -- the line of a turn that goes on, and of one that stops
-abbrev line : tie.After-ask Inv-loop μ-loop → tie.After-order Inv-loop μ-loop
+abbrev line : tie.After-ask Inv-loop μ-loop → tie.After-next Inv-loop μ-loop
 line c = found (counted c .before .before)
 
-abbrev last-line : tie.After-stopped Inv-loop μ-loop → tie.After-order Inv-loop μ-loop
+abbrev last-line : tie.After-stopped Inv-loop μ-loop → tie.After-next Inv-loop μ-loop
 last-line c = found (c .before .before)
 
 -- the test before a turn that goes on
@@ -93,7 +93,7 @@ put-row-requires c κs =
     let q = asked c in
     let o = line q in
     let l = turning o in
-    order-fits (now (start l .args .input)) (l .loop .at) (l .loop .out) (l .loop .put) (o .order .ensures) (counted q .before .if1 .left)
+    asks-fits (now (start l .args .input)) (l .loop .at) (l .loop .out) (l .loop .put) (o .next .ensures) (counted q .before .if1 .left)
 
 returns : tie.Need-returns Inv-loop μ-loop
 returns c =
@@ -101,7 +101,7 @@ returns c =
     let l = turning o in
     let i = l .loop .inv in
     let input = now (start l .args .input) in
-    let none = stops input (l .loop .at) (l .loop .out) (l .loop .put) (following (l .loop .count)) (desk l) (o .order .ensures) (c .before .if1 .taken) in
+    let none = stops input (l .loop .at) (l .loop .out) (l .loop .put) (following (l .loop .count)) (desk l) (o .next .ensures) (c .before .if1 .taken) in
     let stop = stopped-at input (l .loop .count) (l .loop .at) (l .loop .put) (l .loop .out) (desk l) (l .loop .left) (o .before .loop-test .taken) none in
     leaves (l .loop .out) (desk l) (c .stopped .ensures) (stop ∙ sym (i .comes-to)) (i .read-within) (i .written-within)
 
@@ -114,7 +114,7 @@ loop-again c =
     let i = l .loop .inv in
     let n = counted q in
     let input = now (start l .args .input) in
-    let goes = went input (l .loop .at) (l .loop .out) (l .loop .put) (n .wrapping-add-u64 .result) (desk l) {out′ = out-behind p} {d′ = desk-behind q} (o .order .ensures) (n .before .if1 .left) (q .ask .ensures) (p .put-row .ensures) in
+    let goes = went input (l .loop .at) (l .loop .out) (l .loop .put) (n .wrapping-add-u64 .result) (desk l) {out′ = out-behind p} {d′ = desk-behind q} (o .next .ensures) (n .before .if1 .left) (q .ask .ensures) (p .put-row .ensures) in
     let m = q .ask .kept .1 .1 .1 .1 .1 .1 in record {
       comes-to =
           i .comes-to
@@ -125,7 +125,7 @@ loop-again c =
       unfinished-length = m .1 .0 ∙ i .unfinished-length;
       frames-length = m .1 .1 .0 ∙ i .frames-length;
       buffer-length = m .1 .1 .1 .0 ∙ i .buffer-length;
-      read-within = order-within input (l .loop .at) (l .loop .out) (l .loop .put) (o .order .ensures);
+      read-within = asks-within input (l .loop .at) (l .loop .out) (l .loop .put) (o .next .ensures);
       written-within = p .put-row .ensures .within;
     }
 

@@ -11,7 +11,7 @@ use Rattle.looking.specs.declared.Kind.the-variants.{Byte, Seconds}
 use Rattle.listing.specs.Texts.{rowText}
 use Rattle.answers.specs.declared.Answered.{Answered}
 use Rattle.replaying.specs.Desk.{Desk, Asked, eventAsked, takingAsked}
-use Rattle.replaying.specs.Inner.Orders.{byteLetter, secondsLetter}
+use Rattle.replaying.specs.Inner.Asks.{byteLetter, secondsLetter}
 
 abbrev pub askLeaves : Answered → Desk → Asked
 askLeaves a d = record { answered = a; desk = d }

@@ -10,7 +10,7 @@ use lib.Seq.{length-take-le}
 use Rattle.memory.specs.Tests.{is, find}
 use Rattle.listing.specs.Texts.{newline}
 use Rattle.replaying.specs.Inner.Usual.{usual}
-use Rattle.replaying.specs.Inner.Orders.{orderBy}
+use Rattle.replaying.specs.Inner.Asks.{asksBy}
 use Rattle.replaying.proofs.Newlines.{whole, unended, usual-line, scanned, below}
 use Rattle.replaying.proofs.lines.first.Statement.{statement}
 use Rattle.replaying.proofs.lines.first.Tie as tie
@@ -47,13 +47,13 @@ returns : tie.Need-returns
 returns c =
     let u = c .before .before .before in
     let a = usual-start u .args in
-    c .of-item .ensures ∙ ap orderBy (whole (now (a .rest)) (a .at) (is-usual u .1) (is-usual u .0) (c .before .read .ensures))
+    c .of-item .ensures ∙ ap asksBy (whole (now (a .rest)) (a .at) (is-usual u .1) (is-usual u .0) (c .before .read .ensures))
 
 returns-2 : tie.Need-returns-2
 returns-2 c =
     let i = c .before .before in
     let a = scan-start i .args in
-    c .none .ensures ∙ ap orderBy (unended (now (a .rest)) (a .at) (sym (i .index-of .ensures) ∙ c .before .if2 .taken))
+    c .none .ensures ∙ ap asksBy (unended (now (a .rest)) (a .at) (sym (i .index-of .ensures) ∙ c .before .if2 .taken))
 
 slice-aggregate-read-2 : tie.Need-slice-aggregate-read-2
 slice-aggregate-read-2 c =
@@ -70,7 +70,7 @@ returns-3 : tie.Need-returns-3
 returns-3 c =
     let e = c .before .before .before in
     let a = scan-start (e .before) .args in
-    c .of-item2 .ensures ∙ ap orderBy (whole (now (a .rest)) (a .at) (e .before .index-of .ensures) (ended e) (c .before .read2 .ensures))
+    c .of-item2 .ensures ∙ ap asksBy (whole (now (a .rest)) (a .at) (e .before .index-of .ensures) (ended e) (c .before .read2 .ensures))
 
 pub first-spec : {M : Type 1} → statement M
 first-spec =

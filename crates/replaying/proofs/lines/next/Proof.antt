@@ -1,4 +1,4 @@
--- `replaying::lines::order` meets its contract.
+-- `replaying::lines::next` meets its contract.
 -- Assumes nothing.
 use borrow.Author.Needs.{needs}
 use borrow.Author.Tests.{not-true, not-false}
@@ -11,11 +11,11 @@ use lib.Dec.{leb}
 use denote.Ref.{now}
 use Rattle.replaying.specs.Desk.{rowRoom}
 use Rattle.replaying.specs.Lines.{firstLine}
-use Rattle.replaying.specs.Inner.Orders.{orderBy}
+use Rattle.replaying.specs.Inner.Asks.{asksBy}
 use Rattle.replaying.proofs.Newlines.{nothing-left, rest-is}
 use Rattle.replaying.proofs.Ways.{full, roomy}
-use Rattle.replaying.proofs.lines.order.Statement.{statement}
-use Rattle.replaying.proofs.lines.order.Tie as tie
+use Rattle.replaying.proofs.lines.next.Statement.{statement}
+use Rattle.replaying.proofs.lines.next.Tie as tie
 
 abbrev start : tie.After-has-room → tie.Start
 start c = c .before .before
@@ -34,16 +34,16 @@ returns-2 : tie.Need-returns-2
 returns-2 c =
     let e = c .before .before in
     let a = start (e .before) .args in
-    roomy (now (a .input)) (a .at) (a .put) (a .most) (room e) (c .none2 .ensures ∙ ap orderBy (nothing-left (now (a .input)) (a .at) (omega arith)))
+    roomy (now (a .input)) (a .at) (a .put) (a .most) (room e) (c .none2 .ensures ∙ ap asksBy (nothing-left (now (a .input)) (a .at) (omega arith)))
 
 returns-3 : tie.Need-returns-3
 returns-3 c =
     let e = c .before .before .before in
     let a = start (e .before) .args in
-    roomy (now (a .input)) (a .at) (a .put) (a .most) (room e) (c .first .ensures ∙ ap (λ (t : List ℕ). orderBy (firstLine t (a .at))) (rest-is (now (a .input)) (a .at) (omega arith)))
+    roomy (now (a .input)) (a .at) (a .put) (a .most) (room e) (c .first .ensures ∙ ap (λ (t : List ℕ). asksBy (firstLine t (a .at))) (rest-is (now (a .input)) (a .at) (omega arith)))
 
-pub order-spec : {M : Type 1} → statement M
-order-spec =
+pub next-spec : {M : Type 1} → statement M
+next-spec =
     tie.close
     (tie.spec
     (λ c κs. search needs)

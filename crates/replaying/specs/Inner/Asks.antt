@@ -11,7 +11,7 @@ use Rattle.listing.specs.declared.Item.{Item}
 use Rattle.listing.specs.declared.Item.the-variants.{Event, Taking, NotAnEvent as NoItem}
 use Rattle.replaying.specs.Lines.{Next, Whole, Unended, nextOf}
 use Rattle.replaying.specs.Desk.{rowRoom}
-use Rattle.replaying.specs.declared.Order.{Order}
+use Rattle.replaying.specs.declared.Asks.{Asks}
 use Rattle.replaying.specs.declared.Progress.{Progress}
 use Rattle.replaying.specs.declared.Stop.{Stop}
 use Rattle.replaying.specs.declared.Stop.the-variants.{Input, Output, NotAnEvent}
@@ -37,28 +37,28 @@ abbrev pub notAnEvent : ℕ
 notAnEvent = 2
 
 -- no line
-abbrev pub nothing : ℕ → Order
+abbrev pub nothing : ℕ → Asks
 nothing why = record { letter = why; line = 0; value = 0; size = 0; behind = 0 }
 
 -- an event, by its kind
-abbrev pub orderedBy : Kind → ℕ → ℕ → Order
-orderedBy (Byte b) line behind = record { letter = byteLetter; line = line; value = b; size = 0; behind = behind }
-orderedBy (Seconds s) line behind = record { letter = secondsLetter; line = line; value = s; size = 0; behind = behind }
+abbrev pub asksOfKind : Kind → ℕ → ℕ → Asks
+asksOfKind (Byte b) line behind = record { letter = byteLetter; line = line; value = b; size = 0; behind = behind }
+asksOfKind (Seconds s) line behind = record { letter = secondsLetter; line = line; value = s; size = 0; behind = behind }
 
 -- an item
-abbrev pub ordered : Item → ℕ → Order
-ordered (Event e) behind = orderedBy (e .kind) (e .line) behind
-ordered (Taking line n) behind = record { letter = takingLetter; line = line; value = 0; size = n; behind = behind }
-ordered NoItem behind = nothing notAnEvent
+abbrev pub asksOfItem : Item → ℕ → Asks
+asksOfItem (Event e) behind = asksOfKind (e .kind) (e .line) behind
+asksOfItem (Taking line n) behind = record { letter = takingLetter; line = line; value = 0; size = n; behind = behind }
+asksOfItem NoItem behind = nothing notAnEvent
 
 -- the next line, or none
-abbrev pub orderBy : Next → Order
-orderBy Unended = nothing noLine
-orderBy (Whole item behind) = ordered item behind
+abbrev pub asksBy : Next → Asks
+asksBy Unended = nothing noLine
+asksBy (Whole item behind) = asksOfItem item behind
 
 -- the line that starts at `at`; before all there is room for its row
-abbrev pub orderOf : List ℕ → ℕ → ℕ → ℕ → Order
-orderOf input at put most = unless (leb (put + rowRoom) most) (nothing noRoom) (orderBy (nextOf input at))
+abbrev pub asksOf : List ℕ → ℕ → ℕ → ℕ → Asks
+asksOf input at put most = unless (leb (put + rowRoom) most) (nothing noRoom) (asksBy (nextOf input at))
 
 -- why a run stops
 abbrev pub stopOf : ℕ → Stop
