@@ -1,20 +1,26 @@
 -- The list of all answers: number and values tell the answer, and what a test finds of each in the list it finds of every answer; and what holds of every objection's number.
 -- Assumes nothing.
 use mathlib.Core.Path.{_≡_, refl, sym, ap, ap₂, subst, _∙_}
-use mathlib.Core.Bool.{Bool, true, false, cond, _&&_}
+use mathlib.Core.Bool.{Bool, true, false, not, cond, _&&_, _||_}
 use mathlib.Core.List.{List, [], _∷_}
 use mathlib.Core.Option.{Option, none, some}
-use Prim.Native.Nat.{ℕ}
-use borrow.Author.Tests.{eqb-true}
-use lib.Dec.{eqb}
+use Prim.Native.Nat.{ℕ, _≤_}
+use native.Mathlib.Omega.{arith}
+use borrow.Author.Tests.{leb-true, eqb-true, le-ltb, le-leb, lt-leb, ne-eqb}
+use lib.Dec.{leb, eqb}
 use lib.ListN.{getD}
+use types.Run.{OneOf, miss}
+use denote.Enum.Declared.{tagOf}
 use Rattle.memory.specs.Tests.{between}
 use Rattle.memory.proofs.Tests.{clash, and-left, and-right}
-use Rattle.answers.specs.Paper.{numberOf, valuesOf, nak, replyOf}
+use Rattle.answers.specs.Paper.{faultNumber, isFaulty, numberOf, valuesOf, placeOf, nak, replyOf}
 use Rattle.answers.specs.Inner.Objections.{isObjection}
 use Rattle.answers.specs.declared.Answer.{Answer}
+use Rattle.answers.proofs.Answer.{the-type}
 use Rattle.answers.specs.declared.Reply.the-variants.{Byte}
-use Rattle.answers.specs.declared.Answer.the-variants.{Nothing, Opened, Accepted, Repeated, Stored, Ended, Dropped, TimedOut, Taken, Busy, Unended, Torn, WrongCheck, BadText, BadNumber, Refusing, OutOfTurn, TooLong, NoCr, NoMessage, NoRoom, NoLine, WrongSize, BeyondLimits, Broken, NothingWaiting, BufferShort, Malformed, NotFitting}
+use Rattle.answers.specs.declared.Fault.{Fault}
+use Rattle.answers.specs.declared.Fault.the-variants.{NoHeader, UnknownType, Misplaced, Misnumbered, NoFinalCr}
+use Rattle.answers.specs.declared.Answer.the-variants.{Nothing, Opened, Accepted, Repeated, Stored, Ended, Dropped, TimedOut, Taken, Busy, Unended, Torn, WrongCheck, BadText, BadNumber, Refusing, OutOfTurn, TooLong, NoCr, NoMessage, NoRoom, NoLine, WrongSize, BeyondLimits, Broken, NothingWaiting, BufferShort, Malformed, NotFitting, Faulty}
 
 -- all answers: those that carry values carry these
 abbrev pub answers : List ℕ → List Answer
@@ -48,6 +54,11 @@ answers vs =
     ∷ BufferShort
     ∷ Malformed
     ∷ NotFitting
+    ∷ Faulty NoHeader (getD vs 0 0)
+    ∷ Faulty UnknownType (getD vs 0 0)
+    ∷ Faulty Misplaced (getD vs 0 0)
+    ∷ Faulty Misnumbered (getD vs 0 0)
+    ∷ Faulty NoFinalCr (getD vs 0 0)
     ∷ []
 
 -- the first of a list with this number
@@ -86,6 +97,11 @@ listed NothingWaiting = refl
 listed BufferShort = refl
 listed Malformed = refl
 listed NotFitting = refl
+listed (Faulty NoHeader place) = refl
+listed (Faulty UnknownType place) = refl
+listed (Faulty Misplaced place) = refl
+listed (Faulty Misnumbered place) = refl
+listed (Faulty NoFinalCr place) = refl
 
 -- each answer of a list passes a test
 abbrev pub passes : (Answer → Bool) → List Answer → Bool
@@ -113,6 +129,35 @@ paper-injective a b n v =
     let same : some a ≡ some b = sym (listed a) ∙ ap₂ (λ (m : ℕ) (vs : List ℕ). first m (answers vs)) n v ∙ listed b in
     cc same
 
+-- a fault has the number of one, and its place
+pub fault-number : (f : Fault) → isFaulty (faultNumber f) ≡ true
+fault-number NoHeader = refl
+fault-number UnknownType = refl
+fault-number Misplaced = refl
+fault-number Misnumbered = refl
+fault-number NoFinalCr = refl
+
+pub faulty-place : (f : Fault) (place : ℕ) → placeOf (Faulty f place) ≡ place
+faulty-place f place = rw (fault-number f)
+
+-- which of the variants of `Answer` it is, counted from 0
+abbrev faultyTag : ℕ
+faultyTag = 29
+
+abbrev told : Answer → Bool
+told a = not (isFaulty (numberOf a)) || eqb (tagOf the-type a) faultyTag
+
+abbrev others : List ℕ
+others = 0 ∷ 1 ∷ 2 ∷ 3 ∷ 4 ∷ 5 ∷ 6 ∷ 7 ∷ 8 ∷ 9 ∷ 10 ∷ 11 ∷ 12 ∷ 13 ∷ 14 ∷ 15 ∷ 16 ∷ 17 ∷ 18 ∷ 19 ∷ 20 ∷ 21 ∷ 22 ∷ 23 ∷ 24 ∷ 25 ∷ 26 ∷ 27 ∷ 28 ∷ []
+
+-- an answer that is another variant has no place
+pub no-place : (a : Answer) → OneOf others (tagOf the-type a) → 0 ≡ placeOf a
+no-place a one = by-number (isFaulty (numberOf a)) refl (every-answer told (λ vs. refl) a)
+  where
+    by-number : (b : Bool) → isFaulty (numberOf a) ≡ b → told a ≡ true → 0 ≡ placeOf a
+    by-number true e h = absurd (miss others faultyTag tt (subst (OneOf others) (eqb-true (tagOf the-type a) faultyTag (rw e at h)) one))
+    by-number false e h = rw e
+
 -- an objection gets NAK; it is not 4, which stores, nor 31, which is for want of room, nor 41 to 43, which tell of memory, a record or a journal
 pub record Objects (n : ℕ) : Type 0 where
   pub refused : replyOf n ≡ Byte nak
@@ -120,6 +165,22 @@ pub record Objects (n : ℕ) : Type 0 where
   pub not-31 : eqb n 31 ≡ false
   pub no-fault : between 41 43 n ≡ false
 
+-- a fault does
+faulty-objects : (n : ℕ) → isFaulty n ≡ true → Objects n
+unfolding replyOf
+faulty-objects n e =
+    let low : 50 ≤ n = leb-true 50 n (and-left (leb 50 n) (leb n 54) e) in
+    record {
+      refused = rw (le-ltb n 1 (omega (arith, low)), lt-leb n 4 (omega (arith, low)), le-ltb n 20 (omega (arith, low)), lt-leb n 31 (omega (arith, low)), e);
+      not-4 = ne-eqb n 4 (λ q. absurd (omega (arith, low, q)));
+      not-31 = ne-eqb n 31 (λ q. absurd (omega (arith, low, q)));
+      no-fault = rw (le-leb 41 n (omega (arith, low)), lt-leb n 43 (omega (arith, low)));
+    }
+
 pub objection-objects : (n : ℕ) → isObjection n ≡ true → Objects n
 unfolding replyOf
-objection-objects n e = subst Objects (sym (eqb-true n 30 e)) (record { refused = refl; not-4 = refl; not-31 = refl; no-fault = refl })
+objection-objects n e = by-number (eqb n 30) refl
+  where
+    by-number : (b : Bool) → eqb n 30 ≡ b → Objects n
+    by-number true q = subst Objects (sym (eqb-true n 30 q)) (record { refused = refl; not-4 = refl; not-31 = refl; no-fault = refl })
+    by-number false q = faulty-objects n (rw q at e)

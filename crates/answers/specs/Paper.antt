@@ -1,13 +1,29 @@
 -- The number of each answer, the values that it carries, and the reply.
 -- Assumes nothing.
 use Prim.Native.Nat.{ℕ}
-use mathlib.Core.Bool.{cond}
+use mathlib.Core.Bool.{Bool, cond, _||_}
 use mathlib.Core.List.{List, [], _∷_}
 use lib.Dec.{leb, ltb}
+use lib.ListN.{getD}
+use Rattle.memory.specs.Tests.{between}
+use Rattle.answers.specs.declared.Fault.{Fault}
+use Rattle.answers.specs.declared.Fault.the-variants.{NoHeader, UnknownType, Misplaced, Misnumbered, NoFinalCr}
 use Rattle.answers.specs.declared.Answer.{Answer}
-use Rattle.answers.specs.declared.Answer.the-variants.{Nothing, Opened, Accepted, Repeated, Stored, Ended, Dropped, TimedOut, Taken, Busy, Unended, Torn, WrongCheck, BadText, BadNumber, Refusing, OutOfTurn, TooLong, NoCr, NoMessage, NoRoom, NoLine, WrongSize, BeyondLimits, Broken, NothingWaiting, BufferShort, Malformed, NotFitting}
+use Rattle.answers.specs.declared.Answer.the-variants.{Nothing, Opened, Accepted, Repeated, Stored, Ended, Dropped, TimedOut, Taken, Busy, Unended, Torn, WrongCheck, BadText, BadNumber, Refusing, OutOfTurn, TooLong, NoCr, NoMessage, NoRoom, NoLine, WrongSize, BeyondLimits, Broken, NothingWaiting, BufferShort, Malformed, NotFitting, Faulty}
 use Rattle.answers.specs.declared.Reply.{Reply}
 use Rattle.answers.specs.declared.Reply.the-variants.{Silence, Byte}
+
+-- the number of a fault of the records [A50, A51, A52, A53, A54]
+abbrev pub faultNumber : Fault → ℕ
+faultNumber NoHeader = 50
+faultNumber UnknownType = 51
+faultNumber Misplaced = 52
+faultNumber Misnumbered = 53
+faultNumber NoFinalCr = 54
+
+-- whether a number tells of such a fault
+abbrev pub isFaulty : ℕ → Bool
+isFaulty n = between 50 54 n
 
 -- the answer's number [O2]
 abbrev pub numberOf : Answer → ℕ
@@ -40,8 +56,9 @@ numberOf NothingWaiting = 44
 numberOf BufferShort = 45
 numberOf Malformed = 46
 numberOf NotFitting = 47
+numberOf (Faulty f place) = faultNumber f
 
--- what it carries: an entry taken has its text's length and its serial [A8, O2]
+-- what it carries: an entry taken has its text's length and its serial, and a fault the place of its record [A8, O2, R22]
 abbrev pub valuesOf : Answer → List ℕ
 valuesOf Nothing = []
 valuesOf Opened = []
@@ -72,6 +89,11 @@ valuesOf NothingWaiting = []
 valuesOf BufferShort = []
 valuesOf Malformed = []
 valuesOf NotFitting = []
+valuesOf (Faulty f place) = place ∷ []
+
+-- the place that a fault carries; 0 for every other answer [H5]
+abbrev pub placeOf : Answer → ℕ
+placeOf a = cond (isFaulty (numberOf a)) (getD (valuesOf a) 0 0) 0
 
 -- the bytes that are sent back [O1]
 abbrev pub ack : ℕ
@@ -80,6 +102,6 @@ ack = 0x06
 abbrev pub nak : ℕ
 nak = 0x15
 
--- 1 to 4 are acknowledged, 20 to 31 are not, and the others get no reply [O1]
+-- 1 to 4 are acknowledged, 20 to 31 and faults are not, and the others get no reply [O1]
 unfoldable pub replyOf : ℕ → Reply
-replyOf n = cond (ltb n 1) Silence (cond (leb n 4) (Byte ack) (cond (ltb n 20) Silence (cond (leb n 31) (Byte nak) Silence)))
+replyOf n = cond (ltb n 1) Silence (cond (leb n 4) (Byte ack) (cond (ltb n 20) Silence (cond (leb n 31 || isFaulty n) (Byte nak) Silence)))

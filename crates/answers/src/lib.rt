@@ -1,13 +1,37 @@
 // The answers, their numbers, and the byte that is sent back with each.
 ghost use mathlib.Core.Path.{_≡_};
-ghost use Rattle.answers.specs.Paper.{numberOf, replyOf};
+ghost use Rattle.answers.specs.Paper.{faultNumber, numberOf, placeOf, replyOf};
 ghost use Rattle.answers.specs.InNumbers.{replyByte, inNumbers as InNumbers·inNumbers};
 
 pub const ACK: u8 = 0x06;
 
 pub const NAK: u8 = 0x15;
 
-// The answers in the order of their numbers, which are those of their rules: 22 is [A22].
+// What can be wrong with the records of a text, in the order of their numbers.
+pub enum Fault {
+    NoHeader,
+    UnknownType,
+    Misplaced,
+    Misnumbered,
+    NoFinalCr,
+}
+
+impl Fault {
+    // The number of the answer that tells it.
+    pub fn number(self) -> u8
+        ensures { λ r. ⌜ r ≡ faultNumber self ⌝ }
+    {
+        match self {
+            Fault::NoHeader => 50,
+            Fault::UnknownType => 51,
+            Fault::Misplaced => 52,
+            Fault::Misnumbered => 53,
+            Fault::NoFinalCr => 54,
+        }
+    }
+}
+
+// The answers in the order of their numbers, which are those of their rules: 22 is [A22]. A fault comes with its record's place.
 pub enum Answer {
     Nothing,
     Opened,
@@ -38,6 +62,7 @@ pub enum Answer {
     BufferShort,
     Malformed,
     NotFitting,
+    Faulty(Fault, u16),
 }
 
 // The byte sent back to the analyzer, if any.
@@ -81,6 +106,17 @@ impl Answer {
             Answer::BufferShort => 45,
             Answer::Malformed => 46,
             Answer::NotFitting => 47,
+            Answer::Faulty(fault, _) => fault.number(),
+        }
+    }
+
+    // The place of the record that it finds wrong, counted from 1; 0 with every other answer.
+    pub fn place(self) -> u16
+        ensures { λ r. ⌜ r ≡ placeOf self ⌝ }
+    {
+        match self {
+            Answer::Faulty(_, place) => place,
+            _ => 0,
         }
     }
 
@@ -108,12 +144,18 @@ pub fn reply_to(number: u8) -> Reply
     if number <= 31 {
         return Reply::Byte(NAK);
     }
+    if number < 50 {
+        return Reply::Silence;
+    }
+    if number <= 54 {
+        return Reply::Byte(NAK);
+    }
     Reply::Silence
 }
 
-// An answer: its number, the byte to send back (0 for none), and for 8 the serial and the text's length.
-// The place of a fault and the case of check digits are 0 in this version. With them no byte is left unnamed, so that an answer
-// is made in registers: bytes without a name are left out of stores, and a load over such a store waits for it.
+// An answer: its number, the byte to send back (0 for none), for 8 the serial and the text's length, for a fault its record's place.
+// The case of check digits is 0 in this version. With it no byte is left unnamed, so that an answer is made in registers: bytes
+// without a name are left out of stores, and a load over such a store waits for it.
 #[repr(C)]
 pub struct Answered {
     pub number: u8,
@@ -132,7 +174,7 @@ pub fn in_numbers(answer: Answer) -> Answered
         number: answer.number(),
         reply: reply_byte(answer.reply()),
         serial: 0,
-        place: 0,
+        place: answer.place(),
         digits: 0,
         length: 0,
     }

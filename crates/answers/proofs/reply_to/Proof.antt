@@ -25,5 +25,14 @@ returns-5 : tie.Need-returns-5
 unfolding replyOf
 returns-5 c = search branches
 
+returns-6 : tie.Need-returns-6
+unfolding replyOf
+returns-6 c = search branches
+
+returns-7 : tie.Need-returns-7
+unfolding replyOf
+returns-7 c = search branches
+
 pub reply-to-spec : {M : Type 1} → statement M
-reply-to-spec = tie.close (tie.spec returns returns-2 returns-3 returns-4 returns-5)
+reply-to-spec =
+    tie.close (tie.spec returns returns-2 returns-3 returns-4 returns-5 returns-6 returns-7)
