@@ -23,8 +23,8 @@ use Rattle.kinds.specs.declared.Delimiters.{Delimiters}
 use Rattle.kinds.specs.declared.Letter.{Letter}
 use Rattle.kinds.specs.declared.Letter.the-variants.{Known, Unknown}
 use Rattle.sequence.specs.declared.Counts.{Counts}
-use Rattle.faults.specs.declared.Fault.{Fault}
-use Rattle.faults.specs.declared.Fault.the-variants.{NoHeader, Misplaced, WrongNumber, Unended}
+use Rattle.answers.specs.declared.Fault.{Fault}
+use Rattle.answers.specs.declared.Fault.the-variants.{NoHeader, Misplaced, Misnumbered, NoFinalCr}
 use Rattle.faults.specs.declared.Step.the-variants.{Fine, Wrong}
 use Rattle.faults.specs.declared.Checked.{Checked}
 use Rattle.faults.specs.declared.Checked.the-variants.{Message, NotText, Faulty}
@@ -37,7 +37,7 @@ unfolding kindStep
 one-right s Unknown n place go = refl
 one-right s (Known k) n place go = by-tests (mayFollow (s .other) k) (eqb n (countOf s k + 1))
   where
-    by-tests : (a e : Bool) → isFaultless (after (unless (a && true) (Wrong Misplaced) (unless e (Wrong WrongNumber) (Fine (counted s k n)))) place go)
+    by-tests : (a e : Bool) → isFaultless (after (unless (a && true) (Wrong Misplaced) (unless e (Wrong Misnumbered) (Fine (counted s k n)))) place go)
         ≡ a && e && isFaultless (go (counted s k n))
     by-tests true true = refl
     by-tests true false = refl
@@ -50,14 +50,14 @@ unfolding kindStep
 last-right s Unknown n place = refl
 last-right s (Known k) n place = by-tests (mayFollow (s .other) k) (eqb n (countOf s k + 1)) refl
   where
-    by-kind : (b e : Bool) → isFaultless (after (unless b (Wrong Misplaced) (unless e (Wrong WrongNumber) (Fine (counted s k n)))) place (λ t. Message)) ≡ e && b
+    by-kind : (b e : Bool) → isFaultless (after (unless b (Wrong Misplaced) (unless e (Wrong Misnumbered) (Fine (counted s k n)))) place (λ t. Message)) ≡ e && b
     by-kind true true = refl
     by-kind true false = refl
     by-kind false true = refl
     by-kind false false = refl
 
     by-tests : (a e : Bool) → mayFollow (s .other) k ≡ a
-        → isFaultless (after (unless (a && isTerminator k) (Wrong Misplaced) (unless e (Wrong WrongNumber) (Fine (counted s k n)))) place (λ t. Message))
+        → isFaultless (after (unless (a && isTerminator k) (Wrong Misplaced) (unless e (Wrong Misnumbered) (Fine (counted s k n)))) place (λ t. Message))
         ≡ a && e && isTerminator ((counted s k n) .other)
     by-tests true e h = rw (l-behind s k n h) (by-kind (isTerminator k) e)
     by-tests false e h = refl
@@ -95,7 +95,7 @@ pub no-fault : (d : Delimiters) (text : List ℕ) → isMessageBy d text ≡ isF
 unfolding isMessageBy fault
 no-fault d text =
     rw (← records-right d (records text), empty (length text))
-    (by-tests (leb 1 (length text)) (leb (length text) messageLimit) (all allowed text) (endsWithCr text) NoHeader Unended 1 (length (records text)) (recordsFault d (records text)))
+    (by-tests (leb 1 (length text)) (leb (length text) messageLimit) (all allowed text) (endsWithCr text) NoHeader NoFinalCr 1 (length (records text)) (recordsFault d (records text)))
   where
     by-tests : (m l c e : Bool) (f g : Fault) (n k : ℕ) (x : Checked)
         → m && l && c && e && isFaultless x ≡ isFaultless (unless (l && c) NotText (cond (not m) (Faulty f n) (unless e (Faulty g k) x)))

@@ -22,7 +22,7 @@ use Rattle.faults.specs.Inner.Progress.{reached, further, endedAs}
 use Rattle.kinds.specs.declared.Delimiters.{Delimiters}
 use Rattle.faults.specs.declared.Step.{Step}
 use Rattle.faults.specs.declared.Step.the-variants.{Fine, Wrong}
-use Rattle.faults.specs.declared.Fault.the-variants.{NoHeader, Unended}
+use Rattle.answers.specs.declared.Fault.the-variants.{NoHeader, NoFinalCr}
 use Rattle.faults.specs.declared.Progress.{Progress}
 use Rattle.faults.specs.declared.Progress.the-variants.{Start, Going, Stopped}
 use Rattle.faults.specs.declared.Checked.{Checked}
@@ -146,9 +146,9 @@ module _ (d : Delimiters) (s : List ℕ) (p : Progress) (at place : ℕ) (w : Wa
   is-clean : all allowed s ≡ true
   is-clean = sym (rw nothing at (w .clean))
 
-  pub walk-unended : length s < at → Faulty Unended place ≡ fault d s
+  pub walk-no-final-cr : length s < at → Faulty NoFinalCr place ≡ fault d s
   unfolding fault
-  walk-unended q =
+  walk-no-final-cr q =
       let (some, unended) = w .unclosed q in
       let all-passed : length (records s) ≡ place = let z = rw nothing at (w .counts) in omega (arith, z) in
       rw (le-leb (length s) messageLimit h, is-clean, ne-eqb (length s) 0 (λ z. omega arith), unended, all-passed)

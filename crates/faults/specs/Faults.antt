@@ -1,4 +1,4 @@
--- The first fault of a text that is no message: its kind, and its record's place, counted from 1 (request [1]).
+-- The first fault of a text that is no message: its kind, and its record's place, counted from 1.
 -- Assumes nothing.
 use Prim.Native.Nat.{ℕ, _+_}
 use mathlib.Core.List.{List, [], _∷_}
@@ -19,8 +19,8 @@ use Rattle.kinds.specs.declared.Letter.{Letter}
 use Rattle.kinds.specs.declared.Letter.the-variants.{Known, Unknown}
 use Rattle.kinds.specs.declared.Delimiters.{Delimiters}
 use Rattle.sequence.specs.declared.Counts.{Counts}
-use Rattle.faults.specs.declared.Fault.{Fault}
-use Rattle.faults.specs.declared.Fault.the-variants.{NoHeader, UnknownType, Misplaced, WrongNumber, Unended}
+use Rattle.answers.specs.Paper.{faultNumber}
+use Rattle.answers.specs.declared.Fault.the-variants.{NoHeader, UnknownType, Misplaced, Misnumbered, NoFinalCr}
 use Rattle.faults.specs.declared.Step.{Step}
 use Rattle.faults.specs.declared.Step.the-variants.{Fine, Wrong}
 use Rattle.faults.specs.declared.Checked.{Checked}
@@ -36,7 +36,7 @@ unfoldable pub kindStep : Counts → Bool → Letter → ℕ → Step
 kindStep s last Unknown n = Wrong UnknownType
 kindStep s last (Known k) n =
     unless (mayFollow (s .other) k && placed last k) (Wrong Misplaced)
-    (unless (eqb n (countOf s k + 1)) (Wrong WrongNumber) (Fine (counted s k n)))
+    (unless (eqb n (countOf s k + 1)) (Wrong Misnumbered) (Fine (counted s k n)))
 
 unfoldable pub recordStep : Delimiters → Counts → Bool → List ℕ → Step
 recordStep d s last r = kindStep s last (typeIn d r) (numberIn d r)
@@ -65,7 +65,7 @@ unfoldable pub fault : Delimiters → List ℕ → Checked
 fault d text =
     unless (leb (length text) messageLimit && all allowed text) NotText
     (cond (eqb (length text) 0) (Faulty NoHeader 1)
-    (unless (endsWithCr text) (Faulty Unended (length (records text))) (recordsFault d (records text))))
+    (unless (endsWithCr text) (Faulty NoFinalCr (length (records text))) (recordsFault d (records text))))
 
 -- there is none: the text is a message (the law `no-fault`)
 abbrev pub isFaultless : Checked → Bool
@@ -77,15 +77,7 @@ isFaultless (Faulty f place) = false
 abbrev pub faultOf : List ℕ → Checked
 faultOf text = fault standard text
 
--- the number of a fault's kind in request [1] [R22]
-abbrev pub faultNumber : Fault → ℕ
-faultNumber NoHeader = 50
-faultNumber UnknownType = 51
-faultNumber Misplaced = 52
-faultNumber WrongNumber = 53
-faultNumber Unended = 54
-
--- number and values of a refusal there; none for a message. Today each of them is 30 on a line and 46 elsewhere.
+-- number and values with which such a text is refused where it is cut or read; none for a message [A46, R22]
 abbrev pub paper : Checked → List ℕ
 paper Message = []
 paper NotText = 46 ∷ []

@@ -6,8 +6,8 @@ ghost use Rattle.kinds.specs.Kinds.{typeOf, isTerminator};
 ghost use Rattle.records.specs.Fields.{fieldOf};
 ghost use Rattle.sequence.specs.Numbers.{numberOf};
 ghost use Rattle.faults.specs.Faults.{placed, kindStep, recordStep, headerStep};
-use crate::Fault;
 use crate::Step;
+use answers::Fault;
 use kinds::Delimiters;
 use kinds::Kind;
 use kinds::Letter;
@@ -81,10 +81,10 @@ fn check_kind(s: Counts, last: bool, k: Kind, n: u32) -> Step
         return Step::Wrong(Fault::Misplaced);
     }
     if n == 0 {
-        return Step::Wrong(Fault::WrongNumber);
+        return Step::Wrong(Fault::Misnumbered);
     }
     if n - 1 != sequence::count_of(s, k) {
-        return Step::Wrong(Fault::WrongNumber);
+        return Step::Wrong(Fault::Misnumbered);
     }
     Step::Fine(sequence::count_on(s, k, n))
 }

@@ -1,20 +1,12 @@
 // The check of a text: whether it is a message, or the first fault of one that is not and the place of its record.
 ghost use mathlib.Core.Path.{_≡_};
 ghost use Rattle.faults.specs.Faults.{fault};
+use answers::Fault;
 use kinds::Delimiters;
 use sequence::Counts;
 
 mod judging; // judging.rt: one record
 mod walk; // walk.rt: one record of a text, and what the records up to it have led to
-
-// What can be wrong with the records of a text.
-pub enum Fault {
-    NoHeader,
-    UnknownType,
-    Misplaced,
-    WrongNumber,
-    Unended,
-}
 
 // What one record leads to.
 pub enum Step {
@@ -71,7 +63,7 @@ pub fn check(d: Delimiters, text: &[u8]) -> Checked
     }
     // The walk steps over each CR, so it ends past the end where the last record has none.
     if text.len() < at {
-        return Checked::Faulty(Fault::Unended, place);
+        return Checked::Faulty(Fault::NoFinalCr, place);
     }
     walk::ended(progress)
 }

@@ -7,10 +7,10 @@ ghost use Rattle.characters.specs.Allowed.{allowed};
 ghost use Rattle.records.specs.Fields.{before};
 ghost use Rattle.faults.specs.Inner.Progress.{reached, further, endedAs};
 use crate::Checked;
-use crate::Fault;
 use crate::Progress;
 use crate::Scanned;
 use crate::Step;
+use answers::Fault;
 use kinds::Delimiters;
 
 // The scan of a text's first record: each byte is looked at once, for the CR and for what is not allowed.

@@ -15,7 +15,7 @@ use Rattle.records.specs.Fields.{before}
 use Rattle.faults.specs.Faults.{fault}
 use Rattle.records.proofs.Scans.{tailAt, cut-length}
 use Rattle.faults.proofs.FirstRecord.{scanned-end, scanned-bad}
-use Rattle.faults.proofs.Walked.{Walked, walk-start, scan-within, walk-on, walk-bad, walk-unended, walk-ended}
+use Rattle.faults.proofs.Walked.{Walked, walk-start, scan-within, walk-on, walk-bad, walk-no-final-cr, walk-ended}
 use Rattle.faults.proofs.check.Statement.{statement}
 use Rattle.faults.proofs.check.Tie as tie
 
@@ -117,7 +117,7 @@ returns-3 : tie.Need-returns-3 Inv-loop μ-loop
 returns-3 c =
     let l = c .before .before in
     let a = start l .args in
-    walk-unended (a .d) (a .text .now) (l .loop .progress) (l .loop .at) (l .loop .place) (l .loop .inv) (omega arith) (omega arith) (omega arith)
+    walk-no-final-cr (a .d) (a .text .now) (l .loop .progress) (l .loop .at) (l .loop .place) (l .loop .inv) (omega arith) (omega arith) (omega arith)
 
 ended-requires : tie.Need-ended-requires Inv-loop μ-loop
 ended-requires c κs = search needs

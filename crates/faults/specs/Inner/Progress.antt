@@ -5,7 +5,7 @@ use mathlib.Core.List.{List}
 use mathlib.Core.Bool.{Bool}
 use Rattle.faults.specs.Faults.{recordStep, headerStep}
 use Rattle.kinds.specs.declared.Delimiters.{Delimiters}
-use Rattle.faults.specs.declared.Fault.the-variants.{NoHeader}
+use Rattle.answers.specs.declared.Fault.the-variants.{NoHeader}
 use Rattle.faults.specs.declared.Step.{Step}
 use Rattle.faults.specs.declared.Step.the-variants.{Fine, Wrong}
 use Rattle.faults.specs.declared.Progress.{Progress}
