@@ -179,8 +179,8 @@ faulty-objects n e =
 
 pub objection-objects : (n : ℕ) → isObjection n ≡ true → Objects n
 unfolding replyOf
-objection-objects n e = by-number (eqb n 30) refl
+objection-objects n e = by-number (isFaulty n) refl
   where
-    by-number : (b : Bool) → eqb n 30 ≡ b → Objects n
-    by-number true q = subst Objects (sym (eqb-true n 30 q)) (record { refused = refl; not-4 = refl; not-31 = refl; no-fault = refl })
-    by-number false q = faulty-objects n (rw q at e)
+    by-number : (b : Bool) → isFaulty n ≡ b → Objects n
+    by-number true q = faulty-objects n q
+    by-number false q = subst Objects (sym (eqb-true n 30 (rw q at e))) (record { refused = refl; not-4 = refl; not-31 = refl; no-fault = refl })

@@ -4,7 +4,6 @@ use Prim.Native.Nat.{ℕ}
 use mathlib.Core.Path.{_≡_}
 use mathlib.Core.Bool.{Bool, cond, _&&_}
 use mathlib.Core.List.{List, [], _∷_, _++_}
-use mathlib.Core.Option.{Option, none, some}
 use lib.ListN.{length}
 use lib.Dec.{leb, ltb}
 use Rattle.memory.specs.Parts.{splice}
@@ -13,9 +12,13 @@ use Rattle.digits.specs.Number.{nextNumber}
 use Rattle.frame.specs.Shape.{aroundText}
 use Rattle.framing.specs.Writing.{frameOf}
 use Rattle.faults.specs.Message.{isMessage}
+use Rattle.faults.specs.Faults.{faultOf}
+use Rattle.faults.specs.declared.Checked.{Checked}
+use Rattle.faults.specs.declared.Checked.the-variants as checked
+use Rattle.answers.specs.Paper.{faultNumber}
 use Rattle.cutting.specs.Pieces.{Piece, piecesOf}
 use Rattle.cutting.specs.declared.Framed.{Framed}
-use Rattle.cutting.specs.declared.Framed.the-variants.{Length, Malformed, NotFitting}
+use Rattle.cutting.specs.declared.Framed.the-variants.{Length, Malformed, NotFitting, Faulty}
 
 -- the number of a message's first frame [C3]
 abbrev pub firstNumber : ℕ
@@ -37,10 +40,20 @@ isCuttable limit text = ltb aroundText limit && isMessage text
 abbrev pub holds : List ℕ → List ℕ → Bool
 holds out bs = leb (length bs) (length out)
 
--- the length of the frames, or why there are none [A46, A47, O6, C4]
+-- why a text is not cut: 46 where it is too long or has a byte that is not allowed, else its first fault; a message is not asked [A46, R22]
+abbrev pub refusedAs : Checked → Framed
+refusedAs checked.Message = Malformed
+refusedAs checked.NotText = Malformed
+refusedAs (checked.Faulty f place) = Faulty f place
+
+-- and 46 before all where the limit leaves no room
+abbrev pub uncut : ℕ → List ℕ → Framed
+uncut limit text = unless (ltb aroundText limit) Malformed (refusedAs (faultOf text))
+
+-- the length of the frames, or why there are none [A47, O6, C4]
 unfoldable pub cutAnswer : ℕ → List ℕ → List ℕ → Framed
 cutAnswer limit text out =
-    unless (isCuttable limit text) Malformed (unless (holds out (cutOf limit text)) NotFitting (Length (length (cutOf limit text))))
+    unless (isCuttable limit text) (uncut limit text) (unless (holds out (cutOf limit text)) NotFitting (Length (length (cutOf limit text))))
 
 -- the memory after it: the frames over its start, and unchanged where there are none [R21, C4]
 unfoldable pub cutIn : ℕ → List ℕ → List ℕ → List ℕ
@@ -51,8 +64,9 @@ pub record CutInto (limit : ℕ) (text out : List ℕ) (r : Framed) (out′ : Li
   pub answer : r ≡ cutAnswer limit text out
   pub after : out′ ≡ cutIn limit text out
 
--- the number of each refusal
-abbrev pub refusedBy : Framed → Option ℕ
-refusedBy Malformed = some 46
-refusedBy NotFitting = some 47
-refusedBy (Length n) = none
+-- number and values of a refusal; none for frames
+abbrev pub paper : Framed → List ℕ
+paper (Length n) = []
+paper Malformed = 46 ∷ []
+paper NotFitting = 47 ∷ []
+paper (Faulty f place) = faultNumber f ∷ place ∷ []

@@ -2,16 +2,21 @@
 ghost use mathlib.Core.Path.{_≡_};
 ghost use lib.ListN.{take};
 ghost use Rattle.cutting.specs.Pieces.{pieceSize, throughCr};
-ghost use Rattle.cutting.specs.Frames.{CutInto};
+ghost use Rattle.faults.specs.Faults.{faultOf};
+ghost use Rattle.cutting.specs.Frames.{refusedAs, CutInto};
+use answers::Fault;
+use faults::Checked;
+use kinds::Delimiters;
 
 mod pieces; // pieces.rt: where pieces end, and how long the frames are
 mod writing; // writing.rt: the frames in lent memory
 
-// The frames' length, or why there are none.
+// The frames' length, or why there are none: of a text that is no message its first fault and the place of that record.
 pub enum Framed {
     Length(usize),
     Malformed,
     NotFitting,
+    Faulty(Fault, u16),
 }
 
 // The length of a text's first piece: through its first CR, or as many bytes as a frame within the limit holds.
@@ -26,6 +31,17 @@ pub fn first_piece(limit: usize, text: &[u8]) -> usize
     n + 1
 }
 
+// Why a text is not cut, asked only of one that is no message: whoever cuts a message does not wait for it.
+fn refused(text: &[u8]) -> Framed
+    ensures { λ r. ⌜ r ≡ refusedAs (faultOf (now (text .entry))) ⌝ }
+{
+    match faults::check(Delimiters::standard(), text) {
+        Checked::Message => Framed::Malformed,
+        Checked::NotText => Framed::Malformed,
+        Checked::Faulty(fault, place) => Framed::Faulty(fault, place),
+    }
+}
+
 // Writes the frames of a message over the start of out. All is measured first, so that a refusal writes nothing.
 pub fn cut(limit: usize, text: &[u8], out: &mut [u8]) -> Framed
     ensures { λ r. ⌜ CutInto limit (now (text .entry)) (now (out .entry)) r (now (out .exit)) ⌝ }
@@ -34,7 +50,7 @@ pub fn cut(limit: usize, text: &[u8], out: &mut [u8]) -> Framed
         return Framed::Malformed;
     }
     if !message::is_message(text) {
-        return Framed::Malformed;
+        return refused(text);
     }
     let n = pieces::measure(limit, text);
     if out.len() < n {

@@ -9,18 +9,25 @@ use lib.ListN.{length}
 use Rattle.memory.specs.Sizes.{messageLimit}
 use Rattle.memory.proofs.Tests.{is-false}
 use Rattle.room.specs.Room.{todaysShares}
+use Rattle.kinds.specs.Delimiters.{standard}
+use Rattle.kinds.specs.declared.Delimiters.{Delimiters}
 use Rattle.faults.specs.Message.{isMessage}
+use Rattle.faults.specs.Faults.{fault, faultOf}
+use Rattle.faults.specs.declared.Checked.{Checked}
+use Rattle.faults.specs.declared.Checked.the-variants as checked
 use Rattle.faults.proofs.Messages.{message-short}
+use Rattle.faults.proofs.Places.{fault-too-long}
 use Rattle.journal.specs.Verdicts.{judgeOf}
 use Rattle.journal.specs.Storage.{storeBy, storeOf, Stored}
 use Rattle.journal.specs.declared.Ledger.{Ledger}
 use Rattle.journal.specs.declared.Storing.{Storing}
 use Rattle.journal.specs.declared.Verdict.{Verdict as Judgement}
 use Rattle.answers.specs.Paper.{numberOf}
+use Rattle.answers.proofs.Paper.{fault-number}
 use Rattle.answers.specs.Inner.Objections.{isObjection}
 use Rattle.answers.specs.declared.Answer.{Answer}
 use Rattle.answers.specs.declared.Answer.the-variants.{NoMessage}
-use Rattle.deciding.specs.Decisions.{Against, objectionTo, roomOutcome, outcomeOf, ledgerBy, journalBy, DecidedBy, Decision}
+use Rattle.deciding.specs.Decisions.{Against, objection, objectionTo, roomOutcome, outcomeOf, ledgerBy, journalBy, DecidedBy, Decision}
 use Rattle.deciding.specs.declared.Outcome.{Outcome}
 use Rattle.deciding.specs.declared.Decided.{Decided}
 
@@ -29,9 +36,19 @@ pub decided-as : {d : Ledger} {i : ℕ} {s t j : List ℕ} {r : Decided} {j′ :
 decided-as {d} {i} {s} {t} {j} {r} {j′} e h = subst (λ (x : List ℕ). Decision d i x j r j′) e h
 
 -- the answer to a text that is no message has the number of an objection
+checked-number : (x : Checked) → isObjection (numberOf (objection x)) ≡ true
+checked-number checked.Message = refl
+checked-number checked.NotText = refl
+checked-number (checked.Faulty f place) = rw (fault-number f)
+
 pub objection-number : (text : List ℕ) → isObjection (numberOf (objectionTo text)) ≡ true
 unfolding objectionTo
-objection-number text = refl
+objection-number text = checked-number (faultOf text)
+
+-- it is told by what the check of the text finds, by the standard delimiters
+pub objection-checked : (text : List ℕ) (x : Checked) {d : Delimiters} {found : Checked} → d ≡ standard → found ≡ fault d text → found ≡ x → objection x ≡ objectionTo text
+unfolding objectionTo
+objection-checked text x s f e = ap objection (sym e ∙ f ∙ ap (λ (d : Delimiters). fault d text) s)
 
 -- what the journal's storing leaves is what its answer comes to
 room-row : (q : Judgement) (d : Ledger) (i : ℕ) (text j : List ℕ)
@@ -74,7 +91,7 @@ module _ (d : Ledger) (i : ℕ) (text j : List ℕ) where
   -- a text that is longer than any message
   pub too-long : (o : Outcome) → o ≡ Against NoMessage → messageLimit < length text → Decision d i text j (record { outcome = o; ledger = d }) j
   unfolding objectionTo
-  too-long o of h = no-message o of (is-false (isMessage text) (λ m. absurd (omega (arith, message-short _ text m, h))))
+  too-long o of h = no-message o (of ∙ sym (ap (λ (x : Checked). Against (objection x)) (fault-too-long standard text h))) (is-false (isMessage text) (λ m. absurd (omega (arith, message-short _ text m, h))))
 
   pub by-store : (s : Storing) (o : Outcome) (j′ : List ℕ) → isMessage text ≡ true → Stored d todaysShares i text j s j′ → o ≡ roomOutcome (s .answer) → Decision d i text j (record { outcome = o; ledger = s .ledger }) j′
   unfolding storeOf

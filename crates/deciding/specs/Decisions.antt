@@ -1,4 +1,4 @@
--- A complete text is decided, by the records and then by the journal: 30, 43, 31, 4. Only one that is stored changes the ledger and the journal.
+-- A complete text is decided, by the records and then by the journal: 30 or a fault, 43, 31, 4. Only one that is stored changes the ledger and the journal.
 -- Assumes nothing.
 use Prim.Native.Nat.{ℕ}
 use mathlib.Core.Path.{_≡_}
@@ -7,12 +7,15 @@ use lib.ListN.{length}
 use Rattle.memory.specs.Tests.{unless}
 use Rattle.room.specs.Room.{todaysShares}
 use Rattle.faults.specs.Message.{isMessage}
+use Rattle.faults.specs.Faults.{faultOf}
+use Rattle.faults.specs.declared.Checked.{Checked}
+use Rattle.faults.specs.declared.Checked.the-variants as checked
 use Rattle.journal.specs.Verdicts.{judgeOf}
 use Rattle.journal.specs.Storage.{grown, appended}
 use Rattle.journal.specs.declared.Ledger.{Ledger}
 use Rattle.journal.specs.declared.Verdict.{Verdict as Judgement}
 use Rattle.answers.specs.declared.Answer.{Answer}
-use Rattle.answers.specs.declared.Answer.the-variants.{Stored as IsStored, NoMessage, NoRoom, NoLine, WrongSize, Broken}
+use Rattle.answers.specs.declared.Answer.the-variants.{Stored as IsStored, NoMessage, NoRoom, NoLine, WrongSize, Broken, Faulty}
 use Rattle.deciding.specs.declared.Outcome.{Outcome}
 use Rattle.deciding.specs.declared.Fate.{Fate}
 use Rattle.deciding.specs.declared.Fate.the-variants.{Store, Object, Leave}
@@ -40,11 +43,17 @@ roomOutcome Judgement.NoLine = Left NoLine
 roomOutcome Judgement.WrongSize = Left WrongSize
 roomOutcome Judgement.Malformed = Against NoMessage
 
--- why a complete text is no message, as the line is answered: 30, whatever is wrong with it [A30, R11]
-unfoldable pub objectionTo : List ℕ → Answer
-objectionTo text = NoMessage
+-- what is wrong with a text, as the line is answered: its first fault, and 30 for a byte that is not allowed, which no frame brings; a message is not asked [A30, R22]
+abbrev pub objection : Checked → Answer
+objection checked.Message = NoMessage
+objection checked.NotText = NoMessage
+objection (checked.Faulty f place) = Faulty f place
 
--- a complete text: the records, then the journal [A4, A30, O4]
+-- why a complete text is no message [R11]
+unfoldable pub objectionTo : List ℕ → Answer
+objectionTo text = objection (faultOf text)
+
+-- a complete text: the records, then the journal [A4, O4]
 unfoldable pub outcomeOf : List ℕ → Ledger → ℕ → List ℕ → List ℕ → Outcome
 outcomeOf shares d i text journal = unless (isMessage text) (Against (objectionTo text)) (roomOutcome (judgeOf d shares i (length text) journal))
 

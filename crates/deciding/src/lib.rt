@@ -6,7 +6,9 @@ ghost use Rattle.memory.specs.Sizes.{messageLimit};
 ghost use Rattle.deciding.specs.Decisions.{outcomeWith, objectionTo, roomOutcome, Decision};
 ghost use Rattle.deciding.specs.Inner.Joined.{Joined};
 use answers::Answer;
+use faults::Checked;
 use journal::Ledger;
+use kinds::Delimiters;
 
 // What becomes of a text: it is stored or decided against, or everything is left as it was.
 pub enum Fate {
@@ -85,11 +87,15 @@ fn of_text(ledger: Ledger, line: u8, text: &[u8], journal: &mut [u8]) -> Decided
     }
 }
 
-// Why a text is no message, asked only of one that is none: today the line is told no more than that.
+// Why a text is no message, asked only of one that is none, so that a message does not wait for it.
 fn objection(text: &[u8]) -> Answer
     ensures { λ r. ⌜ r ≡ objectionTo (now (text .entry)) ⌝ }
 {
-    Answer::NoMessage
+    match faults::check(Delimiters::standard(), text) {
+        Checked::Message => Answer::NoMessage,
+        Checked::NotText => Answer::NoMessage,
+        Checked::Faulty(fault, place) => Answer::Faulty(fault, place),
+    }
 }
 
 // What the journal's answer comes to.

@@ -10,10 +10,14 @@ use Rattle.memory.specs.Tests.{unless}
 use Rattle.memory.specs.Parts.{splice}
 use Rattle.records.specs.Records.{records}
 use Rattle.faults.specs.Message.{isMessageBy}
+use Rattle.faults.specs.Faults.{fault}
+use Rattle.faults.specs.declared.Checked.{Checked}
+use Rattle.faults.specs.declared.Checked.the-variants as checked
+use Rattle.answers.specs.Paper.{faultNumber}
 use Rattle.kinds.specs.declared.Delimiters.{Delimiters}
 use Rattle.owner.specs.Owners.{typesOf, ownersOf}
 use Rattle.owner.specs.declared.Reading.{Reading}
-use Rattle.owner.specs.declared.Reading.the-variants.{Read, Malformed, NotFitting}
+use Rattle.owner.specs.declared.Reading.the-variants.{Read, Malformed, NotFitting, Faulty}
 
 abbrev pub lengthsOf : List (List ℕ) → List ℕ
 lengthsOf [] = []
@@ -28,10 +32,16 @@ offsetsOf at (r ∷ rs) = at ∷ offsetsOf (at + (length r + 1)) rs
 unfoldable pub roomFor : ℕ → ℕ → ℕ → ℕ → ℕ → Bool
 roomFor n types offsets lengths owners = leb n types && leb n offsets && leb n lengths && leb n owners
 
--- the answer: 46 for what is no message, then 47 where one of four memories of these lengths is too short, else the number of records [A46, A47, O6, R14]
+-- why a text is refused: 46 where it is too long or has a byte that is not allowed, else its first fault; a message is not asked [A46, R22]
+abbrev pub refusedAs : Checked → Reading
+refusedAs checked.Message = Malformed
+refusedAs checked.NotText = Malformed
+refusedAs (checked.Faulty f place) = Faulty f place
+
+-- the answer: that for what is no message, then 47 where one of four memories of these lengths is too short, else the number of records [A47, O6, R14]
 unfoldable pub readingOf : Delimiters → List ℕ → ℕ → ℕ → ℕ → ℕ → Reading
 readingOf d text types offsets lengths owners =
-    unless (isMessageBy d text) Malformed
+    unless (isMessageBy d text) (refusedAs (fault d text))
     (unless (roomFor (length (records text)) types offsets lengths owners) NotFitting (Read (length (records text))))
 
 -- a memory after an answer: these numbers at its start and its rest kept where the message was read, else as it was [R21]
@@ -39,12 +49,14 @@ abbrev pub laid : Reading → List ℕ → List ℕ → List ℕ
 laid (Read n) old new = splice old 0 new
 laid Malformed old new = old
 laid NotFitting old new = old
+laid (Faulty f place) old new = old
 
--- the number of a refusal; none for a reading
+-- number and values of a refusal; none for a reading
 abbrev pub paper : Reading → List ℕ
 paper (Read n) = []
 paper Malformed = 46 ∷ []
 paper NotFitting = 47 ∷ []
+paper (Faulty f place) = faultNumber f ∷ place ∷ []
 
 -- what reading says: the answer, and each of the four memories after it [R14]
 pub record ReadAs (d : Delimiters) (text ts os ls ws ts′ os′ ls′ ws′ : List ℕ) (r : Reading) : Type 0 where

@@ -1,16 +1,21 @@
 // Reading a message: each record with its type, offset, length and owner.
 ghost use mathlib.Core.Path.{_≡_};
-ghost use Rattle.owner.specs.Reading.{roomFor, ReadAs};
+ghost use Rattle.faults.specs.Faults.{fault};
+ghost use Rattle.owner.specs.Reading.{roomFor, refusedAs, ReadAs};
+use answers::Fault;
+use faults::Checked;
 use kinds::Delimiters;
 
 mod rows; // rows.rt: types, offsets and lengths
 mod runs; // runs.rt: owners, by the runs of records that they own
 
-// What becomes of a text that is read: so many records; it is no message; a memory is too short.
+// What becomes of a text that is read: so many records; it is too long or has a byte that is not allowed; a memory is too short; it
+// is no message, with its first fault and the place of that record.
 pub enum Reading {
     Read(usize),
     Malformed,
     NotFitting,
+    Faulty(Fault, u16),
 }
 
 // Four memories of these lengths have n places each.
@@ -29,6 +34,17 @@ fn has_room(n: usize, types: usize, offsets: usize, lengths: usize, owners: usiz
     n <= owners
 }
 
+// Why a text is refused, asked only of one that is no message: whoever reads a message does not wait for it.
+fn refused(d: Delimiters, text: &[u8]) -> Reading
+    ensures { λ r. ⌜ r ≡ refusedAs (fault d (now (text .entry))) ⌝ }
+{
+    match faults::check(d, text) {
+        Checked::Message => Reading::Malformed,
+        Checked::NotText => Reading::Malformed,
+        Checked::Faulty(fault, place) => Reading::Faulty(fault, place),
+    }
+}
+
 // Reads a message: of each record its letter, where it starts, how long it is before its CR, and the number of its owner, from 1, or 0.
 pub fn read(
     d: Delimiters,
@@ -41,7 +57,7 @@ pub fn read(
     ensures { λ r. ⌜ ReadAs d (now (text .entry)) (now (types .entry)) (now (offsets .entry)) (now (lengths .entry)) (now (owners .entry)) (now (types .exit)) (now (offsets .exit)) (now (lengths .exit)) (now (owners .exit)) r ⌝ }
 {
     if !message::is_message_by(d, text) {
-        return Reading::Malformed;
+        return refused(d, text);
     }
     let n = records::count_records(text);
     if !has_room(n, types.len(), offsets.len(), lengths.len(), owners.len()) {

@@ -1,10 +1,10 @@
 // The lines of a case.
 ghost use Prim.Native.Nat.{_≤_};
 ghost use lib.ListN.{length};
+use answers::Fault;
 use component::ResultField;
 use escaping::Put;
 use faults::Checked;
-use faults::Fault;
 use kinds::Delimiters;
 use owner::Reading;
 use records::Ending;
@@ -56,7 +56,7 @@ fn whole(is_message: bool) {
     }
 }
 
-// What the check of a text finds, by the numbers of request [1].
+// What the check of a text finds, by its number.
 fn found(c: Checked) {
     match c {
         Checked::Message => {
@@ -66,23 +66,15 @@ fn found(c: Checked) {
             byte(b'e');
         }
         Checked::NotText => number(46),
-        Checked::Faulty(f, place) => {
-            number(fault(f));
-            letter(b'a');
-            byte(b't');
-            small(place);
-        }
+        Checked::Faulty(f, place) => faulty(f, place),
     }
 }
 
-fn fault(f: Fault) -> usize {
-    match f {
-        Fault::NoHeader => 50,
-        Fault::UnknownType => 51,
-        Fault::Misplaced => 52,
-        Fault::WrongNumber => 53,
-        Fault::Unended => 54,
-    }
+fn faulty(f: Fault, place: u16) {
+    number(f.number() as usize);
+    letter(b'a');
+    byte(b't');
+    small(place);
 }
 
 // Whether the text ends with an L record, and for a short one at how many places it can be cut in two so that the pieces, joined, do.
@@ -156,6 +148,11 @@ fn answer(r: Reading) -> usize {
         }
         Reading::NotFitting => {
             line_end(47);
+            0
+        }
+        Reading::Faulty(f, place) => {
+            faulty(f, place);
+            byte(b'\n');
             0
         }
     }

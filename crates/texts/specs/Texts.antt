@@ -19,23 +19,24 @@ use Rattle.owner.specs.declared.Reading.the-variants as reading
 use Rattle.cutting.specs.Frames.{cutAnswer, cutIn}
 use Rattle.cutting.specs.declared.Framed.{Framed}
 use Rattle.cutting.specs.declared.Framed.the-variants as framed
-use Rattle.answers.specs.Paper.{numberOf}
+use Rattle.answers.specs.Paper.{numberOf, placeOf}
 use Rattle.answers.specs.declared.Answer.{Answer}
-use Rattle.answers.specs.declared.Answer.the-variants.{Malformed, NotFitting}
+use Rattle.answers.specs.declared.Answer.the-variants.{Malformed, NotFitting, Faulty}
 use Rattle.texts.specs.declared.Made.{Made}
 
 -- done, and so much written: 0, which is the number of no refusal [H5]
 abbrev pub done : ℕ → Made
 done n = record { number = 0; spare = 0; place = 0; value = 0; length = n }
 
--- refused with this answer's number, and nothing written [H5]
+-- refused with this answer's number and, for a fault, its place; nothing written [H5]
 abbrev pub refusedWith : Answer → Made
-refusedWith a = record { number = numberOf a; spare = 0; place = 0; value = 0; length = 0 }
+refusedWith a = record { number = numberOf a; spare = 0; place = placeOf a; value = 0; length = 0 }
 
 unfoldable pub madeByCutting : Framed → Made
 madeByCutting (framed.Length n) = done n
 madeByCutting framed.Malformed = refusedWith Malformed
 madeByCutting framed.NotFitting = refusedWith NotFitting
+madeByCutting (framed.Faulty f place) = refusedWith (Faulty f place)
 
 unfoldable pub madeByPutting : Put → Made
 madeByPutting (put.Done n) = done n
@@ -46,6 +47,7 @@ unfoldable pub madeByReading : Reading → Made
 madeByReading (reading.Read n) = done n
 madeByReading reading.Malformed = refusedWith Malformed
 madeByReading reading.NotFitting = refusedWith NotFitting
+madeByReading (reading.Faulty f place) = refusedWith (Faulty f place)
 
 -- a message cut into frames of today's limit
 pub record CutFrames (text out : List ℕ) (r : Made) (out′ : List ℕ) : Type 0 where

@@ -7,8 +7,8 @@ use escaping::Put;
 use kinds::Delimiters;
 use owner::Reading;
 
-// What became of a text: 0 and how much was written (bytes, or records that were read), or 46 or 47 and 0.
-// The other fields are 0 in this version: as in an answer, no byte is left unnamed.
+// What became of a text: 0 and how much was written (bytes, or records that were read); or the number of a refusal, the place of the
+// record that is wrong, and 0. The other fields are 0 in this version: as in an answer, no byte is left unnamed.
 #[repr(C)]
 pub struct Made {
     pub number: u8,
@@ -71,6 +71,7 @@ fn made_by_cutting(framed: Framed) -> Made
         Framed::Length(n) => done(n),
         Framed::Malformed => refused_with(Answer::Malformed),
         Framed::NotFitting => refused_with(Answer::NotFitting),
+        Framed::Faulty(fault, place) => refused_with(Answer::Faulty(fault, place)),
     }
 }
 
@@ -91,6 +92,7 @@ fn made_by_reading(reading: Reading) -> Made
         Reading::Read(n) => done(n),
         Reading::Malformed => refused_with(Answer::Malformed),
         Reading::NotFitting => refused_with(Answer::NotFitting),
+        Reading::Faulty(fault, place) => refused_with(Answer::Faulty(fault, place)),
     }
 }
 
@@ -112,7 +114,7 @@ fn refused_with(answer: Answer) -> Made
     Made {
         number: answer.number(),
         spare: 0,
-        place: 0,
+        place: answer.place(),
         value: 0,
         length: 0,
     }

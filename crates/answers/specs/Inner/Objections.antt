@@ -5,6 +5,6 @@ use mathlib.Core.Bool.{Bool, _||_}
 use lib.Dec.{eqb}
 use Rattle.answers.specs.Paper.{isFaulty}
 
--- an answer that a complete text gets because it is no message: 30 or a fault
+-- an answer that a complete text gets because it is no message: a fault, or 30
 abbrev pub isObjection : ℕ → Bool
-isObjection n = eqb n 30 || isFaulty n
+isObjection n = isFaulty n || eqb n 30
