@@ -5,3 +5,4 @@ pub mod Head
 pub mod FirstRecord
 pub mod Walked
 pub mod OneOutcome
+pub mod Places
