@@ -100,7 +100,8 @@ isClean text = leb (length text) messageLimit && all allowed text
 
 -- what is known of a text by its first fault
 record Told (text : List ℕ) (f : Fault) (p : ℕ) : Type 0 where
-  place : 0 < length text → (1 ≤ p) × (p ≤ length (records text))
+  first : 1 ≤ p
+  last : 0 < length text → p ≤ length (records text)
   ended : endsWithCr text ≡ true → f ≢ Unended
 
 abbrev Tells : List ℕ → Checked → Type 0
@@ -115,15 +116,15 @@ tells d text = by-clean (isClean text) refl
     by-records : (x : Checked) → Among 1 (length (records text)) x → Tells text x
     by-records Message h = tt
     by-records NotText h = absurd h
-    by-records (Faulty f p) h = let (first, last, other) = h in record { place = λ _. (first, omega arith); ended = λ _. other }
+    by-records (Faulty f p) h = let (from, below, other) = h in record { first = from; last = λ _. omega arith; ended = λ _. other }
 
     by-ended : (b : Bool) → 0 < length text → endsWithCr text ≡ b → Tells text (unless b (Faulty Unended (length (records text))) (recordsFault d (records text)))
     by-ended true some e = by-records (recordsFault d (records text)) (records-among d (records text) (has-records text some))
-    by-ended false some e = record { place = λ _. (has-records text some, omega arith); ended = λ c. never-both (endsWithCr text) c e }
+    by-ended false some e = record { first = has-records text some; last = λ _. omega arith; ended = λ c. never-both (endsWithCr text) c e }
 
     by-empty : (b : Bool) → eqb (length text) 0 ≡ b
         → Tells text (cond b (Faulty NoHeader 1) (unless (endsWithCr text) (Faulty Unended (length (records text))) (recordsFault d (records text))))
-    by-empty true e = record { place = λ some. absurd (omega (arith, eqb-true (length text) 0 e)); ended = λ _ q. clash (cc q) }
+    by-empty true e = record { first = omega arith; last = λ some. absurd (omega (arith, eqb-true (length text) 0 e)); ended = λ _ q. clash (cc q) }
     by-empty false e = by-ended (endsWithCr text) (omega (arith, eqb-false (length text) 0 e)) refl
 
     by-clean : (b : Bool) → isClean text ≡ b
@@ -138,27 +139,33 @@ module _ (d : Delimiters) where
   empty-fault = refl
 
   module _ (text : List ℕ) where
-    -- the fault of any other text stands at one of its records, counted from 1
+    -- places are counted from 1, and the fault of any other text stands at one of its records
+    pub fault-first : (f : Fault) (p : ℕ) → fault d text ≡ Faulty f p → 1 ≤ p
+    fault-first f p e = subst (Tells text) e (tells d text) .first
+
     pub fault-place : (f : Fault) (p : ℕ) → 0 < length text → fault d text ≡ Faulty f p → (1 ≤ p) × (p ≤ length (records text))
-    fault-place f p some e = subst (Tells text) e (tells d text) .place some
+    fault-place f p some e = (fault-first f p e, subst (Tells text) e (tells d text) .last some)
 
     -- a text that ends with CR does not lack it (54)
     pub fault-ended : (p : ℕ) → endsWithCr text ≡ true → fault d text ≢ Faulty Unended p
     fault-ended p h e = subst (Tells text) e (tells d text) .ended h refl
 
-    -- no text: it is too long or has a byte that is not allowed, and only then
+    -- it is no text exactly where it is too long or has a byte that is not allowed
     pub fault-not-text : fault d text ≡ NotText → leb (length text) messageLimit && all allowed text ≡ false
     fault-not-text e = subst (Tells text) e (tells d text)
+
+    pub not-text-fault : leb (length text) messageLimit && all allowed text ≡ false → fault d text ≡ NotText
+    unfolding fault
+    not-text-fault h = rw h
 
     pub fault-clean : length text ≤ messageLimit → all allowed text ≡ true → fault d text ≢ NotText
     fault-clean short clean e =
         never-both (isClean text) (and-both (leb (length text) messageLimit) (all allowed text) (le-leb (length text) messageLimit short) clean) (fault-not-text e)
 
     pub fault-too-long : messageLimit < length text → fault d text ≡ NotText
-    unfolding fault
-    fault-too-long h = rw (lt-leb (length text) messageLimit h)
+    fault-too-long h = not-text-fault (rw (lt-leb (length text) messageLimit h))
 
-    -- no fault: it is a message, and only then
+    -- and it has no fault exactly where it is a message
     pub fault-none : fault d text ≡ Message → isMessageBy d text ≡ true
     fault-none e = no-fault d text ∙ ap isFaultless e
 
