@@ -73,3 +73,12 @@ accepted-size limit bs n end k h =
     let size : length (textIn bs) ≡ k = cc whole in
     let text : length (textIn bs) ≡ length bs - 6 = length-part bs 1 (length bs - 6) (omega arith) in
     omega arith
+
+-- and its text is of allowed bytes (24)
+pub accepted-clean : (limit : ℕ) (bs : List ℕ) (n : ℕ) (end : End) (k : ℕ) → shapeOf limit bs ≡ Whole n end k → all allowed (textIn bs) ≡ true
+unfolding shapeOf innerOf
+accepted-clean limit bs n end k h =
+    let (_, _, _, clean, _, _) =
+    passed (isEnded limit bs) (isBuilt bs) (isChecked bs) (all allowed (textIn bs)) (isNumber (digitIn bs))
+    (Whole (numberFrom (digitIn bs)) (endFrom (fromEnd bs 5)) (length (textIn bs))) n k end h in
+    clean

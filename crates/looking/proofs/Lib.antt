@@ -3,3 +3,4 @@ pub mod Looks
 pub mod Cases
 pub mod Fits
 pub mod Alone
+pub mod Joins

@@ -6,6 +6,7 @@ pub mod Runs
 pub mod Exactly
 pub mod Queue
 pub mod OnlyMessages
+pub mod Clean
 pub mod Stretches
 pub mod Examples
 pub mod Fronts

@@ -3,6 +3,7 @@ pub mod Runs
 pub mod Exactly
 pub mod Queue
 pub mod OnlyMessages
+pub mod Clean
 pub mod Freed
 pub mod Sending
 pub mod Examples
