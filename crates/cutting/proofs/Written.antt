@@ -17,11 +17,17 @@ use Rattle.framing.specs.Writing.{frameOf, putIn, FramePut}
 use Rattle.frame.specs.declared.End.{End}
 use Rattle.framing.specs.declared.Written.{Written}
 use Rattle.framing.proofs.Put.{length-collected}
+use Rattle.kinds.specs.Delimiters.{standard}
+use Rattle.kinds.specs.declared.Delimiters.{Delimiters}
 use Rattle.faults.specs.Message.{isMessage}
+use Rattle.faults.specs.Faults.{fault, faultOf}
+use Rattle.faults.specs.declared.Checked.{Checked}
+use Rattle.faults.proofs.Places.{checked-standard}
 use Rattle.records.proofs.Scans.{tailAt, rest-part}
 use Rattle.cutting.specs.Pieces.{Piece, piecesOf}
 use Rattle.cutting.specs.Inner.Wholes.{bytesOf}
-use Rattle.cutting.specs.Frames.{framesFrom, cutOf, isCuttable, cutAnswer, cutIn, CutInto}
+use Rattle.cutting.specs.Frames.{framesFrom, cutOf, isCuttable, refusedAs, uncut, cutAnswer, cutIn, CutInto}
+use Rattle.cutting.specs.declared.Framed.{Framed}
 use Rattle.cutting.specs.declared.Framed.the-variants.{Length, Malformed, NotFitting}
 use Rattle.cutting.proofs.Steps.{firstPiece, Turn}
 
@@ -105,11 +111,27 @@ frames-long number (p ∷ ps) =
     let z = frames-long (nextNumber number) ps in
     rw (length-append, length-append, length-frame) (omega (arith, z))
 
+-- where a frame has room, a text is cut exactly if it is a message
+pub by-message : (limit : ℕ) (text : List ℕ) → aroundText < limit → {b : Bool} → isMessage text ≡ b → isCuttable limit text ≡ b
+unfolding isCuttable
+by-message limit text h e = rw (lt-ltb aroundText limit h) e
+
+-- why a text is not cut is told by what its check finds
+pub refused-checked : (text : List ℕ) (x : Checked) {d : Delimiters} {found : Checked} → d ≡ standard → found ≡ fault d text → found ≡ x → refusedAs x ≡ refusedAs (faultOf text)
+refused-checked text x s f e = ap refusedAs (checked-standard text s f e)
+
 -- what each way out of cutting says
 module _ (limit : ℕ) (text out : List ℕ) where
-  pub no-message : isCuttable limit text ≡ false → CutInto limit text out Malformed out
+  no-frames : {r : Framed} → r ≡ uncut limit text → isCuttable limit text ≡ false → CutInto limit text out r out
   unfolding cutAnswer cutIn
-  no-message e = record { answer = rw e; after = rw e }
+  no-frames of e = record { answer = of ∙ rw e; after = rw e }
+
+  pub no-room-in-frames : limit ≤ aroundText → CutInto limit text out Malformed out
+  unfolding isCuttable
+  no-room-in-frames h = let small = le-ltb aroundText limit h in no-frames (rw small) (rw small)
+
+  pub no-message : {r : Framed} → aroundText < limit → isMessage text ≡ false → r ≡ refusedAs (faultOf text) → CutInto limit text out r out
+  no-message h e of = no-frames (of ∙ rw (lt-ltb aroundText limit h)) (by-message limit text h e)
 
   pub no-room : isCuttable limit text ≡ true → length out < length (cutOf limit text) → CutInto limit text out NotFitting out
   unfolding cutAnswer cutIn
@@ -123,12 +145,3 @@ module _ (limit : ℕ) (text out : List ℕ) where
   cut-written e h k w =
       let holds = le-leb (length (cutOf limit text)) (length out) h in
       record { answer = rw (e, holds, k); after = rw (e, holds) w }
-
--- what may keep a text from being cut
-pub limit-small : (limit : ℕ) (text : List ℕ) → limit ≤ aroundText → isCuttable limit text ≡ false
-unfolding isCuttable
-limit-small limit text h = rw (le-ltb aroundText limit h)
-
-pub by-message : (limit : ℕ) (text : List ℕ) → aroundText < limit → {b : Bool} → isMessage text ≡ b → isCuttable limit text ≡ b
-unfolding isCuttable
-by-message limit text h e = rw (lt-ltb aroundText limit h) e

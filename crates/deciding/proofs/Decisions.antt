@@ -16,7 +16,7 @@ use Rattle.faults.specs.Faults.{fault, faultOf}
 use Rattle.faults.specs.declared.Checked.{Checked}
 use Rattle.faults.specs.declared.Checked.the-variants as checked
 use Rattle.faults.proofs.Messages.{message-short}
-use Rattle.faults.proofs.Places.{fault-too-long}
+use Rattle.faults.proofs.Places.{checked-standard, fault-too-long}
 use Rattle.journal.specs.Verdicts.{judgeOf}
 use Rattle.journal.specs.Storage.{storeBy, storeOf, Stored}
 use Rattle.journal.specs.declared.Ledger.{Ledger}
@@ -45,10 +45,10 @@ pub objection-number : (text : List ℕ) → isObjection (numberOf (objectionTo 
 unfolding objectionTo
 objection-number text = checked-number (faultOf text)
 
--- it is told by what the check of the text finds, by the standard delimiters
+-- it is told by what the check of the text finds
 pub objection-checked : (text : List ℕ) (x : Checked) {d : Delimiters} {found : Checked} → d ≡ standard → found ≡ fault d text → found ≡ x → objection x ≡ objectionTo text
 unfolding objectionTo
-objection-checked text x s f e = ap objection (sym e ∙ f ∙ ap (λ (d : Delimiters). fault d text) s)
+objection-checked text x s f e = ap objection (checked-standard text s f e)
 
 -- what the journal's storing leaves is what its answer comes to
 room-row : (q : Judgement) (d : Ledger) (i : ℕ) (text j : List ℕ)

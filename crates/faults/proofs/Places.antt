@@ -16,11 +16,12 @@ use Rattle.memory.proofs.Tests.{clash, and-both, never-both}
 use Rattle.characters.specs.Allowed.{allowed}
 use Rattle.kinds.specs.Kinds.{mayFollow}
 use Rattle.kinds.specs.Header.{isHeader}
+use Rattle.kinds.specs.Delimiters.{standard}
 use Rattle.records.specs.Records.{records, none, endsWithCr}
 use Rattle.records.proofs.Scans.{records-cons}
 use Rattle.sequence.specs.Numbers.{started, countOf, counted}
 use Rattle.faults.specs.Message.{typeIn, numberIn, isMessageBy}
-use Rattle.faults.specs.Faults.{placed, kindStep, recordStep, headerStep, after, restFault, recordsFault, fault, isFaultless}
+use Rattle.faults.specs.Faults.{placed, kindStep, recordStep, headerStep, after, restFault, recordsFault, fault, faultOf, isFaultless}
 use Rattle.kinds.specs.declared.Delimiters.{Delimiters}
 use Rattle.kinds.specs.declared.Letter.{Letter}
 use Rattle.kinds.specs.declared.Letter.the-variants.{Known, Unknown}
@@ -32,6 +33,10 @@ use Rattle.faults.specs.declared.Step.the-variants.{Fine, Wrong}
 use Rattle.faults.specs.declared.Checked.{Checked}
 use Rattle.faults.specs.declared.Checked.the-variants.{Message, NotText, Faulty}
 use Rattle.faults.proofs.NoFault.{no-fault}
+
+-- what a check by the standard delimiters has found of a text is wrong with it first
+pub checked-standard : (text : List ℕ) {x found : Checked} {d : Delimiters} → d ≡ standard → found ≡ fault d text → found ≡ x → x ≡ faultOf text
+checked-standard text s f e = sym e ∙ f ∙ ap (λ (d : Delimiters). fault d text) s
 
 -- ---- the records, front to back
 

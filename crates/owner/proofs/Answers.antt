@@ -11,16 +11,20 @@ use lib.Seq.{sets, sets-eq, take-at}
 use borrow.Author.Tests.{leb-true}
 use Rattle.memory.specs.Tests.{unless, is}
 use Rattle.memory.specs.Parts.{splice}
-use Rattle.memory.proofs.Tests.{and-left, and-right}
+use Rattle.memory.proofs.Tests.{clash, and-left, and-right}
 use Rattle.memory.proofs.Parts.{sets-splice}
 use Rattle.characters.specs.Control.{cr}
 use Rattle.records.specs.Records.{onto, records}
 use Rattle.faults.specs.Message.{isMessageBy}
+use Rattle.faults.specs.Faults.{fault}
+use Rattle.faults.specs.declared.Checked.{Checked}
+use Rattle.faults.specs.declared.Checked.the-variants as checked
 use Rattle.kinds.specs.declared.Delimiters.{Delimiters}
-use Rattle.owner.specs.declared.Reading.the-variants.{Read, Malformed, NotFitting}
+use Rattle.owner.specs.declared.Reading.{Reading}
+use Rattle.owner.specs.declared.Reading.the-variants.{Read, NotFitting}
 use Rattle.owner.specs.Inner.Nearest.{nearestOwners}
 use Rattle.owner.specs.Owners.{typesOf, ownersOf}
-use Rattle.owner.specs.Reading.{offsetsOf, lengthsOf, roomFor, readingOf, ReadAs}
+use Rattle.owner.specs.Reading.{offsetsOf, lengthsOf, roomFor, refusedAs, readingOf, laid, ReadAs}
 use Rattle.owner.proofs.Whole.{length-owners}
 use Rattle.owner.proofs.Valid.{owners-message}
 
@@ -71,10 +75,29 @@ room-all n a b c e h =
       leb-true n e (and-right (leb n a && leb n b && leb n c) (leb n e) h),
     )
 
+-- why a text is refused is told by what its check finds
+pub refused-checked : (x : Checked) {found c : Checked} → found ≡ c → found ≡ x → refusedAs x ≡ refusedAs c
+refused-checked x f e = ap refusedAs (sym e ∙ f)
+
 module _ (d : Delimiters) (text ts os ls ws : List ℕ) where
-  pub read-none : isMessageBy d text ≡ false → ReadAs d text ts os ls ws ts os ls ws Malformed
+  -- what is refused leaves every memory
+  refused-leaves : (x : Checked) (old new : List ℕ) → laid (refusedAs x) old new ≡ old
+  refused-leaves checked.Message old new = refl
+  refused-leaves checked.NotText old new = refl
+  refused-leaves (checked.Faulty f place) old new = refl
+
+  pub read-none : (r : Reading) → r ≡ refusedAs (fault d text) → isMessageBy d text ≡ false → ReadAs d text ts os ls ws ts os ls ws r
   unfolding readingOf
-  read-none e = record { answer = rw e; types = refl; offsets = refl; lengths = refl; owners = refl }
+  read-none r of e = record {
+    answer = of ∙ rw e;
+    types = left ts (typesOf (records text));
+    offsets = left os (offsetsOf 0 (records text));
+    lengths = left ls (lengthsOf (records text));
+    owners = left ws (ownersOf (records text));
+  }
+    where
+      left : (old new : List ℕ) → old ≡ laid r old new
+      left old new = sym (ap (λ (q : Reading). laid q old new) of ∙ refused-leaves (fault d text) old new)
 
   pub read-short : isMessageBy d text ≡ true → roomFor (length (records text)) (length ts) (length os) (length ls) (length ws) ≡ false → ReadAs d text ts os ls ws ts os ls ws NotFitting
   unfolding readingOf
@@ -105,7 +128,12 @@ pub read-fits : (d : Delimiters) (text : List ℕ) (a b c e n : ℕ) → reading
 unfolding readingOf
 read-fits d text a b c e n h = room-all (length (records text)) a b c e (by-tests (isMessageBy d text) (roomFor (length (records text)) a b c e) h)
   where
-    by-tests : (m r : Bool) → unless m Malformed (unless r NotFitting (Read (length (records text)))) ≡ Read n → r ≡ true
+    not-read : (x : Checked) → refusedAs x ≡ Read n → ⊥
+    not-read checked.Message g = clash cc
+    not-read checked.NotText g = clash cc
+    not-read (checked.Faulty f place) g = clash cc
+
+    by-tests : (m r : Bool) → unless m (refusedAs (fault d text)) (unless r NotFitting (Read (length (records text)))) ≡ Read n → r ≡ true
     by-tests true true g = refl
-    by-tests true false g = let z : _≡_ {A = ℕ} 0 1 = cc in absurd (omega arith)
-    by-tests false r g = let z : _≡_ {A = ℕ} 0 1 = cc in absurd (omega arith)
+    by-tests true false g = clash cc
+    by-tests false r g = absurd (not-read (fault d text) g)

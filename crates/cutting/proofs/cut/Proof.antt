@@ -10,7 +10,7 @@ use lib.ListN.{length}
 use Rattle.faults.specs.Message.{isMessage}
 use Rattle.faults.proofs.Messages.{message-short, message-ends}
 use Rattle.cutting.specs.Frames.{isCuttable, cutOf}
-use Rattle.cutting.proofs.Written.{no-message, no-room, cut-written, limit-small, by-message}
+use Rattle.cutting.proofs.Written.{no-room-in-frames, no-message, no-room, cut-written, by-message}
 use Rattle.cutting.proofs.Laws.{cut-long}
 use Rattle.cutting.proofs.cut.Statement.{statement}
 use Rattle.cutting.proofs.cut.Tie as tie
@@ -28,13 +28,14 @@ entry c = start (passed c .before)
 returns : tie.Need-returns
 returns c =
     let a = c .before .before .before .args in
-    no-message (a .limit) (now (a .text)) (now (a .out)) (limit-small (a .limit) (now (a .text)) (c .if1 .taken))
+    no-room-in-frames (a .limit) (now (a .text)) (now (a .out)) (c .if1 .taken)
 
 returns-2 : tie.Need-returns-2
 returns-2 c =
-    let a = start (c .before) .args in
-    let no = sym (c .before .is-message .ensures) ∙ not-true _ (c .if2 .taken) in
-    no-message (a .limit) (now (a .text)) (now (a .out)) (by-message (a .limit) (now (a .text)) (omega arith) no)
+    let t = c .before in
+    let a = start (t .before) .args in
+    let no = sym (t .before .is-message .ensures) ∙ not-true _ (t .if2 .taken) in
+    no-message (a .limit) (now (a .text)) (now (a .out)) (omega arith) no (c .refused .ensures)
 
 -- past the two tests the text is a message
 a-message : (c : tie.Else2) → isMessage (now (start (c .before) .args .text)) ≡ true
@@ -79,6 +80,7 @@ cut-spec =
     tie.close
     (tie.spec
     returns
+    (λ c κs. search needs)
     (λ c κs. search needs)
     returns-2
     measure-requires

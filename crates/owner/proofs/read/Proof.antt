@@ -59,8 +59,9 @@ fits c = let e = roomy c in omega (arith, places e .0, c .fill-rows .kept .1 .0,
 
 returns : tie.Need-returns
 returns c =
-    let a = start (c .before) .args in
-    read-none (a .d) (a .text .now) (a .types .now) (a .offsets .now) (a .lengths .now) (a .owners .now) (sym (c .before .is-message-by .ensures) ∙ not-true _ (c .if1 .taken))
+    let t = c .before in
+    let a = start (t .before) .args in
+    read-none (a .d) (a .text .now) (a .types .now) (a .offsets .now) (a .lengths .now) (a .owners .now) _ (c .refused .ensures) (sym (t .before .is-message-by .ensures) ∙ not-true _ (t .if1 .taken))
 
 returns-2 : tie.Need-returns-2
 returns-2 c =
@@ -106,6 +107,7 @@ pub read-spec : {M : Type 1} → statement M
 read-spec =
     tie.close
     (tie.spec
+    (λ c κs. search needs)
     (λ c κs. search needs)
     returns
     (λ c κs. search needs)
