@@ -163,7 +163,7 @@ pub record Objects (n : ℕ) : Type 0 where
   pub refused : replyOf n ≡ Byte nak
   pub not-4 : eqb n 4 ≡ false
   pub not-31 : eqb n 31 ≡ false
-  pub no-fault : between 41 43 n ≡ false
+  pub no-damage : between 41 43 n ≡ false
 
 -- a fault does
 faulty-objects : (n : ℕ) → isFaulty n ≡ true → Objects n
@@ -174,7 +174,7 @@ faulty-objects n e =
       refused = rw (le-ltb n 1 (omega (arith, low)), lt-leb n 4 (omega (arith, low)), le-ltb n 20 (omega (arith, low)), lt-leb n 31 (omega (arith, low)), e);
       not-4 = ne-eqb n 4 (λ q. absurd (omega (arith, low, q)));
       not-31 = ne-eqb n 31 (λ q. absurd (omega (arith, low, q)));
-      no-fault = rw (le-leb 41 n (omega (arith, low)), lt-leb n 43 (omega (arith, low)));
+      no-damage = rw (le-leb 41 n (omega (arith, low)), lt-leb n 43 (omega (arith, low)));
     }
 
 pub objection-objects : (n : ℕ) → isObjection n ≡ true → Objects n
@@ -183,4 +183,4 @@ objection-objects n e = by-number (isFaulty n) refl
   where
     by-number : (b : Bool) → isFaulty n ≡ b → Objects n
     by-number true q = faulty-objects n q
-    by-number false q = subst Objects (sym (eqb-true n 30 (rw q at e))) (record { refused = refl; not-4 = refl; not-31 = refl; no-fault = refl })
+    by-number false q = subst Objects (sym (eqb-true n 30 (rw q at e))) (record { refused = refl; not-4 = refl; not-31 = refl; no-damage = refl })

@@ -11,7 +11,10 @@ use Rattle.line.specs.declared.Line.{Line}
 use Rattle.looking.specs.Views.{framesOf, textsOf, joinedText}
 use Rattle.looking.specs.Inner.Ready.{Ready}
 use Rattle.looking.specs.Looks.{lookOf}
-use Rattle.deciding.specs.Decisions.{objectionTo, roomOutcome}
+use Rattle.faults.specs.Faults.{faultOf}
+use Rattle.faults.specs.declared.Checked.{Checked}
+use Rattle.faults.specs.declared.Checked.the-variants as checked
+use Rattle.deciding.specs.Decisions.{objection, objectionTo, roomOutcome}
 use Rattle.deciding.proofs.Decisions.{outcome-cases}
 use Rattle.receiving.specs.Verdicts.{outcomeVerdict, decided, ownWork, workOf, verdictOf}
 use Rattle.looking.specs.declared.Event.{Event}
@@ -82,9 +85,14 @@ room-proper Judgement.WrongSize n = refl
 room-proper Judgement.Malformed n = refl
 
 -- the answer to a text that is no message decides against it
+checked-against : (x : Checked) → classOf (objection x) ≡ against
+checked-against checked.Message = refl
+checked-against checked.NotText = refl
+checked-against (checked.Faulty f place) = refl
+
 pub objection-against : (text : List ℕ) → classOf (objectionTo text) ≡ against
 unfolding objectionTo
-objection-against text = refl
+objection-against text = checked-against (faultOf text)
 
 module _ (shares : List ℕ) (l : Line) (d : Ledger) (e : Event) (j u f : List ℕ) where
   decided-proper : (texts frames : List ℕ) (k : Look) → LookProper k → Proper (decided k shares l d (e .line) j texts frames)

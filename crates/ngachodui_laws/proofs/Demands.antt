@@ -1,7 +1,7 @@
 -- All that is claimed is kept: each field by the theorem behind it.
 -- Assumes nothing.
 use Rattle.ngachodui_laws.specs.Demands.{Demands}
-use Rattle.ngachodui_laws.proofs.HostRuns.{host-never-faulty}
+use Rattle.ngachodui_laws.proofs.HostRuns.{host-never-damaged}
 use Rattle.ngachodui_laws.proofs.Sound.{always-sound}
 use Rattle.ngachodui_laws.proofs.Outcomes.{one-outcome, the-outcome, fresh-outcome, refused-leaves, buffer-left, ignored-is-left, others-kept}
 use Rattle.ngachodui_laws.proofs.Deciding.{decided-exactly}
@@ -17,7 +17,7 @@ kept = record {
   one-outcome = one-outcome;
   the-outcome = the-outcome;
   fresh-outcome = fresh-outcome;
-  never-faulty = host-never-faulty;
+  never-damaged = host-never-damaged;
   always-sound = always-sound;
   refusal-leaves = refused-leaves;
   buffer-left = buffer-left;

@@ -25,8 +25,8 @@ use Rattle.gateway_laws.proofs.Rows.{Of, of-class}
 use Rattle.gateway_laws.proofs.Proper.{goes-class, verdict-proper}
 use Rattle.serial.specs.Serial.{event, taking, annotate, final, Every}
 use Rattle.promises.specs.Machine.{State, Response, GatewayItem, onLine, step, Sound}
-use Rattle.promises.specs.Runs.{fresh, answered, isFault}
-use Rattle.promises.proofs.Runs.{always-sound, never-faulty}
+use Rattle.promises.specs.Runs.{fresh, answered, isDamage}
+use Rattle.promises.proofs.Runs.{always-sound, never-damaged}
 use Rattle.answers.specs.InNumbers.{inNumbers}
 use Rattle.calls.specs.Calls.{HostState}
 use Rattle.ngachodui_laws.specs.HostRuns.{gatewayState, InOrder, freshHost, HostResponse, lentOf, hostStep, Run, historyOf, endOf}
@@ -125,9 +125,9 @@ pub stays-in-order : (s : HostState) → InOrder s → (es : List GatewayItem) �
 stays-in-order s o [] = o
 stays-in-order s o (e ∷ es) = stays-in-order ((hostStep s e) .1) (one-call s o e .in-order) es
 
-seen-faultless : (ys : List (GatewayItem × Response)) → Every (λ y. isFault (answered (y .1)) ≡ false) ys → Every (λ x. isFault (x .1 .answered .number) ≡ false) (map seenOf ys)
-seen-faultless [] f = tt
-seen-faultless (y ∷ ys) f = (f .0, seen-faultless ys (f .1))
+seen-undamaged : (ys : List (GatewayItem × Response)) → Every (λ y. isDamage (answered (y .1)) ≡ false) ys → Every (λ x. isDamage (x .1 .answered .number) ≡ false) (map seenOf ys)
+seen-undamaged [] f = tt
+seen-undamaged (y ∷ ys) f = (f .0, seen-undamaged ys (f .1))
 
 -- from a fresh start: a host's run is the gateway's run from fresh
 module _ (r : Run) where
@@ -156,9 +156,9 @@ module _ (r : Run) where
   at-end P p = subst P (sym end-is) p
 
   -- no call of a host is answered 41, 42 or 43
-  pub host-never-faulty : Every (λ x. isFault (x .1 .answered .number) ≡ false) (historyOf r)
-  host-never-faulty = subst (Every (λ (x : GatewayItem × HostResponse). isFault (x .1 .answered .number) ≡ false)) (sym history-is)
-      (seen-faultless (annotate step (fresh (r .memory)) (r .calls)) (never-faulty (r .memory) (r .sizes) (r .calls) (r .may)))
+  pub host-never-damaged : Every (λ x. isDamage (x .1 .answered .number) ≡ false) (historyOf r)
+  host-never-damaged = subst (Every (λ (x : GatewayItem × HostResponse). isDamage (x .1 .answered .number) ≡ false)) (sym history-is)
+      (seen-undamaged (annotate step (fresh (r .memory)) (r .calls)) (never-damaged (r .memory) (r .sizes) (r .calls) (r .may)))
 
   -- and what it keeps is sound: eight records within their limits, right sizes, a whole journal that keeps every share
   pub host-always-sound : Sound (gatewayState (endOf r))

@@ -21,7 +21,7 @@ use Rattle.receiving.specs.Steps.{Memory}
 use Rattle.serial.specs.Serial.{taking, annotate, final, serialize, count, Every, OrderOf, GoesAlike}
 use Rattle.serial.specs.Kept.{Rearranged}
 use Rattle.promises.specs.Machine.{GatewayItem, came, May}
-use Rattle.promises.specs.Runs.{RightSizes, isFault, offered, Completes, Overfull, NoSpace, Space, Larger, usedBy, usedWith, mostAlone}
+use Rattle.promises.specs.Runs.{RightSizes, isDamage, offered, Completes, Overfull, NoSpace, Space, Larger, usedBy, usedWith, mostAlone}
 use Rattle.layout.specs.Layout.{Fresh, serialAt, numberAt}
 use Rattle.numbers.specs.Plain.{lineOf}
 use Rattle.calls.specs.Calls.{HostState}
@@ -49,7 +49,7 @@ pub record Demands : Type 0 where
   pub fresh-outcome : (m : Memory) (ns us : List ℕ) → Fresh ns us → _≡_ {A = HostState} (record { numbers = ns; counts = us; memory = m }) (freshHost m)
   --
   -- No call of a run finds memory of another size, a record beyond its limits or a broken journal: 41, 42 and 43 do not come.
-  pub never-faulty : (r : Run) → Every (λ x. isFault (x .1 .answered .number) ≡ false) (historyOf r)
+  pub never-damaged : (r : Run) → Every (λ x. isDamage (x .1 .answered .number) ≡ false) (historyOf r)
   --
   -- After every run what the host keeps is sound: numbers in order, memory of the right sizes, and a whole journal that keeps each line's share.
   pub always-sound : (r : Run) → Sound (endOf r)

@@ -3,6 +3,7 @@
 use mathlib.Core.Path.{_≡_, refl, sym, ap, subst, _∙_}
 use mathlib.Core.Bool.{Bool, true, false, cond, not, _||_}
 use mathlib.Core.List.{List, []}
+use mathlib.Core.Option.{none, some}
 use Prim.Native.Nat.{ℕ, _<_}
 use lib.Dec.{eqb}
 use lib.ListN.{length}
@@ -39,14 +40,14 @@ use Rattle.gateway_laws.specs.Classes.{classOf}
 use Rattle.gateway_laws.proofs.Proper.{objection-against}
 use Rattle.promises.specs.Machine.{State, Response, response, step, isDecision, decides, Parts, partsOf, storeOf, came}
 use Rattle.promises.specs.Inner.ByParts.{left}
-use Rattle.promises.specs.Runs.{answered, isFault, offeredBy, hasSpace}
+use Rattle.promises.specs.Runs.{answered, isDamage, offered, offeredBy, hasSpace}
 use Rattle.promises.specs.Sending.{Intact}
 use Rattle.promises.specs.Inner.Came.{Passes, Settles, Came, quiet, stored, crowded, against}
 use Rattle.promises.proofs.Sound.{work, ready, event-answer, event-journal}
 
 -- a look that is done decides nothing and comes to no fault: only a message that is complete is decided
 abbrev Harmless : Look → Type 0
-Harmless (Done v) = (isFault (numberOf (v .answer)) ≡ false) × (isDecision (classOf (v .answer)) ≡ false)
+Harmless (Done v) = (isDamage (numberOf (v .answer)) ≡ false) × (isDecision (classOf (v .answer)) ≡ false)
 Harmless (Decides n) = Unit {0}
 
 harmless : (l : Line) → Cases Harmless l
@@ -110,7 +111,7 @@ module _ (s : State) (w : Intact s) (i : ℕ) (k : Kind) (line : i < lines) wher
     passes = record {
       no-text = ap (offeredBy s i) is;
       undecided = ap decides (told-is v (work-is (Done v) is)) ∙ plain .1;
-      no-fault = ap (λ (t : Response). isFault (answered t)) (told-is v (work-is (Done v) is)) ∙ plain .0;
+      no-damage = ap (λ (t : Response). isDamage (answered t)) (told-is v (work-is (Done v) is)) ∙ plain .0;
       kept = store-is v (work-is (Done v) is) ∙ same-store (storeOf s);
       anywhere = λ j.
           subst (λ (x : Look). left (verdict x j) i own k j ≡ ((left (verdict x (storeOf s)) i own k (storeOf s)) .0, (left (verdict x (storeOf s)) i own k (storeOf s)) .1, j)) (sym is)
@@ -159,11 +160,30 @@ module _ (s : State) (w : Intact s) (i : ℕ) (k : Kind) (line : i < lines) wher
       let parts = own-parts (own .line) i (s .memory .unfinished) (s .memory .frames) (ready s w i k line) in
       by-look look refl (look-fits (own .line) (own .texts) (own .frames) parts k) (every-look Harmless (own .line) (harmless (own .line)) (own .texts) (own .frames) parts k)
 
+  -- what is no message is answered by what is wrong with it
+  pub objected-with : (t : List ℕ) → offered s i k ≡ some t → isMessage t ≡ false → (step s (came i k)) .0 .answer ≡ objectionTo t
+  objected-with t complete m = by-look-at look refl
+    where
+      by-look-at : (x : Look) → look ≡ x → (step s (came i k)) .0 .answer ≡ objectionTo t
+      by-look-at (Done v) is = let z : none ≡ some t = sym (ap (offeredBy s i) is) ∙ complete in clash cc
+      by-look-at (Decides n) is =
+          let z : some (text n is) ≡ some t = sym (ap (offeredBy s i) is) ∙ complete in
+          let same : text n is ≡ t = cc z in
+          ap (λ (r : Response). r .answer) (told-is (Against (objectionTo (text n is)) n) (no-message n is (ap isMessage same ∙ m))) ∙ ap objectionTo same
+
 -- ---- the numbers
 
--- 4, 30 and 31 decide
+-- 4 and 31 decide, and 30
 decisions-decide : (a : Answer) → isDecision (classOf a) || not (eqb (numberOf a) 4 || eqb (numberOf a) 31) ≡ true
 decisions-decide = every-answer (λ a. isDecision (classOf a) || not (eqb (numberOf a) 4 || eqb (numberOf a) 31)) (λ vs. refl)
+
+pub undecided-not-30 : (t : Response) → decides t ≡ false → eqb (answered t) 30 ≡ false
+undecided-not-30 t e = by-test (decides t) (eqb (answered t) 30) (every-answer (λ a. isDecision (classOf a) || not (eqb (numberOf a) 30)) (λ vs. refl) (t .answer)) e
+  where
+    by-test : (d x : Bool) → d || not x ≡ true → d ≡ false → x ≡ false
+    by-test false false h q = refl
+    by-test false true h q = clash cc
+    by-test true x h q = clash cc
 
 neither : (d x y : Bool) → d || not (x || y) ≡ true → d ≡ false → (x ≡ false) × (y ≡ false)
 neither false false false e q = (refl, refl)
@@ -174,6 +194,6 @@ neither true x y e q = clash cc
 pub undecided-other : (t : Response) → decides t ≡ false → (eqb (answered t) 4 ≡ false) × (eqb (answered t) 31 ≡ false)
 undecided-other t e = neither (decides t) (eqb (answered t) 4) (eqb (answered t) 31) (decisions-decide (t .answer)) e
 
--- what is no message is answered an objection: neither 4 nor 31, nor a fault
+-- what is no message is answered an objection: neither 4 nor 31, nor one that speaks of damage
 pub objected : (t : List ℕ) (n : ℕ) → n ≡ numberOf (objectionTo t) → Objects n
 objected t n e = objection-objects n (ap isObjection e ∙ objection-number t)

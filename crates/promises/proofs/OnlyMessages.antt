@@ -14,7 +14,8 @@ use Rattle.memory.proofs.Tests.{clash, and-right}
 use Rattle.records.specs.Records.{records}
 use Rattle.faults.specs.Message.{isMessage}
 use Rattle.owner.specs.Reading.{roomFor, readingOf}
-use Rattle.owner.specs.declared.Reading.the-variants.{Read, Malformed, NotFitting}
+use Rattle.owner.specs.declared.Reading.the-variants.{Read, Malformed, NotFitting, Faulty}
+use Rattle.answers.specs.declared.Fault.{Fault}
 use Rattle.header.specs.Entry.{Entry}
 use Rattle.journal.proofs.Wholes.{whole-facts}
 use Rattle.journal.proofs.Inside.{All, all-sound}
@@ -105,14 +106,19 @@ not-malformed : (b : Bool) (n : ℕ) → unless b NotFitting (Read n) ≡ Malfor
 not-malformed true n e = clash cc
 not-malformed false n e = clash cc
 
+not-faulty : (b : Bool) (n : ℕ) (f : Fault) (place : ℕ) → unless b NotFitting (Read n) ≡ Faulty f place → ⊥
+not-faulty true n f place e = clash cc
+not-faulty false n f place e = clash cc
+
 readable : (text : List ℕ) → IsMessage text → Readable text
 unfolding readingOf
 readable text m = record {
   never-46 = λ types offsets lengths owners e. not-malformed (roomFor (length (records text)) types offsets lengths owners) (length (records text)) (rw m at e);
+  never-faulty = λ f place types offsets lengths owners e. not-faulty (roomFor (length (records text)) types offsets lengths owners) (length (records text)) f place (rw m at e);
   read = λ types offsets lengths owners room. rw (m, room);
 }
 
--- reading a text that was taken is never answered 46
+-- reading a text that was taken is never answered 46 or a fault
 pub read-never-refused : (m : Memory) → RightSizes m → (es : List GatewayItem) → Every May es → (l : ℕ) → l < lines → Every (λ (n : Numbered). Readable (n .text)) (allTaken l (fresh m) es)
 read-never-refused m sizes es may l line =
     every-so OfNumbered (λ (n : Numbered). Readable (n .text)) (λ n p. readable (n .text) p) (allTaken l (fresh m) es) (only-messages m sizes es may .taken l line)

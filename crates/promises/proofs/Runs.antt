@@ -27,7 +27,7 @@ use Rattle.taking.specs.Taking.{tookAnswer}
 use Rattle.looking.specs.declared.Kind.{Kind}
 use Rattle.serial.specs.Serial.{event, taking, annotate, final, Every}
 use Rattle.promises.specs.Machine.{State, GatewayItem, came, step, Sound, May}
-use Rattle.promises.specs.Runs.{RightSizes, fresh, answered, isFault, Overfull, NoSpace, Space}
+use Rattle.promises.specs.Runs.{RightSizes, fresh, answered, isDamage, Overfull, NoSpace, Space}
 use Rattle.promises.specs.Inner.Came.{answer, Came, quiet, stored, crowded, against}
 use Rattle.promises.proofs.Sound.{sound-intact}
 use Rattle.promises.proofs.Came.{comes-to, undecided-other, objected}
@@ -36,11 +36,11 @@ use Rattle.promises.proofs.Kept.{keeps, fresh-sound}
 -- ---- events
 
 -- an event is answered 41, 42 or 43 in no case
-came-faultless : (s : State) (i : ℕ) (k : Kind) → Came s i k → isFault (answered (answer s i k)) ≡ false
-came-faultless s i k (quiet x) = x .no-fault
-came-faultless s i k (stored t m room x) = ap isFault (x .number)
-came-faultless s i k (crowded t m room x) = ap isFault (x .number)
-came-faultless s i k (against t m x) = objected t (answered (answer s i k)) (x .number) .no-fault
+came-undamaged : (s : State) (i : ℕ) (k : Kind) → Came s i k → isDamage (answered (answer s i k)) ≡ false
+came-undamaged s i k (quiet x) = x .no-damage
+came-undamaged s i k (stored t m room x) = ap isDamage (x .number)
+came-undamaged s i k (crowded t m room x) = ap isDamage (x .number)
+came-undamaged s i k (against t m x) = objected t (answered (answer s i k)) (x .number) .no-damage
 
 -- 31 in one case, and 4 in one
 came-crowded : (s : State) (i : ℕ) (k : Kind) → Came s i k → answered (answer s i k) ≡ 31 → NoSpace s i k
@@ -84,36 +84,36 @@ module _ (s : State) (w : Sound s) (i : ℕ) (k : Kind) (h : i < lines) where
 
 -- ---- takings
 
-took-fault : (t : Took) → eqb (getD (tookPaper t) 0 0) 41 ≡ false → eqb (getD (tookPaper t) 0 0) 43 ≡ false → isFault (numberOf (tookAnswer t)) ≡ false
-took-fault (Taken n serial) p q = refl
-took-fault NothingWaiting p q = refl
-took-fault BufferShort p q = refl
-took-fault Broken p q = absurd (true≢false q)
-took-fault NoLine p q = refl
-took-fault WrongSize p q = absurd (true≢false p)
+took-undamaged : (t : Took) → eqb (getD (tookPaper t) 0 0) 41 ≡ false → eqb (getD (tookPaper t) 0 0) 43 ≡ false → isDamage (numberOf (tookAnswer t)) ≡ false
+took-undamaged (Taken n serial) p q = refl
+took-undamaged NothingWaiting p q = refl
+took-undamaged BufferShort p q = refl
+took-undamaged Broken p q = absurd (true≢false q)
+took-undamaged NoLine p q = refl
+took-undamaged WrongSize p q = absurd (true≢false p)
 
-taking-fault : (s : State) → Sound s → (i : ℕ) (b : List ℕ) → isFault (answered ((step s (taking i b)) .0)) ≡ false
+taking-undamaged : (s : State) → Sound s → (i : ℕ) (b : List ℕ) → isDamage (answered ((step s (taking i b)) .0)) ≡ false
 unfolding takeOf
-taking-fault s w i b = by-case (take-cases todaysShares (s .gateway .ledger) i (s .memory .journal) b (w .entries) (w .held))
+taking-undamaged s w i b = by-case (take-cases todaysShares (s .gateway .ledger) i (s .memory .journal) b (w .entries) (w .held))
   where
     by-case : Gives todaysShares (s .gateway .ledger) i (s .memory .journal) b (w .entries) ⊎ Keeps (s .gateway .ledger) i (s .memory .journal) b
-        → isFault (numberOf (tookAnswer (takeEntry (s .gateway .ledger) i (s .memory .journal) b .taking .answer))) ≡ false
-    by-case (inl g) = ap (λ (x : AfterTaking). isFault (numberOf (tookAnswer (x .taking .answer)))) (g .is)
-    by-case (inr q) = ap (λ (x : AfterTaking). isFault (numberOf (tookAnswer (x .taking .answer)))) (q .is) ∙ took-fault (q .answer) (q .sized) (q .whole)
+        → isDamage (numberOf (tookAnswer (takeEntry (s .gateway .ledger) i (s .memory .journal) b .taking .answer))) ≡ false
+    by-case (inl g) = ap (λ (x : AfterTaking). isDamage (numberOf (tookAnswer (x .taking .answer)))) (g .is)
+    by-case (inr q) = ap (λ (x : AfterTaking). isDamage (numberOf (tookAnswer (x .taking .answer)))) (q .is) ∙ took-undamaged (q .answer) (q .sized) (q .whole)
 
 -- ---- runs
 
-faultless : (s : State) (e : GatewayItem) → Sound s → May e → isFault (answered ((step s e) .0)) ≡ false
-faultless s (event i k) w m = came-faultless s i k (comes-to s (sound-intact s w) i k m)
-faultless s (taking i b) w m = taking-fault s w i b
+undamaged : (s : State) (e : GatewayItem) → Sound s → May e → isDamage (answered ((step s e) .0)) ≡ false
+undamaged s (event i k) w m = came-undamaged s i k (comes-to s (sound-intact s w) i k m)
+undamaged s (taking i b) w m = taking-undamaged s w i b
 
 pub stays-sound : (s : State) (es : List GatewayItem) → Sound s → Every May es → Sound (final step s es)
 stays-sound s [] w o = w
 stays-sound s (e ∷ es) w o = stays-sound ((step s e) .1) es (keeps s e w (o .0)) (o .1)
 
-stays-faultless : (s : State) (es : List GatewayItem) → Sound s → Every May es → Every (λ x. isFault (answered (x .1)) ≡ false) (annotate step s es)
-stays-faultless s [] w o = tt
-stays-faultless s (e ∷ es) w o = (faultless s e w (o .0), stays-faultless ((step s e) .1) es (keeps s e w (o .0)) (o .1))
+stays-undamaged : (s : State) (es : List GatewayItem) → Sound s → Every May es → Every (λ x. isDamage (answered (x .1)) ≡ false) (annotate step s es)
+stays-undamaged s [] w o = tt
+stays-undamaged s (e ∷ es) w o = (undamaged s e w (o .0), stays-undamaged ((step s e) .1) es (keeps s e w (o .0)) (o .1))
 
 module _ (m : Memory) (sizes : RightSizes m) (es : List GatewayItem) (may : Every May es) where
   -- after every run from fresh the records are within their limits, the chain is whole and every share is kept
@@ -121,8 +121,8 @@ module _ (m : Memory) (sizes : RightSizes m) (es : List GatewayItem) (may : Ever
   always-sound = stays-sound (fresh m) es (fresh-sound m sizes) may
 
   -- and no item of it was answered 41, 42 or 43
-  pub never-faulty : Every (λ x. isFault (answered (x .1)) ≡ false) (annotate step (fresh m) es)
-  never-faulty = stays-faultless (fresh m) es (fresh-sound m sizes) may
+  pub never-damaged : Every (λ x. isDamage (answered (x .1)) ≡ false) (annotate step (fresh m) es)
+  never-damaged = stays-undamaged (fresh m) es (fresh-sound m sizes) may
 
   -- the next event is answered 31 only if it completes a message that does not fit in what is left of its line's share
   pub share-kept : (i : ℕ) (k : Kind) (h : i < lines) → answered ((step (final step (fresh m) es) (came i k)) .0) ≡ 31 → Overfull (final step (fresh m) es) i k

@@ -56,7 +56,7 @@ abbrev pub step : State → GatewayItem → Response × State
 step s (event i k) = afterEvent (eventOf todaysShares (s .gateway) (onLine i k) (s .memory))
 step s (taking i b) = afterTake (s .memory) (takeOf (s .gateway) i (s .memory .journal) b)
 
--- 4, 30 and 31 store a message or finally refuse it
+-- 4 stores a message; 30, 31 and faults finally refuse a complete text
 abbrev pub isDecision : Class → Bool
 isDecision quiet = false
 isDecision opening = false

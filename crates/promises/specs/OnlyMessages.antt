@@ -13,7 +13,8 @@ use Rattle.kinds.specs.Delimiters.{standard}
 use Rattle.records.specs.Records.{records}
 use Rattle.faults.specs.Message.{isMessage}
 use Rattle.owner.specs.Reading.{roomFor, readingOf}
-use Rattle.owner.specs.declared.Reading.the-variants.{Read, Malformed}
+use Rattle.owner.specs.declared.Reading.the-variants.{Read, Malformed, Faulty}
+use Rattle.answers.specs.declared.Fault.{Fault}
 use Rattle.header.specs.Entry.{Entry}
 use Rattle.journal.specs.Chain.{chain}
 use Rattle.journal_laws.specs.Runs.{Numbered}
@@ -33,8 +34,9 @@ pub record OnlyMessages (m : Memory) (es : List GatewayItem) : Type 0 where
   pub waiting : Every (λ (e : Entry). IsMessage (e .text)) entries
   pub taken : (l : ℕ) → l < lines → Every (λ (n : Numbered). IsMessage (n .text)) (allTaken l (fresh m) es)
 
--- reading it is never answered 46, and where each of the four memories has a place for every record, it is read
+-- reading it is never answered 46 or a fault, and where each of the four memories has a place for every record, it is read
 pub record Readable (text : List ℕ) : Type 0 where
   pub never-46 : (types offsets lengths owners : ℕ) → readingOf standard text types offsets lengths owners ≢ Malformed
+  pub never-faulty : (f : Fault) (place types offsets lengths owners : ℕ) → readingOf standard text types offsets lengths owners ≢ Faulty f place
   pub read : (types offsets lengths owners : ℕ) → roomFor (length (records text)) types offsets lengths owners ≡ true
       → readingOf standard text types offsets lengths owners ≡ Read (length (records text))

@@ -43,9 +43,9 @@ abbrev pub isAck : Reply → Bool
 isAck Silence = false
 isAck (Byte b) = eqb b ack
 
--- whether a number speaks of memory, a record or a journal that no run leaves: 41, 42, 43
-abbrev pub isFault : ℕ → Bool
-isFault n = between 41 43 n
+-- whether a number speaks of damage, that is of memory, a record or a journal that no run leaves: 41, 42, 43
+abbrev pub isDamage : ℕ → Bool
+isDamage n = between 41 43 n
 
 -- the text that an event completes on its line, n bytes of its frame behind the line's text; none where it completes none
 abbrev pub offeredBy : State → ℕ → Look → Option (List ℕ)

@@ -14,7 +14,7 @@ use Rattle.deciding.specs.Decisions.{objectionTo}
 use Rattle.looking.specs.declared.Kind.{Kind}
 use Rattle.promises.specs.Machine.{State, Response, step, decides, partsOf, storeOf, came}
 use Rattle.promises.specs.Inner.ByParts.{onEvent}
-use Rattle.promises.specs.Runs.{answered, isFault, offered, hasSpace}
+use Rattle.promises.specs.Runs.{answered, isDamage, offered, hasSpace}
 
 -- a text stored on line i, behind what the journal holds
 abbrev pub storedIn : ℕ → List ℕ → Store → Store
@@ -31,7 +31,7 @@ module _ (s : State) (i : ℕ) (k : Kind) where
   pub record Passes : Type 0 where
     pub no-text : offered s i k ≡ none
     pub undecided : decides answer ≡ false
-    pub no-fault : isFault (answered answer) ≡ false
+    pub no-damage : isDamage (answered answer) ≡ false
     pub kept : store ≡ storeOf s
     pub anywhere : (j : Store) → onEvent i (partsOf s i) k j ≡ ((onEvent i (partsOf s i) k (storeOf s)) .0, (onEvent i (partsOf s i) k (storeOf s)) .1, j)
 
@@ -42,7 +42,7 @@ module _ (s : State) (i : ℕ) (k : Kind) where
     pub number : Such (answered answer)
     pub left : store ≡ then
 
-  -- nothing is decided; or a text is complete and is stored (4), is crowded out (31), or is no message (30)
+  -- nothing is decided; or a text is complete and is stored (4), is crowded out (31), or is no message
   pub data Came : Type 0 where
     quiet : Passes → Came
     stored : (t : List ℕ) → isMessage t ≡ true → hasSpace s i (length t) ≡ true → Settles t (λ n. n ≡ 4) (storedIn i t (storeOf s)) → Came
