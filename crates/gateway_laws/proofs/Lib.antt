@@ -5,3 +5,4 @@ pub mod Others
 pub mod Laws
 pub mod View
 pub mod Takings
+pub mod Ended

@@ -22,3 +22,4 @@ pub mod Freed
 pub mod Alone
 pub mod Acknowledged
 pub mod Frauds
+pub mod Foreign
