@@ -25,7 +25,6 @@ use Rattle.journal.specs.declared.Verdict.{Verdict as Judgement}
 use Rattle.answers.specs.Paper.{numberOf}
 use Rattle.answers.proofs.Paper.{fault-number}
 use Rattle.answers.specs.Inner.Objections.{isObjection}
-use Rattle.answers.specs.declared.Answer.{Answer}
 use Rattle.answers.specs.declared.Answer.the-variants.{NoMessage}
 use Rattle.deciding.specs.Decisions.{Against, objection, objectionTo, roomOutcome, outcomeOf, ledgerBy, journalBy, DecidedBy, Decision}
 use Rattle.deciding.specs.declared.Outcome.{Outcome}

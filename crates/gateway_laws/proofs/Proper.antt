@@ -24,7 +24,6 @@ use Rattle.answers.specs.declared.Answer.{Answer}
 use Rattle.looking.specs.declared.Act.{Act}
 use Rattle.looking.specs.declared.Act.the-variants.{Leave, Open, Close, Begin, Count, Collect, Refuse, Accept, Store, Object}
 use Rattle.looking.specs.declared.Verdict.{Verdict}
-use Rattle.looking.specs.Verdicts.{Left}
 use Rattle.looking.proofs.Views.{own-parts}
 use Rattle.looking.proofs.Cases.{Cases, every-look}
 use Rattle.gateway_laws.specs.Classes.{against, classOf}

@@ -1,10 +1,11 @@
 -- All that is claimed is kept: each field by the theorem behind it.
 -- Assumes nothing.
 use Rattle.ngachodui_laws.specs.Demands.{Demands}
-use Rattle.ngachodui_laws.proofs.HostRuns.{host-never-damaged}
+use Rattle.ngachodui_laws.proofs.HostRuns.{host-never-damaged, host-never-30}
+use Rattle.ngachodui_laws.proofs.Ended.{never-54}
 use Rattle.ngachodui_laws.proofs.Sound.{always-sound}
 use Rattle.ngachodui_laws.proofs.Outcomes.{one-outcome, the-outcome, fresh-outcome, refused-leaves, buffer-left, ignored-is-left, others-kept}
-use Rattle.ngachodui_laws.proofs.Deciding.{decided-exactly}
+use Rattle.ngachodui_laws.proofs.Deciding.{decided-exactly, wrong-at}
 use Rattle.ngachodui_laws.proofs.Sending.{sent, given-back}
 use Rattle.ngachodui_laws.proofs.FromFresh.{can-send}
 use Rattle.ngachodui_laws.proofs.Stretches.{stretches, stretches-met, stretches-all}
@@ -18,12 +19,15 @@ kept = record {
   the-outcome = the-outcome;
   fresh-outcome = fresh-outcome;
   never-damaged = host-never-damaged;
+  never-30 = host-never-30;
+  never-54 = never-54;
   always-sound = always-sound;
   refusal-leaves = refused-leaves;
   buffer-left = buffer-left;
   ignored-leaves = ignored-is-left;
   others-kept = others-kept;
   decided-exactly = decided-exactly;
+  wrong-at = wrong-at;
   cut-whole = cut-whole;
   sent = sent;
   given-back = given-back;

@@ -1,15 +1,16 @@
 -- A host's run from numbers in order is the gateway's run: the same answers, and at its end the numbers stand for the gateway's state.
 -- Assumes nothing.
 use mathlib.Core.Path.{_≡_, refl, sym, ap, subst, _∙_}
-use mathlib.Core.Bool.{Bool, true, false, _||_}
+use mathlib.Core.Logic.{_≢_}
+use mathlib.Core.Bool.{Bool, true, false, not, _||_}
 use mathlib.Core.List.{List, [], _∷_, map}
-use Prim.Native.Nat.{ℕ}
-use lib.Dec.{ltb}
+use borrow.Author.Tests.{eqb-false}
+use lib.Dec.{eqb, ltb}
 use Rattle.memory.specs.Sizes.{lines}
 use Rattle.memory.specs.Tests.{unless}
 use Rattle.memory.proofs.Tests.{clash}
 use Rattle.room.specs.Room.{todaysShares}
-use Rattle.answers.specs.Paper.{valuesOf}
+use Rattle.answers.specs.Paper.{numberOf}
 use Rattle.answers.specs.declared.Answer.{Answer}
 use Rattle.answers.specs.declared.Answer.the-variants.{NoLine}
 use Rattle.answers.proofs.Paper.{every-answer}
@@ -27,6 +28,7 @@ use Rattle.serial.specs.Serial.{event, taking, annotate, final, Every}
 use Rattle.promises.specs.Machine.{State, Response, GatewayItem, onLine, step, Sound}
 use Rattle.promises.specs.Runs.{fresh, answered, isDamage}
 use Rattle.promises.proofs.Runs.{always-sound, never-damaged}
+use Rattle.promises.proofs.Foreign.{never-30}
 use Rattle.answers.specs.InNumbers.{inNumbers}
 use Rattle.calls.specs.Calls.{HostState}
 use Rattle.ngachodui_laws.specs.HostRuns.{gatewayState, InOrder, freshHost, HostResponse, lentOf, hostStep, Run, historyOf, endOf}
@@ -44,10 +46,6 @@ isGiving storing = false
 isGiving against = false
 isGiving gives = true
 
-abbrev isNone : List ℕ → Bool
-isNone [] = true
-isNone (v ∷ vs) = false
-
 never-gives : (c : Class) (x : Act) → Of c x → isGiving c ≡ false
 never-gives quiet x o = refl
 never-gives opening x o = refl
@@ -57,21 +55,17 @@ never-gives accepting x o = refl
 never-gives storing x o = refl
 never-gives against x o = refl
 
--- and but for 8 no answer carries values
 abbrev isPlain : Answer → Bool
-isPlain a = isGiving (classOf a) || isNone (valuesOf a)
+isPlain a = isGiving (classOf a) || not (eqb (numberOf a) 8)
 
-no-values : (gives empty : Bool) → gives || empty ≡ true → gives ≡ false → empty ≡ true
-no-values false empty p q = p
-no-values true empty p q = clash cc
-
-none-of : (vs : List ℕ) → isNone vs ≡ true → vs ≡ []
-none-of [] h = refl
-none-of (v ∷ vs) h = clash cc
+not-8 : (gives eight : Bool) → gives || not eight ≡ true → gives ≡ false → eight ≡ false
+not-8 false false p q = refl
+not-8 false true p q = clash cc
+not-8 true eight p q = clash cc
 
 event-answer : (a : Answer) → isGiving (classOf a) ≡ false → inNumbers a ≡ answerInNumbers a
 unfolding inNumbers
-event-answer a h = rw (none-of (valuesOf a) (no-values (isGiving (classOf a)) (isNone (valuesOf a)) (every-answer isPlain (λ vs. refl) a) h))
+event-answer a h = rw (not-8 (isGiving (classOf a)) (eqb (numberOf a) 8) (every-answer isPlain (λ vs. refl) a) h)
 
 event-gives : (g : Gateway) (e : Event) (m : Memory) → isGiving (classOf (eventOf todaysShares g e m .handled .answer)) ≡ false
 unfolding eventOf stepOf
@@ -125,6 +119,10 @@ pub stays-in-order : (s : HostState) → InOrder s → (es : List GatewayItem) �
 stays-in-order s o [] = o
 stays-in-order s o (e ∷ es) = stays-in-order ((hostStep s e) .1) (one-call s o e .in-order) es
 
+seen-not-30 : (ys : List (GatewayItem × Response)) → Every (λ y. eqb (answered (y .1)) 30 ≡ false) ys → Every (λ x. x .1 .answered .number ≢ 30) (map seenOf ys)
+seen-not-30 [] f = tt
+seen-not-30 (y ∷ ys) f = (eqb-false _ _ (f .0), seen-not-30 ys (f .1))
+
 seen-undamaged : (ys : List (GatewayItem × Response)) → Every (λ y. isDamage (answered (y .1)) ≡ false) ys → Every (λ x. isDamage (x .1 .answered .number) ≡ false) (map seenOf ys)
 seen-undamaged [] f = tt
 seen-undamaged (y ∷ ys) f = (f .0, seen-undamaged ys (f .1))
@@ -159,6 +157,11 @@ module _ (r : Run) where
   pub host-never-damaged : Every (λ x. isDamage (x .1 .answered .number) ≡ false) (historyOf r)
   host-never-damaged = subst (Every (λ (x : GatewayItem × HostResponse). isDamage (x .1 .answered .number) ≡ false)) (sym history-is)
       (seen-undamaged (annotate step (fresh (r .memory)) (r .calls)) (never-damaged (r .memory) (r .sizes) (r .calls) (r .may)))
+
+  -- nor 30
+  pub host-never-30 : Every (λ x. x .1 .answered .number ≢ 30) (historyOf r)
+  host-never-30 = subst (Every (λ (x : GatewayItem × HostResponse). x .1 .answered .number ≢ 30)) (sym history-is)
+      (seen-not-30 (annotate step (fresh (r .memory)) (r .calls)) (never-30 (r .memory) (r .sizes) (r .calls) (r .may)))
 
   -- and what it keeps is sound: eight records within their limits, right sizes, a whole journal that keeps every share
   pub host-always-sound : Sound (gatewayState (endOf r))

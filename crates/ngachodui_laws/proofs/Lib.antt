@@ -8,6 +8,7 @@ pub mod Sound
 pub mod Determined
 pub mod Outcomes
 pub mod Deciding
+pub mod Ended
 pub mod Stretches
 pub mod Queue
 pub mod Sending

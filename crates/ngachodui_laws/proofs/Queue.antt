@@ -1,25 +1,22 @@
 -- What goes in and comes out on a line, as a host sees it, is what does in the gateway: nothing is lost, and nothing comes twice.
 -- Assumes nothing.
 use mathlib.Core.Path.{_≡_, refl, sym, ap, ap₂, subst, _∙_}
-use mathlib.Core.Bool.{Bool, true, false, cond, not, _&&_}
+use mathlib.Core.Bool.{Bool, true, false, cond, _&&_}
 use mathlib.Core.List.{List, [], _∷_, _++_, map}
 use mathlib.Core.Option.{some}
 use Prim.Native.Nat.{ℕ}
 use lib.Dec.{eqb}
 use lib.ListN.{getD, take}
-use Rattle.memory.proofs.Tests.{clash}
 use Rattle.room.specs.Room.{todaysShares}
-use Rattle.answers.specs.Paper.{numberOf, valuesOf}
-use Rattle.answers.specs.declared.Answer.{Answer}
-use Rattle.answers.proofs.Paper.{every-answer}
+use Rattle.answers.specs.Paper.{valuesOf}
 use Rattle.faults.specs.Message.{isMessage}
 use Rattle.journal.specs.Chain.{chain}
 use Rattle.journal_laws.specs.Held.{Held}
 use Rattle.journal_laws.specs.Runs.{Numbered, numbered, waiting}
 use Rattle.serial.specs.Serial.{event, taking, annotate, Every}
 use Rattle.promises.specs.Machine.{State, Response, GatewayItem, came, step}
-use Rattle.promises.specs.Runs.{fresh}
-use Rattle.promises.specs.Queue.{completed, gaveBy, gave}
+use Rattle.promises.specs.Runs.{answered, fresh}
+use Rattle.promises.specs.Queue.{completed, gave}
 use Rattle.promises.specs.Queue as there
 use Rattle.promises.proofs.Queue as gateway
 use Rattle.promises.proofs.OnlyMessages as messages
@@ -29,22 +26,16 @@ use Rattle.ngachodui_laws.specs.Queue.{given, allTaken, storedBy, allSto
 use Rattle.ngachodui_laws.specs.Inner.Hosting.{inNumbersOf, seenOf}
 use Rattle.ngachodui_laws.proofs.HostRuns.{one-call, runs-alike, fresh-in-order, fresh-is, history-is, at-end}
 
--- 8 is the answer that carries values
-abbrev isNone : List ℕ → Bool
-isNone [] = true
-isNone (v ∷ vs) = false
+-- with 8 a host sees the answer's values
+abbrev one : Bool → ℕ → List ℕ → List Numbered
+one eight serial text = cond eight (record { serial = serial; text = text } ∷ []) []
 
-given-by : (eight : Bool) (vs buffer : List ℕ) → cond eight (not (isNone vs)) (isNone vs) ≡ true
-    → cond eight (record { serial = getD vs 1 0; text = take (getD vs 0 0) buffer } ∷ []) [] ≡ gaveBy vs buffer
-given-by true [] buffer h = clash cc
-given-by true (n ∷ vs) buffer h = refl
-given-by false [] buffer h = refl
-given-by false (n ∷ vs) buffer h = clash cc
+given-by : (eight : Bool) (serial n : ℕ) (buffer : List ℕ) → one eight (cond eight serial 0) (take (cond eight n 0) buffer) ≡ one eight serial (take n buffer)
+given-by true serial n buffer = refl
+given-by false serial n buffer = refl
 
 given-is : (r : Response) → given (inNumbersOf r) ≡ gave r
-given-is r =
-    let test : Answer → Bool = λ a. cond (eqb (numberOf a) 8) (not (isNone (valuesOf a))) (isNone (valuesOf a)) in
-    given-by (eqb (numberOf (r .answer)) 8) (valuesOf (r .answer)) (r .buffer) (every-answer test (λ vs. refl) (r .answer))
+given-is r = given-by (eqb (answered r) 8) (getD (valuesOf (r .answer)) 1 0) (getD (valuesOf (r .answer)) 0 0) (r .buffer)
 
 -- what is taken
 taken-seen : (l : ℕ) (s : State) (es : List GatewayItem) → allTaken l (map seenOf (annotate step s es)) ≡ there.allTaken l s es

@@ -35,7 +35,7 @@ use Rattle.calls.specs.Calls.{HostState}
 use Rattle.ngachodui_laws.specs.HostRuns.{gatewayState, InOrder, HostResponse, hostStep, numberTo, replyTo, after, Run, endOf}
 use Rattle.ngachodui_laws.specs.Outcomes.{StoreKept}
 use Rattle.ngachodui_laws.specs.Freed.{takenThen, Frees, Alone}
-use Rattle.ngachodui_laws.specs.Inner.Hosting.{inNumbersOf}
+use Rattle.ngachodui_laws.specs.Inner.Hosting.{takenValue, inNumbersOf}
 use Rattle.ngachodui_laws.proofs.HostRuns.{one-call, ends-alike, stays-in-order, end-in-order, end-is, at-end, host-always-sound}
 use Rattle.ngachodui_laws.proofs.Determined.{same-counts, same-serial}
 use Rattle.ngachodui_laws.proofs.Queue.{stored-alike, stored-from-fresh}
@@ -63,6 +63,9 @@ eight-is a h =
     let test : Answer → Bool = λ x. cond (eqb (numberOf x) 8) (eqb (length (valuesOf x)) 2) true in
     let two = if-eight (eqb (numberOf a) 8) (eqb (length (valuesOf a)) 2) (every-answer test (λ vs. refl) a) (eq-eqb (numberOf a) 8 h) in
     paper-injective a (Taken (getD (valuesOf a) 0 0) (getD (valuesOf a) 1 0)) h (two-values (valuesOf a) (eqb-true (length (valuesOf a)) 2 two))
+
+taken-value : (at : ℕ) (a : Answer) → numberOf a ≡ 8 → takenValue at a ≡ getD (valuesOf a) at 0
+taken-value at a h = rw (eq-eqb (numberOf a) 8 h)
 
 -- a reply byte of ACK is the reply ACK
 ack-is : (x : Reply) → replyByte x ≡ ack → x ≡ Byte ack
@@ -151,7 +154,7 @@ module _ (r : Run) where
         let a = (step g (taking l b)) .0 .answer in
         let seen = response-at s (end-in-order r) g (end-is r) (taking l b) in
         let eight : numberOf a ≡ 8 = ap (λ (x : HostResponse). x .answered .number) (sym seen) ∙ frees .gives in
-        let bytes : getD (valuesOf a) 0 0 ≡ n = ap (λ (x : HostResponse). x .answered .length) (sym seen) ∙ frees .bytes in
+        let bytes : getD (valuesOf a) 0 0 ≡ n = sym (taken-value 0 a eight) ∙ ap (λ (x : HostResponse). x .answered .length) (sym seen) ∙ frees .bytes in
         record {
           serial = getD (valuesOf a) 1 0;
           gives = eight-is a eight ∙ ap (λ (x : ℕ). Taken x (getD (valuesOf a) 1 0)) bytes;

@@ -25,7 +25,7 @@ use Rattle.ngachodui_laws.specs.Inner.Hosting.{inNumbersOf}
 use Rattle.ngachodui_laws.proofs.HostRuns.{one-call, fresh-in-order, fresh-is}
 use Rattle.ngachodui_laws.proofs.Determined.{same-host}
 
--- 4, 30 and 31 are the numbers of the answers that decide
+-- 4, 30, 31 and those of faults are the numbers of the answers that decide
 both-or-none : (a b : Bool) → cond a b (not b) ≡ true → a ≡ b
 both-or-none true true h = refl
 both-or-none true false h = clash cc

@@ -2,7 +2,7 @@
 -- Assumes nothing.
 use mathlib.Core.Path.{_≡_, refl, sym, ap, _∙_, subst}
 use mathlib.Core.Logic.{_≢_}
-use mathlib.Core.Bool.{true}
+use mathlib.Core.Bool.{true, false}
 use mathlib.Core.List.{List}
 use Prim.Native.Nat.{ℕ, _<_}
 use native.Mathlib.Omega.{arith}
@@ -14,7 +14,9 @@ use Rattle.faults.specs.Message.{isMessage}
 use Rattle.cutting.specs.Frames.{cutOf, isCuttable, cutAnswer, cutIn}
 use Rattle.owner.specs.Reading.{readingOf}
 use Rattle.owner.specs.declared.Reading.{Reading}
-use Rattle.owner.specs.declared.Reading.the-variants.{Read, Malformed, NotFitting}
+use Rattle.owner.specs.declared.Reading.the-variants.{Read, Malformed, NotFitting, Faulty}
+use Rattle.answers.specs.Paper.{isFaulty}
+use Rattle.answers.specs.declared.Fault.{Fault}
 use Rattle.journal_laws.specs.Runs.{Numbered}
 use Rattle.serial.specs.Serial.{Every}
 use Rattle.promises.specs.Runs.{fresh}
@@ -35,17 +37,39 @@ cut-whole m message out out′ r c room =
     let fits = le-leb (length (cutOf frameLimit m)) (length out) room in
     record { answer = c .result ∙ rw (message, fits); frames = c .after ∙ rw (message, fits) }
 
--- of what reading comes to, only one is answered 46
-not-46 : (x : Reading) → x ≢ Malformed → madeByReading x .number ≢ 46
+-- of what reading comes to, only one is answered 46, and only faults are answered as such
+not-46 : (x : Reading) → x ≢ Malformed → ((f : Fault) (place : ℕ) → x ≢ Faulty f place) → madeByReading x .number ≢ 46
 unfolding madeByReading
-not-46 (Read n) h e = absurd (omega arith)
-not-46 Malformed h e = h refl
-not-46 NotFitting h e = absurd (omega arith)
+not-46 (Read n) h q e = absurd (omega arith)
+not-46 Malformed h q e = h refl
+not-46 NotFitting h q e = absurd (omega arith)
+not-46 (Faulty f place) h q e = q f place refl
+
+not-faulty : (x : Reading) → ((f : Fault) (place : ℕ) → x ≢ Faulty f place) → isFaulty (madeByReading x .number) ≡ false
+unfolding madeByReading
+not-faulty (Read n) q = refl
+not-faulty Malformed q = refl
+not-faulty NotFitting q = refl
+not-faulty (Faulty f place) q = absurd (q f place refl)
+
+module _ (text : List ℕ) (h : there.Readable text) (ts os ls ws : List ℕ) where
+  abbrev reading : Reading
+  reading = readingOf standard text (length ts) (length os) (length ls) (length ws)
+
+  faultless : (f : Fault) (place : ℕ) → reading ≢ Faulty f place
+  faultless f place = h .never-faulty f place (length ts) (length os) (length ls) (length ws)
+
+  read-not-46 : madeByReading reading .number ≢ 46
+  read-not-46 = not-46 reading (h .never-46 (length ts) (length os) (length ls) (length ws)) faultless
+
+  read-faultless : isFaulty (madeByReading reading .number) ≡ false
+  read-faultless = not-faulty reading faultless
 
 readable : (text : List ℕ) → there.Readable text → Readable text
-readable text h ts os ls ws ts′ os′ ls′ ws′ r c e =
-    let reading = readingOf standard text (length ts) (length os) (length ls) (length ws) in
-    not-46 reading (h .never-46 (length ts) (length os) (length ls) (length ws)) (ap (λ (x : Made). x .number) (sym (c .result)) ∙ e)
+readable text h = record {
+  never-46 = λ ts os ls ws ts′ os′ ls′ ws′ r c e. read-not-46 text h ts os ls ws (ap (λ (x : Made). x .number) (sym (c .result)) ∙ e);
+  never-faulty = λ ts os ls ws ts′ os′ ls′ ws′ r c. ap (λ (x : Made). isFaulty (x .number)) (c .result) ∙ read-faultless text h ts os ls ws;
+}
 
 pub read-never-refused : (r : Run) (l : ℕ) → l < lines → Every (λ n. Readable (n .text)) (allTaken l (historyOf r))
 read-never-refused r l h =

@@ -21,6 +21,7 @@ use Rattle.receiving.specs.Steps.{Memory}
 use Rattle.serial.specs.Serial.{taking, annotate, final, serialize, count, Every, OrderOf, GoesAlike}
 use Rattle.serial.specs.Kept.{Rearranged}
 use Rattle.promises.specs.Machine.{GatewayItem, came, May}
+use Rattle.promises.specs.Clean.{WrongAt}
 use Rattle.promises.specs.Runs.{RightSizes, isDamage, offered, Completes, Overfull, NoSpace, Space, Larger, usedBy, usedWith, mostAlone}
 use Rattle.layout.specs.Layout.{Fresh, serialAt, numberAt}
 use Rattle.numbers.specs.Plain.{lineOf}
@@ -48,8 +49,11 @@ pub record Demands : Type 0 where
   -- What makes a gateway fresh leaves the numbers of `freshHost`, and no others.
   pub fresh-outcome : (m : Memory) (ns us : List ℕ) → Fresh ns us → _≡_ {A = HostState} (record { numbers = ns; counts = us; memory = m }) (freshHost m)
   --
-  -- No call of a run finds memory of another size, a record beyond its limits or a broken journal: 41, 42 and 43 do not come.
+  -- No call of a run finds memory of another size, a record beyond its limits or a broken journal: 41, 42 and 43 do not come. Nor does 30, as
+  -- every frame's text is of allowed bytes; and 54 comes from no state at all, as a text that is complete ends with CR.
   pub never-damaged : (r : Run) → Every (λ x. isDamage (x .1 .answered .number) ≡ false) (historyOf r)
+  pub never-30 : (r : Run) → Every (λ x. x .1 .answered .number ≢ 30) (historyOf r)
+  pub never-54 : (s : HostState) (e : GatewayItem) → numberTo s e ≢ 54
   --
   -- After every run what the host keeps is sound: numbers in order, memory of the right sizes, and a whole journal that keeps each line's share.
   pub always-sound : (r : Run) → Sound (endOf r)
@@ -64,9 +68,13 @@ pub record Demands : Type 0 where
   -- A call on one line leaves every other line its numbers, its used count and its parts of the memory, from any state at all.
   pub others-kept : (s : HostState) (e : GatewayItem) (l : ℕ) → l < lines → l ≢ lineIn e → LineKept l s (after s e)
   --
-  -- An event that completes a text is answered 4 exactly if the text is a message and there is room for it, 31 exactly if it is one and there is none, and 30 exactly
-  -- if it is none: after every run, and wherever numbers, memory and journal are intact.
+  -- An event that completes a text is answered 4 exactly if the text is a message and there is room for it, 31 exactly if it is one and there is none, and the number
+  -- of a fault with a place exactly if that is the first thing wrong with it, at the record of that place: after every run, and wherever numbers, memory and journal
+  -- are intact.
   pub decided-exactly : (s : HostState) → Intact s → (i : ℕ) → i < lines → (k : Kind) (text : List ℕ) → offered (gatewayState s) i k ≡ some text → DecidedExactly s i k text
+  --
+  -- After every run a text that an event completes and that is no message is wrong at one of its records: the place is 1 at least, and at most as many as there are.
+  pub wrong-at : (r : Run) (i : ℕ) → i < lines → (k : Kind) (text : List ℕ) → offered (gatewayState (endOf r)) i k ≡ some text → isMessage text ≡ false → WrongAt text
   --
   -- ---- 2. What we cut and send is stored, and given back
 
@@ -88,8 +96,8 @@ pub record Demands : Type 0 where
   --
   -- ---- 3. How the lines' calls are mixed makes no difference
 
-  -- A stretch is a line's events from behind one decided message (4, 30, 31) through the next. Tell a run again stretch by stretch, none divided, in the order in
-  -- which the messages were decided, the takings among these where they were, and the lines' rests last, in any order of the lines. Every call then gets the same
+  -- A stretch is a line's events from behind one decided text (4, 30, 31, a fault) through the next. Tell a run again stretch by stretch, none divided, in the order in
+  -- which the texts were decided, the takings among these where they were, and the lines' rests last, in any order of the lines. Every call then gets the same
   -- answer, a taking the same buffer, and the host ends with the same numbers and bytes.
   pub stretches : (r : Run) (order : List ℕ) → OrderOf lines order → (zs : List (GatewayItem × HostResponse)) → Rearranged decides lines order (historyOf r) zs
       → GoesAlike hostStep (freshHost (r .memory)) (r .calls) zs
@@ -141,5 +149,5 @@ pub record Demands : Type 0 where
   -- Only messages are kept and given: each text that waits after a run is one, and each that was taken.
   pub only-messages : (r : Run) → OnlyMessages r
   --
-  -- So what was taken can be read: 46 does not come.
+  -- So what was taken can be read: neither 46 nor a fault comes.
   pub read-never-refused : (r : Run) (l : ℕ) → l < lines → Every (λ n. Readable (n .text)) (allTaken l (historyOf r))

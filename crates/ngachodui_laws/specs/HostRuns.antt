@@ -14,6 +14,7 @@ use Rattle.layout.specs.Layout.{freshNumbers}
 use Rattle.calls.specs.Calls.{HostState, callOf}
 use Rattle.reader.specs.Takings.{TakeState, takingOf}
 use Rattle.ngachodui_laws.specs.Hosting.{gatewayOf, Ordered}
+use Rattle.answers.specs.Paper.{isFaulty}
 use Rattle.answers.specs.declared.Answered.{Answered}
 
 -- the state of the gateway that a host's numbers and memory stand for
@@ -48,9 +49,13 @@ hostStep s (taking i b) =
       },
     )
 
--- the number that a call is answered with, the byte that goes back to the analyzer (0 for none), and what the host keeps after the call
+-- the number that a call is answered with, the place of a record that comes with it (0 for none), the byte that goes back to the analyzer
+-- (0 for none), and what the host keeps after the call
 abbrev pub numberTo : HostState → GatewayItem → ℕ
 numberTo s e = (hostStep s e) .0 .answered .number
+
+abbrev pub placeTo : HostState → GatewayItem → ℕ
+placeTo s e = (hostStep s e) .0 .answered .place
 
 abbrev pub replyTo : HostState → GatewayItem → ℕ
 replyTo s e = (hostStep s e) .0 .answered .reply
@@ -58,9 +63,12 @@ replyTo s e = (hostStep s e) .0 .answered .reply
 abbrev pub after : HostState → GatewayItem → HostState
 after s e = (hostStep s e) .1
 
--- a message is stored (4) or finally refused (30, 31)
+-- a complete text is stored (4) or finally refused (30, 31, a fault)
+abbrev pub isDecision : ℕ → Bool
+isDecision n = eqb n 4 || (eqb n 30 || (eqb n 31 || isFaulty n))
+
 abbrev pub decides : HostResponse → Bool
-decides r = eqb (r .answered .number) 4 || (eqb (r .answered .number) 30 || eqb (r .answered .number) 31)
+decides r = isDecision (r .answered .number)
 
 -- a run of calls: a fresh start with memory of the right sizes, whatever it holds, and any calls, events on lines 0 to 7 and takings from any line
 pub record Run : Type 0 where

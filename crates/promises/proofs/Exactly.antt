@@ -18,7 +18,7 @@ use Rattle.faults.specs.declared.Checked.the-variants.{Message, NotText, Faulty
 use Rattle.faults.proofs.Places.{message-fault, fault-none}
 use Rattle.answers.specs.Paper.{faultNumber, isFaulty, numberOf, placeOf}
 use Rattle.answers.specs.declared.Answer.{Answer}
-use Rattle.answers.specs.declared.Answer.the-variants.{NoMessage, Faulty as IsFaulty}
+use Rattle.answers.specs.declared.Answer.the-variants.{Faulty as IsFaulty}
 use Rattle.answers.specs.declared.Fault.{Fault}
 use Rattle.answers.proofs.Paper.{fault-number, faulty-place, paper-injective}
 use Rattle.deciding.specs.Decisions.{objection, objectionTo}

@@ -27,13 +27,9 @@ completedIn (some text) = text
 abbrev pub completed : State → ℕ → Kind → List ℕ
 completed s i k = completedIn (offered s i k)
 
--- what a taking gave: the values of 8 are the text's length in the buffer, and its serial
-abbrev pub gaveBy : List ℕ → List ℕ → List Numbered
-gaveBy [] buffer = []
-gaveBy (n ∷ values) buffer = record { serial = getD values 0 0; text = take n buffer } ∷ []
-
+-- what a taking gave: with 8, whose values are the text's length in the buffer, and its serial
 abbrev pub gave : Response → List Numbered
-gave t = gaveBy (valuesOf (t .answer)) (t .buffer)
+gave t = cond (eqb (answered t) 8) (record { serial = getD (valuesOf (t .answer)) 1 0; text = take (getD (valuesOf (t .answer)) 0 0) (t .buffer) } ∷ []) []
 
 -- the message that an item stores on line l: one that is answered 4
 abbrev pub storedOn : ℕ → State → GatewayItem → List (List ℕ)

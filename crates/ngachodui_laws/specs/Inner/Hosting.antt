@@ -2,9 +2,11 @@
 -- Assumes nothing.
 use Prim.Native.Nat.{ℕ}
 use mathlib.Core.Path.{_≡_}
+use mathlib.Core.Bool.{cond}
 use mathlib.Core.List.{List}
+use lib.Dec.{eqb}
 use lib.ListN.{getD}
-use Rattle.answers.specs.Paper.{numberOf, valuesOf, replyOf}
+use Rattle.answers.specs.Paper.{numberOf, valuesOf, placeOf, replyOf}
 use Rattle.answers.specs.declared.Answer.{Answer}
 use Rattle.gateway.specs.Events.{AfterEvent, AfterTake}
 use Rattle.answers.specs.InNumbers.{replyByte, inNumbers}
@@ -22,15 +24,19 @@ pub record Hosts (c : AfterCall) (x : AfterEvent) : Type 0 where
   pub memory : c .state .memory ≡ x .memory
   pub ordered : Ordered (c .state .numbers) (c .state .counts)
 
--- any answer of the gateway in plain numbers: of its values, which only 8 has, the first is the text's length and the second its serial
+-- the value of an entry taken, at this place among its values; 0 for every other answer
+abbrev pub takenValue : ℕ → Answer → ℕ
+takenValue at a = cond (eqb (numberOf a) 8) (getD (valuesOf a) at 0) 0
+
+-- any answer of the gateway in plain numbers: 8 has the text's length and its serial, a fault its place
 abbrev pub answerInNumbers : Answer → Answered
 answerInNumbers a = record {
   number = numberOf a;
   reply = replyByte (replyOf (numberOf a));
-  serial = getD (valuesOf a) 1 0;
-  place = 0;
+  serial = takenValue 1 a;
+  place = placeOf a;
   digits = 0;
-  length = getD (valuesOf a) 0 0;
+  length = takenValue 0 a;
 }
 
 -- a taking on a host's numbers is the gateway's taking
