@@ -92,7 +92,8 @@ enum {
 /* ---- Answers ---- */
 
 /* What an event or a taking is answered, by number: 22 is rule A22 of docs/RULES.md. With 1 to 4 the
- * byte to send back is ACK (06), with 20 to 31 it is NAK (15), and with the others there is none. */
+ * byte to send back is ACK (06), with 20 to 31 and 50 to 53 it is NAK (15), and with the others there is
+ * none. 50 to 53 are those of enum ngachodui_fault. */
 enum ngachodui_number {
     NGACHODUI_NOTHING = 0,          /* the byte was ignored or collected, or the seconds were counted */
     NGACHODUI_OPENED = 1,           /* ENQ: a transfer is open */
@@ -110,11 +111,12 @@ enum ngachodui_number {
     NGACHODUI_WRONG_CHECK = 23,     /* the check digits are not those of the frame's bytes */
     NGACHODUI_BAD_TEXT = 24,        /* a byte that may not stand in a text */
     NGACHODUI_BAD_NUMBER = 25,      /* the frame's number is not 0 to 7 */
-    NGACHODUI_REFUSING = 26,        /* a message was refused (30, 31): so is all else of this transfer */
+    NGACHODUI_REFUSING = 26,        /* after 30, 31 or 50 to 53: all else of this transfer is refused */
     NGACHODUI_OUT_OF_TURN = 27,     /* the frame's number is neither the last nor the next */
     NGACHODUI_TOO_LONG = 28,        /* with this frame the text has over 4,000 bytes */
     NGACHODUI_NO_CR = 29,           /* ETX, and the text is empty or does not end with CR */
-    NGACHODUI_NO_MESSAGE = 30,      /* the text is complete and is not a message */
+    NGACHODUI_NO_MESSAGE = 30,      /* the text is complete and has a byte that is not allowed, which no frame
+                                     * brings: only memory that the host has set can hold it */
     NGACHODUI_NO_ROOM = 31,         /* the message has no room in the journal */
 
     /* Refusals of the call: nothing at all has changed. */
@@ -129,25 +131,38 @@ enum ngachodui_number {
 /* What a text function answers, by the numbers of the same table. */
 enum ngachodui_outcome {
     NGACHODUI_DONE = 0,             /* the output is written */
-    NGACHODUI_MALFORMED = 46,       /* the text to cut or read is no message, or has a wrong escape */
+    NGACHODUI_MALFORMED = 46,       /* to cut or read: over 4,000 bytes, or one that is not allowed;
+                                     * to unescape: a wrong escape */
     NGACHODUI_NOT_FITTING = 47      /* the output is longer than its memory */
+};
+
+/* Why a text is no message: what is wrong with a record, answered with the place of that record, counted
+ * from 1. Records are looked at front to back, each for 51, 52 and 53 in this order, and the first fault
+ * counts. An event gets 50 to 53 where it completes the text, cutting and reading also 54. */
+enum ngachodui_fault {
+    NGACHODUI_NO_HEADER = 50,       /* the first record does not begin with H|\^&, or the text is empty */
+    NGACHODUI_UNKNOWN_TYPE = 51,    /* its type is none of H P O R Q L C M */
+    NGACHODUI_MISPLACED = 52,       /* its type may not stand there, or it is the last record and no L */
+    NGACHODUI_MISNUMBERED = 53,     /* its sequence number is not the one that is due */
+    NGACHODUI_NO_FINAL_CR = 54      /* the text's last byte is no CR, which is looked at before the records: its
+                                     * place is that of the last one */
 };
 
 /* The answer to an event or a taking. */
 typedef struct ngachodui_answered {
-    uint8_t number;    /* enum ngachodui_number */
+    uint8_t number;    /* enum ngachodui_number, or enum ngachodui_fault */
     uint8_t reply;     /* the byte to send to the analyzer: 0x06, 0x15, or 0 for none */
     uint16_t serial;   /* with answer 8 the message's serial, else 0 */
-    uint16_t place;    /* 0 in this version */
+    uint16_t place;    /* with answers 50 to 53 the wrong record's place, from 1; else 0 */
     uint16_t digits;   /* 0 in this version */
     size_t length;     /* with answer 8 the message's length, else 0 */
 } ngachodui_answered;
 
 /* The answer of a text function. */
 typedef struct ngachodui_made {
-    uint8_t number;    /* enum ngachodui_outcome */
+    uint8_t number;    /* enum ngachodui_outcome, or enum ngachodui_fault */
     uint8_t spare;     /* 0 in this version */
-    uint16_t place;    /* 0 in this version */
+    uint16_t place;    /* with answers 50 to 54 the wrong record's place, from 1; else 0 */
     uint32_t value;    /* 0 in this version */
     size_t length;     /* when done: how much was written, from the start of the output; else 0 */
 } ngachodui_made;
@@ -236,7 +251,7 @@ void ngachodui_fresh(ngachodui_numbers *numbers, ngachodui_counts *counts);
 
 /* A byte has come in on a line.
  *
- * Answers 0 to 6, 20 to 31, and 40, 41, 42, 43, tested in this order: 40, 41, 42, then the byte's
+ * Answers 0 to 6, 20 to 31, 40 to 43 and 50 to 53, tested in this order: 40, 41, 42, then the byte's
  * work. `reply` goes back to the analyzer, once what the call has left is saved.
  *
  * Changes, by the answer:
@@ -245,11 +260,12 @@ void ngachodui_fresh(ngachodui_numbers *numbers, ngachodui_counts *counts);
  *   2        the record; the frame's last byte; the text behind the line's unfinished text
  *   4        as 2, and the entry at the journal's end, the line's used count, the bytes in use, the
  *            line's serial; the line has no unfinished text any more
- *   30, 31   as 2, but the number is not advanced, the line has no unfinished text any more and
- *            refuses frames until the transfer ends
+ *   30, 31, 50 to 53  as 2, but the number is not advanced, the line has no unfinished text any more
+ *            and refuses frames until the transfer ends
  *   3, 21 to 29   the frame's last byte; the line waits, its collected and second counts 0
  *   20, 40 to 43  nothing
- * 43 leaves the line inside its frame; 30 seconds free it. [E5, E6, E7, O3, O4] */
+ * A complete text is tested for 30, then 50 to 53, 43 and 31. 43 leaves the line inside its frame; 30
+ * seconds free it. [E5, E6, E7, O3, O4] */
 ngachodui_answered ngachodui_byte(uint8_t line, uint8_t byte,
                                   ngachodui_numbers *numbers, ngachodui_counts *counts,
                                   uint8_t *journal, size_t journal_length,
@@ -329,7 +345,7 @@ static inline ngachodui_answered ngachodui_on_take(ngachodui_gateway *gateway, u
 /* ---- Texts ---- */
 
 /* These need no gateway. When done, the output holds what is made, from its start, and keeps its rest;
- * refused, it keeps all its bytes. 46 comes before 47. */
+ * refused, it keeps all its bytes. 46 comes first, then 50 to 54 where a text is cut or read, then 47. */
 
 /* Whether a text is a message: 1 to 4,000 allowed bytes, records ended by CR from H to L, in an order
  * and with sequence numbers by the rules R1 to R11 (docs/RULES.md). [R1, R11] */
@@ -337,14 +353,14 @@ bool ngachodui_is_message(const uint8_t *text, size_t text_length);
 
 /* Cuts a message into the frames that send it: for each record pieces of 240 bytes, the last with
  * ETX, those before it with ETB, numbered from 1. To send it: ENQ, then these bytes, then EOT, with
- * an ACK from the other side after ENQ and after each frame. 46: the text is no message. The length is
- * the text's and 7 for each frame: at most NGACHODUI_CUT_LIMIT. [C2, C3, C4, C6] */
+ * an ACK from the other side after ENQ and after each frame. 46, 50 to 54: the text is no message. The
+ * length is the text's and 7 for each frame: at most NGACHODUI_CUT_LIMIT. [C2, C3, C4, C6] */
 ngachodui_made ngachodui_cut(const uint8_t *text, size_t text_length, uint8_t *out, size_t out_length);
 
 /* Reads a message: each record's type letter, where it starts in the text, its length without CR, and
  * its owner, by number from 1, or 0 where it has none (H and L). `length` is the number of records.
- * 46: the text is no message. 47: one of the four has fewer slots than the message has records;
- * NGACHODUI_RECORDS_LIMIT are always enough. The lengths count slots, not bytes. [R13, R14] */
+ * 46, 50 to 54: the text is no message. 47: one of the four has fewer slots than the message has
+ * records; NGACHODUI_RECORDS_LIMIT are always enough. The lengths count slots, not bytes. [R13, R14] */
 ngachodui_made ngachodui_read(const uint8_t *text, size_t text_length,
                               uint8_t *types, size_t types_length,
                               uint16_t *offsets, size_t offsets_length,

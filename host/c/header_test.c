@@ -124,7 +124,8 @@ static void test_cut_and_sent(void)
     check_number((unsigned)m.length, 0, "the length with 47");
     check_number(out[0], 0xaa, "the output after 47");
     m = ngachodui_cut(BYTES("L|1|N\r"), out, sizeof out);
-    check_number(m.number, NGACHODUI_MALFORMED, "no message to cut");
+    check_number(m.number, NGACHODUI_NO_HEADER, "no message to cut");
+    check_number(out[0], 0xaa, "the output after 50");
     m = ngachodui_cut(MESSAGE, out, sizeof out);
     check_number(m.number, 0, "a message cut");
     check_number((unsigned)m.length, 26, "its length");
@@ -144,6 +145,91 @@ static void test_cut_and_sent(void)
         check_number(a.serial, serial, "its serial");
         check_number((unsigned)a.length, 12, "its length");
     }
+}
+
+/* A text as one frame of number 1 that ends with ETX; its length. */
+static size_t framed(const char *text, uint8_t *frame)
+{
+    static const char digits[] = "0123456789ABCDEF";
+    const size_t length = strlen(text);
+    uint8_t *const end = frame + 2 + length;
+    uint8_t sum = '1' + 0x03;
+    for (size_t i = 0; i < length; i++)
+        sum += (uint8_t)text[i];
+    memcpy(frame, "\x02" "1", 2);
+    memcpy(frame + 2, text, length);
+    memcpy(end, "\x03" "xx\r\n", 5);
+    end[1] = (uint8_t)digits[sum / 16];
+    end[2] = (uint8_t)digits[sum % 16];
+    return length + 7;
+}
+
+/* A text is neither cut nor read: the answer and its place, and nothing is written. */
+static void check_refused(const char *text, unsigned number, unsigned place)
+{
+    uint8_t out[2] = {0xaa, 0xaa};
+    uint16_t slots[3] = {0xaaaa, 0xaaaa, 0xaaaa};
+    const ngachodui_made cut = ngachodui_cut((const uint8_t *)text, strlen(text), out, 1);
+    const ngachodui_made read = ngachodui_read((const uint8_t *)text, strlen(text), out + 1, 1, slots, 1, slots + 1, 1, slots + 2, 1);
+    check_number(cut.number, number, "what is wrong with a text to cut");
+    check_number(cut.place, place, "its place");
+    check_number((unsigned)cut.length, 0, "no length with it");
+    check_number(read.number, number, "what is wrong with a text to read");
+    check_number(read.place, place, "its place");
+    check_number((unsigned)read.length, 0, "no records with it");
+    check(out[0] == 0xaa && out[1] == 0xaa, "the outputs after a refusal");
+    check(slots[0] == 0xaaaa && slots[1] == 0xaaaa && slots[2] == 0xaaaa, "the slots after a refusal");
+}
+
+/* A text with a fault comes on a line: it is told with the record's place, and the line refuses. So it is where the text
+ * is cut or read. */
+static void check_faulty(const char *text, unsigned number, unsigned place)
+{
+    uint8_t frame[64];
+    const size_t length = framed(text, frame);
+    start();
+    check_number(byte_on(4, 0x05).number, NGACHODUI_OPENED, "ENQ on line 4");
+    ngachodui_answered a = send(4, frame, length, "a text with a fault");
+    check_number(a.number, number, "what is wrong with a text");
+    check_number(a.place, place, "which record it is");
+    check_number(a.reply, 0x15, "the reply to it");
+    check_number(lines[4].refusing, 1, "the line refuses");
+    check_number(lines[4].next, 1, "its number is not advanced");
+    check_number(lines[4].joined, 0, "it has no text");
+    check(memcmp(gateway.unfinished + 4 * NGACHODUI_TEXT_LIMIT, text, strlen(text)) == 0, "the text is written");
+    a = send(4, frame, length, "the frame again");
+    check_number(a.number, NGACHODUI_REFUSING, "the frame again");
+    check_number(a.place, 0, "no place with 26");
+    check_refused(text, number, place);
+}
+
+/* A byte that no frame brings, set by the host in front of a right L record, with a wrong record behind it: 30. */
+static void check_not_allowed(void)
+{
+    static const uint8_t before[] = "H|\\^&\x7f\rX|1\r";
+    uint8_t frame[64];
+    start();
+    check_number(byte_on(4, 0x05).number, NGACHODUI_OPENED, "ENQ on line 4");
+    memcpy(gateway.unfinished + 4 * NGACHODUI_TEXT_LIMIT, before, sizeof before - 1);
+    lines[4].joined = sizeof before - 1;
+    const ngachodui_answered a = send(4, frame, framed("L|1\r", frame), "the rest of the text");
+    check_number(a.number, NGACHODUI_NO_MESSAGE, "a byte that is not allowed");
+    check_number(a.place, 0, "no place with 30");
+    check_number(lines[4].refusing, 1, "the line refuses");
+}
+
+static void test_faults(void)
+{
+    check_not_allowed();
+    check_faulty("L|1|N\r", NGACHODUI_NO_HEADER, 1);
+    check_faulty("H|\\^&\rP|1\rX|1\rL|2\r", NGACHODUI_UNKNOWN_TYPE, 3);
+    check_faulty("H|\\^&\rP|1\rL|1\rL|1\r", NGACHODUI_MISPLACED, 4);
+    check_faulty("H|\\^&\rP|1\rO|2\rX|1\rL|1\r", NGACHODUI_MISNUMBERED, 3);
+    check_refused("", NGACHODUI_NO_HEADER, 1);
+    check_refused("H|\\^&\rP|5\r", NGACHODUI_MISPLACED, 2);
+    check_refused("H|\\^&\rX|1\rL|1", NGACHODUI_NO_FINAL_CR, 3);
+    check_refused("H|\\^&\rX|1\n", NGACHODUI_MALFORMED, 0);
+    check_refused("H|\\^&\rL|1\r", NGACHODUI_NOT_FITTING, 0);
 }
 
 /* A gateway saved when a message was stored, and loaded: the last frame again is a repeat, 30 seconds end the
@@ -284,6 +370,7 @@ static void work(void)
 {
     test_dialogue();
     test_cut_and_sent();
+    test_faults();
     test_texts();
 }
 
@@ -313,6 +400,7 @@ int main(void)
 {
     test_dialogue();
     test_cut_and_sent();
+    test_faults();
     test_saved();
     test_seconds();
     test_sizes();

@@ -34,7 +34,7 @@ pub fn answer_difference(model: Option<Answer>, library: Option<Answered>) -> Op
         number: answer.number,
         reply: reply(answer.number).unwrap_or(0),
         serial: answer.serial,
-        place: 0,
+        place: answer.place as u16,
         digits: 0,
         length: answer.length,
     });

@@ -21,6 +21,9 @@ pub enum Fault {
     RestOfBufferCleared,
     LengthInvented,
     SerialInvented,
+    PlaceInvented,
+    PlaceOneFurther,
+    WrongRecordToldAs30,
     TextWrittenBy28,
     LastByteNotAdded,
     SecondsRestartedByEnq,
@@ -30,13 +33,15 @@ pub enum Fault {
     WrittenBesideTheJournal,
     OutputWrittenThoughShort,
     ShortBeforeMalformed,
+    WrongRecordToldAs46,
     LastByteOfOutputWrong,
     LongMessageRefused,
     OwnerOfOIsAlwaysH,
+    PlaceForgottenByReading,
 }
 
 impl Fault {
-    pub const ALL: [Fault; 22] = [
+    pub const ALL: [Fault; 27] = [
         Fault::RepeatToldAsAccepted,
         Fault::NoRoomAcknowledged,
         Fault::SerialNotAdvanced,
@@ -47,6 +52,9 @@ impl Fault {
         Fault::RestOfBufferCleared,
         Fault::LengthInvented,
         Fault::SerialInvented,
+        Fault::PlaceInvented,
+        Fault::PlaceOneFurther,
+        Fault::WrongRecordToldAs30,
         Fault::TextWrittenBy28,
         Fault::LastByteNotAdded,
         Fault::SecondsRestartedByEnq,
@@ -56,9 +64,11 @@ impl Fault {
         Fault::WrittenBesideTheJournal,
         Fault::OutputWrittenThoughShort,
         Fault::ShortBeforeMalformed,
+        Fault::WrongRecordToldAs46,
         Fault::LastByteOfOutputWrong,
         Fault::LongMessageRefused,
         Fault::OwnerOfOIsAlwaysH,
+        Fault::PlaceForgottenByReading,
     ];
 
     /// An operation's answer, numbers and memories, as the fault leaves them; `before` are the numbers
@@ -92,6 +102,12 @@ impl Fault {
             }
             (Fault::LengthInvented, 8) => answer.length += 1,
             (Fault::SerialInvented, 8) => answer.serial = book.numbers[at + SERIAL],
+            (Fault::PlaceInvented, 30) => answer.place = 1,
+            (Fault::PlaceOneFurther, 50..=53) => answer.place += 1,
+            (Fault::WrongRecordToldAs30, 53) => {
+                answer.number = 30;
+                answer.place = 0;
+            }
             (Fault::TextWrittenBy28, 28) => {
                 library.unfinished.inside_mut()[TEXT_LIMIT * line + TEXT_LIMIT - 1] ^= 1
             }
@@ -127,6 +143,10 @@ impl Fault {
             (Fault::ShortBeforeMalformed, 46) if function == "unescape" && out.is_empty() => {
                 made.number = 47
             }
+            (Fault::WrongRecordToldAs46, 52) => {
+                made.number = 46;
+                made.place = 0;
+            }
             (Fault::LastByteOfOutputWrong, 0) if function == "cut" => out[made.length - 1] ^= 1,
             _ => {}
         }
@@ -138,14 +158,17 @@ impl Fault {
         }
     }
 
-    pub fn spoil_read(self, made: Made, types: &[u8], owners: &mut [u16]) {
-        if self != Fault::OwnerOfOIsAlwaysH || made.number != 0 {
-            return;
-        }
-        for (kind, owner) in types.iter().zip(owners) {
-            if *kind == b'O' {
-                *owner = 1;
+    pub fn spoil_read(self, made: &mut Made, types: &[u8], owners: &mut [u16]) {
+        match (self, made.number) {
+            (Fault::OwnerOfOIsAlwaysH, 0) => {
+                for (kind, owner) in types.iter().zip(owners) {
+                    if *kind == b'O' {
+                        *owner = 1;
+                    }
+                }
             }
+            (Fault::PlaceForgottenByReading, 54) => made.place = 0,
+            _ => {}
         }
     }
 }

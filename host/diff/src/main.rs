@@ -4,8 +4,9 @@
 //!     diff 5s SEED           so many seconds
 //!     diff --faults SEED     sees that faults put into what the library did are found
 //!
-//! After each operation everything is compared: the answer, its reply byte, the eight records, the
-//! ledger, and every byte of every memory, those that are not lent and a fence around each included.
+//! After each operation everything is compared: the answer, its reply byte and its values, the eight
+//! records, the ledger, and every byte of every memory, those that are not lent and a fence around each
+//! included.
 //! The same seed gives the same operations. Status 1: a difference, or an answer or an outcome that never
 //! came up, told on standard output. For what has not come up a run goes on, at most ten times as long.
 
@@ -30,6 +31,7 @@ use ngachodui_model::lines::Kind;
 use ngachodui_model::traffic::random::Random;
 use ngachodui_model::traffic::{Mix, Traffic};
 use ngachodui_model::world::{Memory, Op, World};
+use ngachodui_model::Answer;
 use std::process::exit;
 use std::time::{Duration, Instant};
 
@@ -49,11 +51,12 @@ const PATIENCE: u32 = 10;
 /// How many of the operations before a difference are told.
 const TOLD: usize = 12;
 
-const MIXES: [Mix; 14] = [
+const MIXES: [Mix; 15] = [
     Mix::Noise,
     Mix::Polite,
     Mix::Damaged,
     Mix::Records,
+    Mix::NotAllowed,
     Mix::Long,
     Mix::Clock,
     Mix::Flood,
@@ -178,8 +181,8 @@ impl Pair {
             "line {}, number {} set to {}, {:?}",
             line, field, value, kind
         );
-        if found.map(|answer| (answer.number, answer.reply)) != Some((number, 0)) {
-            return Err(format!("{}: {:?} in place of {}", odd, found, number));
+        if let Some(difference) = answer_difference(Some(Answer::plain(number)), found) {
+            return Err(format!("{}: {}", odd, difference));
         }
         if usize::from(after) != value {
             return Err(format!("{}: changed to {}", odd, after));

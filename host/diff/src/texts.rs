@@ -10,7 +10,7 @@ use crate::layout::{CUT_LIMIT, RECORDS_LIMIT, TEXT_LIMIT};
 use ngachodui_model::records::Record;
 use ngachodui_model::traffic::random::Random;
 use ngachodui_model::traffic::Traffic;
-use ngachodui_model::{cut, escape, is_message, read_into, unescape};
+use ngachodui_model::{cut, escape, is_message, read_into, unescape, Refusal};
 
 const FENCE: u8 = 0x5A;
 const WIDE_FENCE: u16 = 0x5A5A;
@@ -20,7 +20,7 @@ const WIDE_BLANK: u16 = 0xB5B5;
 /// More than any text here needs, cut or escaped.
 const ROOM: usize = 16_384;
 
-type Model = fn(&[u8], &mut [u8]) -> Result<usize, u8>;
+type Model = fn(&[u8], &mut [u8]) -> Result<usize, Refusal>;
 type Library = fn(&[u8], &mut [u8]) -> Made;
 
 /// A part of each record, by name: what the library wrote, and the model's.
@@ -42,7 +42,7 @@ pub fn compare(
     compare_output(
         "escape",
         &text,
-        escape,
+        |text, out| escape(text, out).map_err(Refusal::plain),
         boundary::escape,
         random,
         fault,
@@ -51,7 +51,7 @@ pub fn compare(
     compare_output(
         "unescape",
         &text,
-        unescape,
+        |text, out| unescape(text, out).map_err(Refusal::plain),
         boundary::unescape,
         random,
         fault,
@@ -65,6 +65,7 @@ fn a_text(traffic: &mut Traffic, random: &mut Random) -> Vec<u8> {
         0 => (0..random.below(40)).map(|_| random.byte()).collect(),
         1 => most_records(),
         2 => traffic.component(),
+        3 => empty_records(random),
         _ => traffic.text(),
     };
     if random.once_in(6) && !text.is_empty() {
@@ -74,6 +75,18 @@ fn a_text(traffic: &mut Traffic, random: &mut Random) -> Vec<u8> {
             1 => text.insert(place, random.byte()),
             _ => text.truncate(place),
         }
+    }
+    text
+}
+
+/// Empty records alone, few, or about as many as a text can have; every other time with a byte for the
+/// last CR.
+fn empty_records(random: &mut Random) -> Vec<u8> {
+    let most = TEXT_LIMIT;
+    let mut text = vec![b'\r'; random.pick(&[0, 1, 2, most - 1, most, most + 1])];
+    if random.once_in(2) {
+        text.pop();
+        text.push(b'x');
     }
     text
 }
@@ -134,11 +147,15 @@ fn a_length(needed: usize, random: &mut Random) -> usize {
     }
 }
 
-fn made(outcome: Result<usize, u8>) -> Made {
+fn made(outcome: Result<usize, Refusal>) -> Made {
+    let (number, place) = match outcome {
+        Ok(_) => (0, 0),
+        Err(refusal) => (refusal.number, refusal.place as u16),
+    };
     Made {
-        number: outcome.err().unwrap_or(0),
+        number,
         spare: 0,
-        place: 0,
+        place,
         value: 0,
         length: outcome.unwrap_or(0),
     }
@@ -237,7 +254,7 @@ fn compare_read(
     let mut offsets = wide(lengths[1]);
     let mut sizes = wide(lengths[2]);
     let mut owners = wide(lengths[3]);
-    let found = boundary::read(
+    let mut found = boundary::read(
         lent.inside(),
         types.inside_mut(),
         offsets.inside_mut(),
@@ -245,7 +262,7 @@ fn compare_read(
         owners.inside_mut(),
     );
     if let Some(fault) = fault {
-        fault.spoil_read(found, types.inside(), owners.inside_mut());
+        fault.spoil_read(&mut found, types.inside(), owners.inside_mut());
     }
     counts.text("read", found.number);
 

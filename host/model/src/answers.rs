@@ -4,32 +4,62 @@
 
 use crate::texts::{ACK, NAK};
 
-/// What an event or a taking gives. Length and serial are those of the entry taken with answer 8,
-/// and 0 with every other number.
+/// What an event or a taking gives. Length and serial are those of the entry taken with answer 8;
+/// place is that of the wrong record with 50 to 53, counted from 1. They are 0 with every other number.
 #[derive(Clone, Copy, PartialEq, Eq, Debug)]
 pub struct Answer {
     pub number: u8,
     pub length: usize,
     pub serial: u16,
+    pub place: usize,
 }
 
 impl Answer {
-    /// Any answer but 8.
+    /// An answer that is its number alone.
     pub fn plain(number: u8) -> Answer {
         Answer {
             number,
             length: 0,
             serial: 0,
+            place: 0,
         }
     }
 
     /// Answer 8.
     pub fn taken(length: usize, serial: u16) -> Answer {
         Answer {
-            number: 8,
             length,
             serial,
+            ..Answer::plain(8)
         }
+    }
+
+    /// Answers 50 to 53.
+    pub fn faulty(number: u8, place: usize) -> Answer {
+        Answer {
+            place,
+            ..Answer::plain(number)
+        }
+    }
+}
+
+/// Why a text was not cut or read: 46, 47, or 50 to 54 with the place of the wrong record, counted
+/// from 1, which is 0 with the other two.
+#[derive(Clone, Copy, PartialEq, Eq, Debug)]
+pub struct Refusal {
+    pub number: u8,
+    pub place: usize,
+}
+
+impl Refusal {
+    /// 46 or 47.
+    pub fn plain(number: u8) -> Refusal {
+        Refusal { number, place: 0 }
+    }
+
+    /// 50 to 54.
+    pub fn faulty(number: u8, place: usize) -> Refusal {
+        Refusal { number, place }
     }
 }
 
@@ -37,7 +67,7 @@ impl Answer {
 pub fn reply(number: u8) -> Option<u8> {
     match number {
         1..=4 => Some(ACK),
-        20..=31 => Some(NAK),
+        20..=31 | 50..=53 => Some(NAK),
         _ => None,
     }
 }
@@ -49,7 +79,9 @@ mod tests {
     #[test]
     fn ack_nak_or_none() {
         let ack = [1, 2, 3, 4];
-        let nak = [20, 21, 22, 23, 24, 25, 26, 27, 28, 29, 30, 31];
+        let nak = [
+            20, 21, 22, 23, 24, 25, 26, 27, 28, 29, 30, 31, 50, 51, 52, 53,
+        ];
         for number in 0..=255 {
             let expected = if ack.contains(&number) {
                 Some(0x06)

@@ -1,5 +1,6 @@
 //! A message cut into frames (docs/RULES.md, C).
 
+use crate::answers::Refusal;
 use crate::frames::{after, write};
 use crate::records::read;
 use crate::texts::{ETB, ETX};
@@ -7,10 +8,10 @@ use crate::texts::{ETB, ETX};
 /// The text of one frame: a longer record goes on in the next. [C2]
 pub const PIECE: usize = 240;
 
-/// The frames of a message written to the start of `out`, and how many bytes they are; 46 where
-/// the text is no message, then 47 where they do not fit. A refusal changes nothing.
+/// The frames of a message written to the start of `out`, and how many bytes they are; 46 or a fault
+/// where the text is no message, then 47 where they do not fit. A refusal changes nothing.
 /// [O6, C1, C2, C3, C4]
-pub fn cut(text: &[u8], out: &mut [u8]) -> Result<usize, u8> {
+pub fn cut(text: &[u8], out: &mut [u8]) -> Result<usize, Refusal> {
     // What can be cut: messages, and nothing else.
     let records = read(text)?;
     let mut bytes = Vec::new();
@@ -32,7 +33,7 @@ pub fn cut(text: &[u8], out: &mut [u8]) -> Result<usize, u8> {
     }
     // The output: 47 if it is too short; bytes behind the frames stay.
     if bytes.len() > out.len() {
-        return Err(47);
+        return Err(Refusal::plain(47));
     }
     out[..bytes.len()].copy_from_slice(&bytes);
     Ok(bytes.len())
@@ -55,11 +56,14 @@ mod tests {
     #[test]
     fn a_buffer_one_short_is_left_alone() {
         let mut out = [0xEE; 25];
-        assert_eq!(cut(b"H|\\^&\rL|1|N\r", &mut out), Err(47));
+        let shortest = b"H|\\^&\rL|1|N\r";
+        assert_eq!(cut(shortest, &mut out), Err(Refusal::plain(47)));
+        // What is wrong with the text comes before 47.
+        assert_eq!(cut(b"\n", &mut out), Err(Refusal::plain(46)));
+        assert_eq!(cut(b"L|1|N\r", &mut out), Err(Refusal::faulty(50, 1)));
+        assert_eq!(cut(b"", &mut []), Err(Refusal::faulty(50, 1)));
+        assert_eq!(cut(b"H|\\^&\rP", &mut out), Err(Refusal::faulty(54, 2)));
         assert_eq!(out, [0xEE; 25]);
-        // 46 comes before 47.
-        assert_eq!(cut(b"L|1|N\r", &mut []), Err(46));
-        assert_eq!(cut(b"", &mut []), Err(46));
     }
 
     #[test]

@@ -4,7 +4,7 @@
 use crate::records::{field, result_fields};
 use crate::texts::{ENQ, EOT, LF};
 use crate::world::World;
-use crate::{cut, is_message};
+use crate::{cut, is_message, read, Refusal};
 
 fn bytes(hex: &str) -> Vec<u8> {
     assert_eq!(hex.len() % 2, 0);
@@ -94,8 +94,10 @@ fn modular_raw_data_in_seven_frames() {
     // Printed with its L record twice, which no message may have.
     let twice = bytes(M8);
     assert_eq!(twice.len(), 1_533);
-    assert_eq!(answers(&twice), [1, 2, 2, 2, 2, 2, 2, 30, 5]);
-    assert_eq!(joined(&twice).len(), 1_484);
+    assert_eq!(answers(&twice), [1, 2, 2, 2, 2, 2, 2, 52, 5]);
+    let text = joined(&twice);
+    assert_eq!(text.len(), 1_484);
+    assert_eq!(read(&text), Err(Refusal::faulty(52, 9)));
     let mut once = twice[..twice.len() - 11].to_vec();
     once.extend_from_slice(b"\x0311\r\n");
     assert_eq!(once.len(), 1_527);

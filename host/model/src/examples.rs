@@ -7,7 +7,7 @@ use crate::texts::{ENQ, EOT, ETB, ETX, LF, STX};
 use crate::traffic::messages::{exact, right};
 use crate::traffic::random::Random;
 use crate::world::{Memory, Op, World};
-use crate::{cut, is_message, JOURNAL};
+use crate::{cut, is_message, Answer, JOURNAL};
 
 const H: &[u8] = b"H|\\^&\r";
 const L: &[u8] = b"L|1|N\r";
@@ -116,7 +116,7 @@ fn answers_20_to_27() {
     assert_eq!(world.send(2, &write(0, b"", ETX)), 27);
     // The number: gateways have been seen to move it on with a NAK.
     assert_eq!(world.model.lines[2].next, 1);
-    assert_eq!(world.send(2, &write(1, L, ETX)), 30);
+    assert_eq!(world.send(2, &write(1, L, ETX)), 50);
     assert_eq!(world.send(2, &write(1, L, ETX)), 26);
 }
 
@@ -124,7 +124,7 @@ fn answers_20_to_27() {
 fn answer_26_stands_before_3_and_27_and_behind_25() {
     let mut world = opened();
     assert_eq!(world.send(2, &write(1, b"P\r", ETX)), 2);
-    assert_eq!(world.send(2, &write(2, L, ETX)), 30);
+    assert_eq!(world.send(2, &write(2, L, ETX)), 50);
     assert_eq!(world.send(2, &write(1, b"", ETB)), 26);
     assert_eq!(world.send(2, &write(5, b"", ETB)), 26);
     assert_eq!(world.send(2, &write(9, b"", ETB)), 25);
@@ -170,25 +170,28 @@ fn answer_29_is_for_the_joined_text() {
 
 #[test]
 fn when_a_message_is_decided() {
-    // What frame 2, with ETX, is answered behind an H frame.
-    let cases: [(&[u8], u8); 12] = [
-        (b"L|1\r", 4),
-        (b"L\r", 30),
-        (b"LX\r", 30),
-        (b"L|2\r", 30),
-        (b"LOL\r", 30),
-        (b"l|1\r", 2),
-        (b" L|1\r", 2),
-        (b"\r", 2),
-        (b"L|1\r\r", 2),
-        (b"L|1\rP|1\r", 2),
-        (b"P|9\rL|1\r", 30),
-        (b"L|1", 29),
+    // What frame 2, with ETX, is answered behind an H frame, and which record is wrong.
+    let cases: [(&[u8], u8, usize); 14] = [
+        (b"L|1\r", 4, 0),
+        (b"L\r", 53, 2),
+        (b"LX\r", 51, 2),
+        (b"L|2\r", 53, 2),
+        (b"LOL\r", 51, 2),
+        (b"l|1\r", 2, 0),
+        (b" L|1\r", 2, 0),
+        (b"\r", 2, 0),
+        (b"L|1\r\r", 2, 0),
+        (b"L|1\rP|1\r", 2, 0),
+        (b"P|9\rL|1\r", 53, 2),
+        (b"P|1\rR|1\rL|1\r", 52, 3),
+        (b"P|1\rO|1\rL|1\rL|1\r", 52, 5),
+        (b"L|1", 29, 0),
     ];
-    for (text, expected) in cases {
+    for (text, number, place) in cases {
         let mut world = opened();
         assert_eq!(world.send(2, &write(1, H, ETB)), 2);
-        assert_eq!(world.send(2, &write(2, text, ETX)), expected, "{:?}", text);
+        let answer = world.answer(2, &write(2, text, ETX));
+        assert_eq!((answer.number, answer.place), (number, place), "{:?}", text);
     }
     // The L may have come frames ago, and ETB decides nothing.
     let mut world = opened();
@@ -203,6 +206,23 @@ fn when_a_message_is_decided() {
 }
 
 #[test]
+fn answer_30_is_for_a_byte_that_no_frame_brings() {
+    // Behind it a message that is right, and one that is not: no record is looked at.
+    for rest in [&b"\rL|1\r"[..], b"\rX\rL|1\r"] {
+        for byte in [0x00, 0x06, 0x0A, 0x1F, 0x7F, 0xFF] {
+            let mut world = opened();
+            assert_eq!(world.send(2, &write(1, b"H|\\^&|x", ETB)), 2);
+            world.unfinished[2 * 4_000 + 6] = byte;
+            // 43 comes behind it.
+            world.model.ledger.used[7] = 1;
+            let answer = world.answer(2, &write(2, rest, ETX));
+            assert_eq!(answer, Answer::plain(30));
+            assert_eq!(world.send(2, &write(2, rest, ETX)), 26);
+        }
+    }
+}
+
+#[test]
 fn answer_31_and_the_guaranteed_share() {
     let mut world = World::fresh(0);
     for _ in 0..4 {
@@ -214,6 +234,10 @@ fn answer_31_and_the_guaranteed_share() {
     assert_eq!(store(&mut world, 5, 2_412), 4);
     assert_eq!(world.model.ledger.used[5], 18_432);
     assert_eq!(store(&mut world, 5, 12), 31);
+    // A record that is wrong comes before the room.
+    assert_eq!(world.send(5, &[ENQ]), 1);
+    assert_eq!(world.send(5, &write(1, L, ETX)), 50);
+    assert_eq!(world.send(5, &[EOT]), 5);
     // Every other line still has all of its share, and no more.
     for line in [0, 1, 2, 3, 4, 6, 7] {
         assert_eq!(store(&mut world, line, 2_045), 31, "{}", line);
@@ -297,7 +321,7 @@ fn answer_43_is_given_where_room_is_reached_and_by_takings() {
     assert_eq!(world.send(2, &write(1, H, ETX)), 3);
     assert_eq!(world.send(2, &write(2, b"", ETX)), 2);
     let mut second = world.clone();
-    assert_eq!(second.send(2, &write(3, b"L|2\r", ETX)), 30);
+    assert_eq!(second.send(2, &write(3, b"L|2\r", ETX)), 53);
     // A right message is not stored and changes nothing: the line stays inside, one byte short.
     let frame = write(3, L, ETX);
     assert_eq!(world.send(2, &frame[..frame.len() - 1]), 0);

@@ -11,7 +11,7 @@ use crate::world::{Op, World, BLANK};
 fn after_event(before: &World, line: u8, kind: Kind, number: u8) -> World {
     let mut world = before.clone();
     // Refusals of the call, and a second ENQ: nothing.
-    if number == 20 || number >= 40 {
+    if matches!(number, 20 | 40..=45) {
         return world;
     }
     let n = usize::from(line);
@@ -58,7 +58,7 @@ fn after_event(before: &World, line: u8, kind: Kind, number: u8) -> World {
     record.collected = 0;
     record.seconds = 0;
     record.state = State::Waiting;
-    if !matches!(number, 2 | 4 | 30 | 31) {
+    if !matches!(number, 2 | 4 | 30 | 31 | 50..=53) {
         return world;
     }
     // Its text, where the frame was in turn: of the collected bytes the first is the number, and the
@@ -146,11 +146,15 @@ fn each_answer_leaves_what_the_rules_say() {
             }
             _ => continue,
         };
-        let number = answer.map_or(0, |answer| answer.number);
+        let answer = answer.expect("an event or a taking");
+        let number = answer.number;
         seen[usize::from(number)] += 1;
         assert!(world == expected, "{:?} with answer {}", op, number);
+        // A record's place, counted from 1, comes with its fault alone.
+        let has_place = matches!(number, 50..=53);
+        assert_eq!(answer.place > 0, has_place, "{:?}: {:?}", op, answer);
     }
-    for number in (0..=8).chain(20..=31).chain(40..=45) {
+    for number in (0..=8).chain(20..=31).chain(40..=45).chain(50..=53) {
         assert!(seen[number] > 0, "answer {} did not occur", number);
     }
 }

@@ -22,7 +22,7 @@ pub mod texts;
 pub mod traffic;
 pub mod world;
 
-pub use answers::{reply, Answer};
+pub use answers::{reply, Answer, Refusal};
 pub use cutting::cut;
 pub use escapes::{escape, unescape};
 pub use journal::Ledger;

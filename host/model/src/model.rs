@@ -5,7 +5,7 @@ use crate::answers::Answer;
 use crate::frames::{after, take_apart, Frame};
 use crate::journal::Ledger;
 use crate::lines::{Kind, Line, State, Step, JOINED_LIMIT};
-use crate::records::{is_message, last_record_begins_with};
+use crate::records::{last_record_begins_with, read};
 use crate::texts::CR;
 use crate::{FRAMES, FRAME_PART, JOURNAL, LINES, UNFINISHED, UNFINISHED_PART};
 
@@ -46,20 +46,19 @@ impl Model {
         if !self.lines[line].is_within_limits() {
             return Answer::plain(42);
         }
-        let number = match (self.lines[line].step(kind), kind) {
-            (Step::Done(number), _) => number,
+        match (self.lines[line].step(kind), kind) {
+            (Step::Done(number), _) => Answer::plain(number),
             // What is left, a byte inside a frame: it stands behind the others.
             (Step::Collect, Kind::Byte(byte)) => {
                 frames[line * FRAME_PART + self.lines[line].collected] = byte;
                 self.lines[line].collected += 1;
-                0
+                Answer::plain(0)
             }
             (Step::Judge, Kind::Byte(byte)) => self.judge(line, byte, journal, unfinished, frames),
             (Step::Collect, Kind::Seconds(_)) | (Step::Judge, Kind::Seconds(_)) => {
                 unreachable!("only bytes are collected")
             }
-        };
-        Answer::plain(number)
+        }
     }
 
     /// The frame that ends with this byte: its answer, and what it leaves. [L7, L8, L10]
@@ -70,7 +69,7 @@ impl Model {
         journal: &mut [u8],
         unfinished: &mut [u8],
         frames: &mut [u8],
-    ) -> u8 {
+    ) -> Answer {
         let record = self.lines[line];
         let part = &mut frames[line * FRAME_PART..(line + 1) * FRAME_PART];
         let area = &mut unfinished[line * UNFINISHED_PART..(line + 1) * UNFINISHED_PART];
@@ -79,14 +78,15 @@ impl Model {
 
         // The order of judging: by the bytes alone, then by what the line has had.
         let frame = take_apart(&bytes);
-        let number = match &frame {
-            Err(number) => *number,
+        let answer = match &frame {
+            Err(number) => Answer::plain(*number),
             Ok(frame) => self.weigh(line, frame, &area[..record.joined], journal),
         };
+        let number = answer.number;
 
         // What is left after 43: all as it was, the line inside, one byte short.
         if number == 43 {
-            return 43;
+            return answer;
         }
         // What is left after any other: the frame's last byte, and a line that waits for the next one.
         part[record.collected] = byte;
@@ -96,8 +96,8 @@ impl Model {
         left.state = State::Waiting;
 
         let frame = match frame {
-            Ok(frame) if matches!(number, 2 | 4 | 30 | 31) => frame,
-            _ => return number,
+            Ok(frame) if matches!(number, 2 | 4 | 30 | 31 | 50..=53) => frame,
+            _ => return answer,
         };
         // What is left of the text: it is written even where the message is refused, and counted only
         // where the message goes on.
@@ -116,54 +116,63 @@ impl Model {
         if number == 4 {
             self.ledger.store(journal, line, &area[..joined]);
         }
-        number
+        answer
     }
 
     /// The answer of a frame that passed 21 to 25, with `before` as the line's joined text. [O4]
-    fn weigh(&self, line: usize, frame: &Frame, before: &[u8], journal: &[u8]) -> u8 {
+    fn weigh(&self, line: usize, frame: &Frame, before: &[u8], journal: &[u8]) -> Answer {
         let record = &self.lines[line];
         // 26: a message of this transfer was refused.
         if record.refusing {
-            return 26;
+            return Answer::plain(26);
         }
         // 3, the repeat: it is known by its number, whatever its text.
         if record.last == Some(frame.number) {
-            return 3;
+            return Answer::plain(3);
         }
         // 27: out of turn.
         if frame.number != record.next {
-            return 27;
+            return Answer::plain(27);
         }
         // 28: more text than a message can have.
         if before.len() + frame.text.len() > JOINED_LIMIT {
-            return 28;
+            return Answer::plain(28);
         }
         // The end of a message: it is never at ETB.
         if !frame.is_etx {
-            return 2;
+            return Answer::plain(2);
         }
         let joined = [before, frame.text].concat();
         // 29: at ETX a record must end.
         if joined.last() != Some(&CR) {
-            return 29;
+            return Answer::plain(29);
         }
         // The end of a message: by the first byte of its last record.
         if last_record_begins_with(&joined) != Some(b'L') {
-            return 2;
+            return Answer::plain(2);
         }
-        // 30: decided by the text alone, before the journal is looked at.
-        if !is_message(&joined) {
-            return 30;
+        self.decide(line, &joined, journal)
+    }
+
+    /// The answer to a complete text: what is wrong with it comes before any look at the journal.
+    /// [O4, A30]
+    fn decide(&self, line: usize, text: &[u8], journal: &[u8]) -> Answer {
+        match read(text) {
+            // 30: a byte that is not allowed. No frame brings one, but lent memory may hold it.
+            Err(refusal) if refusal.number == 46 => return Answer::plain(30),
+            // 50 to 53: a record that is wrong.
+            Err(refusal) => return Answer::faulty(refusal.number, refusal.place),
+            Ok(_) => {}
         }
         // 43: only a message that asks for room finds out.
         if self.ledger.is_broken(journal) {
-            return 43;
+            return Answer::plain(43);
         }
         // 31: decided by the shares.
-        if !self.ledger.has_room(line, joined.len()) {
-            return 31;
+        if !self.ledger.has_room(line, text.len()) {
+            return Answer::plain(31);
         }
-        4
+        Answer::plain(4)
     }
 
     /// A taking, with any buffer. Of the memories only the journal is lent to it. [O5, L12]

@@ -1,5 +1,6 @@
 //! Messages and their records (docs/RULES.md, R).
 
+use crate::answers::Refusal;
 use crate::texts::{is_allowed, CR};
 
 /// One record of a message that was read.
@@ -20,6 +21,9 @@ pub const MESSAGE_LIMIT: usize = 4_000;
 
 /// How a message begins: the letter of its header, and the delimiters that it names. [R3]
 pub const HEAD: &[u8] = b"H|\\^&";
+
+/// The types that there are. [R5]
+const TYPES: &[u8] = b"HPORQLCM";
 
 /// What may follow: `before` is the last record that is neither C nor M, so that any number of these
 /// may stand between; they themselves are refused behind L alone. [R6, R7]
@@ -119,68 +123,90 @@ impl Owners {
     }
 }
 
-/// The records of a message, in order; a text that is no message gives 46. [R13, R14]
-pub fn read(text: &[u8]) -> Result<Vec<Record>, u8> {
-    // A message: its length.
-    if text.is_empty() || text.len() > MESSAGE_LIMIT {
-        return Err(46);
-    }
-    // A message: its bytes.
-    if !text.iter().all(|&byte| is_allowed(byte)) {
-        return Err(46);
-    }
-    // A message: CR ends each record, so the last byte is one.
-    let end = text.len() - 1;
-    if text[end] != CR {
-        return Err(46);
-    }
-    // A message: its header. Nothing is said of what follows the delimiters there.
-    if !text.starts_with(HEAD) {
-        return Err(46);
-    }
+/// The records of a message, in order; or the first thing that is wrong with the text, and with which
+/// of its records. [R13, R14, R22]
+pub fn read(text: &[u8]) -> Result<Vec<Record>, Refusal> {
+    let records = split(text)?;
     let mut found: Vec<Record> = Vec::new();
     let mut counts = Counts::default();
     let mut owners = Owners::default();
     // The last record that is neither C nor M.
     let mut before = b'H';
     let mut offset = 0;
-    for record in text[..end].split(|&byte| byte == CR) {
-        let kind = if found.is_empty() {
-            b'H'
+    // Front to back: what is wrong with a later record is not seen any more.
+    for (index, record) in records.iter().enumerate() {
+        let place = index + 1;
+        let is_last = place == records.len();
+        let kind = if place == 1 {
+            first(record, is_last)
         } else {
-            following(record, before, &mut counts)?
+            following(record, is_last, before, &mut counts)
         };
-        let owner = owners.advance(kind, found.len() + 1);
+        let kind = kind.map_err(|number| Refusal::faulty(number, place))?;
         found.push(Record {
             kind,
             offset,
             length: record.len(),
-            owner,
+            owner: owners.advance(kind, place),
         });
         if !is_remark(kind) {
             before = kind;
         }
         offset += record.len() + 1;
     }
-    // A message: its end.
-    if found[found.len() - 1].kind != b'L' {
-        return Err(46);
-    }
     Ok(found)
 }
 
-/// The type of a record behind the first, if all is right with it.
-fn following(record: &[u8], before: u8, counts: &mut Counts) -> Result<u8, u8> {
-    // A record: its type, one letter and nothing more.
-    let letter = field(record, 1);
-    if letter.len() != 1 || !may_follow(before, letter[0]) {
-        return Err(46);
+/// The records of a text without their CRs, one at least; or what is wrong with the text before any
+/// record is looked at. [R1, R22, A46, A50, A54]
+fn split(text: &[u8]) -> Result<Vec<&[u8]>, Refusal> {
+    // 46: more bytes than a message can have, or one that none can have.
+    if text.len() > MESSAGE_LIMIT || !text.iter().all(|&byte| is_allowed(byte)) {
+        return Err(Refusal::plain(46));
     }
-    // A record: its number, the one that is due.
-    if sequence(field(record, 2)) != Some(counts.advance(letter[0])) {
-        return Err(46);
+    // 50: an empty text has no first record.
+    if text.is_empty() {
+        return Err(Refusal::faulty(50, 1));
     }
-    Ok(letter[0])
+    let mut records: Vec<&[u8]> = text.split(|&byte| byte == CR).collect();
+    // 54: CR ends each record. What stands behind the last CR is counted as one.
+    if text[text.len() - 1] != CR {
+        return Err(Refusal::faulty(54, records.len()));
+    }
+    // Behind the CR at the end there is nothing.
+    records.pop();
+    Ok(records)
+}
+
+/// The type of the first record, or what is wrong with it. [A50, A52]
+fn first(record: &[u8], is_last: bool) -> Result<u8, u8> {
+    // 50: a header. Nothing is said of what follows the delimiters there.
+    if !record.starts_with(HEAD) {
+        return Err(50);
+    }
+    // 52: the last record is an L.
+    if is_last {
+        return Err(52);
+    }
+    Ok(b'H')
+}
+
+/// The type of a record behind the first, or what is wrong with it first. [A51, A52, A53]
+fn following(record: &[u8], is_last: bool, before: u8, counts: &mut Counts) -> Result<u8, u8> {
+    // 51: its type, one letter and nothing more.
+    let kind = match field(record, 1) {
+        [letter] if TYPES.contains(letter) => *letter,
+        _ => return Err(51),
+    };
+    // 52: what it stands behind and, where it is the last record, that it is an L.
+    if !may_follow(before, kind) || is_last && kind != b'L' {
+        return Err(52);
+    }
+    // 53: its number, the one that is due.
+    if sequence(field(record, 2)) != Some(counts.advance(kind)) {
+        return Err(53);
+    }
+    Ok(kind)
 }
 
 /// A sequence number: one to six digits, the first of them not 0. [R8]
@@ -198,12 +224,12 @@ fn sequence(digits: &[u8]) -> Option<u32> {
     Some(value)
 }
 
-/// Reading into as many slots as are lent: 46, then 47 where the records do not fit. The slots
-/// behind the records, and with a refusal all of them, keep their value.
-pub fn read_into(text: &[u8], slots: &mut [Record]) -> Result<usize, u8> {
+/// Reading into as many slots as are lent: 46 or a fault, then 47 where the records do not fit. The
+/// slots behind the records, and with a refusal all of them, keep their value. [O6]
+pub fn read_into(text: &[u8], slots: &mut [Record]) -> Result<usize, Refusal> {
     let found = read(text)?;
     if found.len() > slots.len() {
-        return Err(47);
+        return Err(Refusal::plain(47));
     }
     slots[..found.len()].copy_from_slice(&found);
     Ok(found.len())
@@ -373,6 +399,111 @@ mod tests {
         }
     }
 
+    /// What is wrong with a text: the number, and the place.
+    fn wrong(text: &[u8]) -> (u8, usize) {
+        let refusal = read(text).expect_err("no message");
+        (refusal.number, refusal.place)
+    }
+
+    #[test]
+    fn what_is_wrong_and_where() {
+        let cases = [
+            // The first record.
+            ("/", 50, 1),
+            ("L|1|N/", 50, 1),
+            ("/H|\\^&/L|1/", 50, 1),
+            ("H|^\\&/L|1/", 50, 1),
+            ("h|\\^&/X/", 50, 1),
+            ("H|\\^&/", 52, 1),
+            // Types.
+            ("H|\\^&//L|1/", 51, 2),
+            ("H|\\^&/p|1/L|1/", 51, 2),
+            ("H|\\^&/P|1/|1/L|1/", 51, 3),
+            ("H|\\^&/P|1/PX|2/L|1/", 51, 3),
+            ("H|\\^&/LX/", 51, 2),
+            ("H|\\^&/L|1//", 51, 3),
+            ("H|\\^&/L|1/S|1/", 51, 3),
+            // What follows what, and the end.
+            ("H|\\^&/R|1/L|1/", 52, 2),
+            ("H|\\^&/P|1/H|\\^&/L|1/", 52, 3),
+            ("H|\\^&/Q|1/C|1/O|1/L|1/", 52, 4),
+            ("H|\\^&/L|1/L|1/", 52, 3),
+            ("H|\\^&/L|1/C|1/L|1/", 52, 3),
+            ("H|\\^&/P|1/", 52, 2),
+            ("H|\\^&/P|1/C|1/", 52, 3),
+            // Numbers.
+            ("H|\\^&/P|2/L|1/", 53, 2),
+            ("H|\\^&/P|1/O|1/P|3/L|1/", 53, 4),
+            ("H|\\^&/C|1/M|2/L|1/", 53, 3),
+            ("H|\\^&/L|2/L|1/", 53, 2),
+            ("H|\\^&/L/", 53, 2),
+            // The end, before any record: what stands behind the last CR is counted as one.
+            ("H", 54, 1),
+            ("H|\\^&/L|1", 54, 2),
+            ("/x/y", 54, 3),
+        ];
+        for (written, number, place) in cases {
+            assert_eq!(wrong(&text(written)), (number, place), "{}", written);
+        }
+        assert_eq!(wrong(b""), (50, 1));
+    }
+
+    #[test]
+    fn the_first_of_two_faults_counts() {
+        let right = ["H|\\^&", "P|1", "O|1", "R|1", "C|1", "R|2", "L|1"];
+        // Each of these is wrong in its own way wherever it stands between the first and the last.
+        let faults = [("X|1", 51), ("H|1", 52), ("C|9", 53)];
+        for earlier in 1..right.len() {
+            for later in earlier + 1..right.len() {
+                for (record, number) in faults {
+                    for (other, _) in faults {
+                        let mut records = right;
+                        records[earlier] = record;
+                        records[later] = other;
+                        let whole = text(&format!("{}/", records.join("/")));
+                        assert_eq!(wrong(&whole), (number, earlier + 1), "{:?}", records);
+                    }
+                }
+            }
+        }
+    }
+
+    #[test]
+    fn of_two_faults_in_one_record_type_goes_before_follower_before_number() {
+        let cases = [
+            ("H|\\^&/X|9/L|1/", 51, 2),
+            ("H|\\^&/R|9/L|1/", 52, 2),
+            ("H|\\^&/L|1/X|9/L|1/", 51, 3),
+            ("H|\\^&/L|1/P|9/L|1/", 52, 3),
+            // The last record that is no L, by itself and with each of the other faults.
+            ("H|\\^&/X|1/", 51, 2),
+            ("H|\\^&/R|1/", 52, 2),
+            ("H|\\^&/P|5/", 52, 2),
+            ("X/", 50, 1),
+        ];
+        for (written, number, place) in cases {
+            assert_eq!(wrong(&text(written)), (number, place), "{}", written);
+        }
+    }
+
+    #[test]
+    fn length_and_bytes_go_before_every_record() {
+        let faulty = text("H|\\^&/X|1/L|2");
+        for place in 0..=faulty.len() {
+            let mut whole = faulty.clone();
+            whole.insert(place, 0x0A);
+            assert_eq!(wrong(&whole), (46, 0), "LF at {}", place);
+        }
+        assert_eq!(wrong(&[CR; 4_000]), (50, 1));
+        assert_eq!(wrong(&[CR; 4_001]), (46, 0));
+        // The most records that a place can count.
+        let mut whole = vec![CR; 4_000];
+        whole[3_999] = b'x';
+        assert_eq!(wrong(&whole), (54, 4_000));
+        assert_eq!(wrong(&[b'x'; 4_000]), (54, 1));
+        assert_eq!(wrong(&[b'x'; 4_001]), (46, 0));
+    }
+
     #[test]
     fn owners_as_the_rules_have_them() {
         assert_eq!(owners("H|\\^&/L|1/"), [0, 0]);
@@ -457,14 +588,19 @@ mod tests {
             owner: 77,
         };
         let mut slots = vec![none; 998];
-        assert_eq!(read_into(&whole, &mut slots), Err(47));
+        assert_eq!(read_into(&whole, &mut slots), Err(Refusal::plain(47)));
         assert!(slots.iter().all(|slot| *slot == none));
         let mut slots = vec![none; 1_000];
         assert_eq!(read_into(&whole, &mut slots), Ok(999));
         assert_eq!(slots[..999], found[..]);
         assert_eq!(slots[999], none);
-        // 46 comes before 47.
-        assert_eq!(read_into(&whole[1..], &mut []), Err(46));
+        // What is wrong with the text comes before 47.
+        assert_eq!(read_into(&whole[1..], &mut []), Err(Refusal::faulty(50, 1)));
+        // A fault in the last of them all.
+        let mut whole = whole;
+        assert!(whole.ends_with(b"\rL|1\r"));
+        whole[3_996] = b'2';
+        assert_eq!(wrong(&whole), (53, 999));
     }
 
     #[test]

@@ -31,8 +31,11 @@ pub enum Mix {
     /// Frames with one fault each, and the right frame after it: 21 to 25, 27, and that nothing is
     /// advanced.
     Damaged,
-    /// Messages rich in records, half of them with one fault: 4, 30, then 26.
+    /// Messages rich in records, half of them with a fault or two: 4, 50 to 53, then 26.
     Records,
+    /// Unfinished text set by hand with a byte that is not allowed, then the rest of a message, right
+    /// or wrong: 30, before 50 to 53.
+    NotAllowed,
     /// Joined texts of 3,985 to 4,001 bytes, frames of 238 to 241 text bytes, empty frames, ETX
     /// with and without CR: 28, 29 and both sides of each limit.
     Long,
@@ -60,13 +63,14 @@ pub enum Mix {
 }
 
 impl Mix {
-    /// Scripts for one line, and how many of each come in 30. The long ones are rare, or their
+    /// Scripts for one line, and how many of each come in 31. The long ones are rare, or their
     /// bytes would leave little room for the others.
-    const LINE: [(Mix, usize); 8] = [
+    const LINE: [(Mix, usize); 9] = [
         (Mix::Noise, 2),
         (Mix::Polite, 4),
         (Mix::Damaged, 4),
         (Mix::Records, 10),
+        (Mix::NotAllowed, 1),
         (Mix::Long, 1),
         (Mix::Clock, 2),
         (Mix::Flood, 1),
@@ -170,7 +174,7 @@ impl Traffic {
         self.first.extend(script.ops);
     }
 
-    /// A text for cutting, reading and telling messages: right, with a fault, or too long.
+    /// A text for cutting, reading and telling messages: right, with a fault or two, or too long.
     pub fn text(&mut self) -> Vec<u8> {
         let random = &mut self.random;
         let longest = random.pick(&[11, 30, 100, 300, 1_000, 4_000]);
@@ -271,7 +275,7 @@ mod tests {
         let mut world = World::fresh(0x6B);
         let counts = counts(&mut Traffic::new(1), &mut world, 200_000);
         for (number, count) in counts.iter().enumerate() {
-            let known = matches!(number, 0..=8 | 20..=31 | 40..=45);
+            let known = matches!(number, 0..=8 | 20..=31 | 40..=45 | 50..=53);
             assert_eq!(*count > 0, known, "answer {}: {} times", number, count);
         }
     }
@@ -295,20 +299,21 @@ mod tests {
 
     #[test]
     fn each_mix_reaches_what_it_aims_at() {
-        let aims: [(Mix, &[usize]); 14] = [
+        let aims: [(Mix, &[usize]); 15] = [
             (Mix::Noise, &[0, 1, 5, 20, 22]),
             (Mix::Polite, &[0, 1, 2, 3, 4, 5, 20]),
             (Mix::Damaged, &[21, 22, 23, 24, 25, 27, 2]),
-            (Mix::Records, &[4, 30, 26]),
-            (Mix::Long, &[2, 4, 21, 28, 29, 30]),
+            (Mix::Records, &[4, 50, 51, 52, 53, 26]),
+            (Mix::NotAllowed, &[4, 30, 51, 52, 53]),
+            (Mix::Long, &[2, 4, 21, 28, 29, 30, 50]),
             (Mix::Clock, &[0, 7]),
             (Mix::Flood, &[4, 31, 26]),
             (Mix::Takings, &[44]),
-            (Mix::BrokenJournal, &[43, 8]),
+            (Mix::BrokenJournal, &[43, 8, 52]),
             (Mix::BeyondLimits, &[42, 3, 6]),
             (Mix::WrongSizes, &[40, 41, 44]),
             (Mix::WrongLines, &[40]),
-            (Mix::FullJournal, &[4, 31, 8]),
+            (Mix::FullJournal, &[4, 31, 8, 52]),
             (Mix::Renewal, &[]),
         ];
         for (mix, aimed) in aims {
@@ -347,7 +352,9 @@ mod tests {
             trace += &written;
         }
         expected += "60000 events\n";
-        assert!(expected.contains(" 4 06\n") && expected.contains(" 30 15\n"));
+        for row_end in [" 4 06\n", " 50 15\n", " 51 15\n", " 52 15\n", " 53 15\n"] {
+            assert!(expected.contains(row_end), "{}", row_end);
+        }
         assert!(crate::listing(trace.as_bytes()) == expected);
     }
 

@@ -217,11 +217,16 @@ impl World {
     }
 
     /// The answer to the last of these bytes, all others having been answered 0.
+    pub fn answer(&mut self, line: u8, bytes: &[u8]) -> Answer {
+        let (last, before) = bytes.split_last().expect("some bytes");
+        let answers = self.bytes(line, before);
+        assert!(answers.iter().all(|&number| number == 0), "{:?}", answers);
+        self.event(line, Kind::Byte(*last))
+    }
+
+    /// Its number.
     pub fn send(&mut self, line: u8, bytes: &[u8]) -> u8 {
-        let answers = self.bytes(line, bytes);
-        let (last, before) = answers.split_last().expect("some bytes");
-        assert!(before.iter().all(|&number| number == 0), "{:?}", answers);
-        *last
+        self.answer(line, bytes).number
     }
 
     pub fn seconds(&mut self, line: u8, seconds: u8) -> u8 {

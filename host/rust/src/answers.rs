@@ -1,4 +1,4 @@
-//! Answers by name, and refusals of the text functions.
+//! Answers by name, faults of records, and refusals of the text functions.
 
 use crate::boundary::Answered;
 use std::error::Error;
@@ -6,8 +6,8 @@ use std::fmt;
 
 /// What an event or a taking was answered: each answer with its number, which is that of its rule in `docs/RULES.md`.
 ///
-/// [`Answer::reply`] is the byte to send back to the analyzer. After any answer from
-/// [`Answer::NoLine`] on nothing has changed.
+/// [`Answer::reply`] is the byte to send back to the analyzer. With [`Answer::Busy`], and with
+/// [`Answer::NoLine`] to [`Answer::BufferShort`], nothing has changed.
 #[derive(Clone, Copy, PartialEq, Eq, Debug)]
 pub enum Answer {
     /// 0: the byte was ignored or collected, or the seconds were counted.
@@ -45,7 +45,7 @@ pub enum Answer {
     BadText,
     /// 25: the frame's number is not 0 to 7.
     BadNumber,
-    /// 26: a message of this transfer was refused (30, 31), and so is all else of it.
+    /// 26: a message of this transfer was refused (30, 31, 50 to 53), and so is all else of it.
     Refusing,
     /// 27: the frame's number is neither the last nor the next.
     OutOfTurn,
@@ -53,7 +53,8 @@ pub enum Answer {
     TooLong,
     /// 29: ETX, and the text is empty or does not end with CR.
     NoCr,
-    /// 30: the text is complete and is not a message.
+    /// 30: the text is complete and has a byte that is not allowed; a [`Gateway`](crate::Gateway) never
+    /// gets it.
     NoMessage,
     /// 31: the message has no room in the journal.
     NoRoom,
@@ -69,6 +70,13 @@ pub enum Answer {
     NothingWaiting,
     /// 45: the buffer is shorter than the message.
     BufferShort,
+    /// 50 to 53: the text is complete and is not a message.
+    Faulty {
+        /// What is wrong with it first; never [`Fault::NoFinalCr`].
+        fault: Fault,
+        /// Which record is wrong, counted from 1.
+        place: u16,
+    },
 }
 
 impl Answer {
@@ -102,14 +110,16 @@ impl Answer {
             Answer::Broken => 43,
             Answer::NothingWaiting => 44,
             Answer::BufferShort => 45,
+            Answer::Faulty { fault, .. } => fault.number(),
         }
     }
 
-    /// The byte to send back to the analyzer: ACK (06) with 1 to 4, NAK (15) with 20 to 31, else none.
+    /// The byte to send back to the analyzer: ACK (06) with 1 to 4, NAK (15) with 20 to 31 and 50 to 53,
+    /// else none.
     pub fn reply(self) -> Option<u8> {
         match self.number() {
             1..=4 => Some(0x06),
-            20..=31 => Some(0x15),
+            20..=31 | 50..=53 => Some(0x15),
             _ => None,
         }
     }
@@ -147,7 +157,13 @@ impl Answer {
             43 => Answer::Broken,
             44 => Answer::NothingWaiting,
             45 => Answer::BufferShort,
-            number => unreachable!("the library has no answer {}", number),
+            number => match Fault::of(number) {
+                Some(fault) => Answer::Faulty {
+                    fault,
+                    place: answered.place,
+                },
+                None => unreachable!("the library has no answer {}", number),
+            },
         };
         debug_assert_eq!(answer.number(), answered.number);
         debug_assert_eq!(answer.reply().unwrap_or(0), answered.reply);
@@ -155,13 +171,75 @@ impl Answer {
     }
 }
 
+/// What is wrong with a record. Records are looked at front to back, each for its type, then for what
+/// it follows, then for its sequence number, and the first fault counts.
+#[derive(Clone, Copy, PartialEq, Eq, Debug)]
+pub enum Fault {
+    /// 50: the first record does not begin with H and the four delimiters, or the text is empty.
+    NoHeader,
+    /// 51: the record's type is none of the eight.
+    UnknownType,
+    /// 52: a record of this type may not stand here, or it is the last and no L.
+    Misplaced,
+    /// 53: the record's sequence number is not the one that is due.
+    Misnumbered,
+    /// 54: the text's last byte is no CR. It is looked at before the records, and its place is that of
+    /// the last one.
+    NoFinalCr,
+}
+
+impl Fault {
+    /// The fault's number.
+    pub fn number(self) -> u8 {
+        match self {
+            Fault::NoHeader => 50,
+            Fault::UnknownType => 51,
+            Fault::Misplaced => 52,
+            Fault::Misnumbered => 53,
+            Fault::NoFinalCr => 54,
+        }
+    }
+
+    /// The fault that the library named by this number, if it is one.
+    pub(crate) fn of(number: u8) -> Option<Fault> {
+        match number {
+            50 => Some(Fault::NoHeader),
+            51 => Some(Fault::UnknownType),
+            52 => Some(Fault::Misplaced),
+            53 => Some(Fault::Misnumbered),
+            54 => Some(Fault::NoFinalCr),
+            _ => None,
+        }
+    }
+}
+
+impl fmt::Display for Fault {
+    fn fmt(&self, f: &mut fmt::Formatter) -> fmt::Result {
+        f.write_str(match self {
+            Fault::NoHeader => "no header",
+            Fault::UnknownType => "an unknown type",
+            Fault::Misplaced => "a type that may not stand there",
+            Fault::Misnumbered => "a wrong sequence number",
+            Fault::NoFinalCr => "no CR at its end",
+        })
+    }
+}
+
 /// Why a text was not cut, read, escaped or unescaped. Nothing was written.
 #[derive(Clone, Copy, PartialEq, Eq, Debug)]
 pub enum Refusal {
-    /// 46: the text is no message, or has a wrong escape.
+    /// 46: the text to cut or read has over 4,000 bytes or one that is not allowed, or the one to
+    /// unescape has a wrong escape.
     Malformed,
     /// 47: the output is longer than its memory.
     NotFitting,
+    /// 50 to 54: the text to cut or read is not a message.
+    Faulty {
+        /// What is wrong with it first.
+        fault: Fault,
+        /// Which record is wrong, counted from 1.
+        place: u16,
+    },
 }
 
 impl Refusal {
@@ -170,16 +248,18 @@ impl Refusal {
         match self {
             Refusal::Malformed => 46,
             Refusal::NotFitting => 47,
+            Refusal::Faulty { fault, .. } => fault.number(),
         }
     }
 }
 
 impl fmt::Display for Refusal {
     fn fmt(&self, f: &mut fmt::Formatter) -> fmt::Result {
-        f.write_str(match self {
-            Refusal::Malformed => "the text is malformed",
-            Refusal::NotFitting => "the output does not fit",
-        })
+        match self {
+            Refusal::Malformed => f.write_str("the text is malformed"),
+            Refusal::NotFitting => f.write_str("the output does not fit"),
+            Refusal::Faulty { fault, place } => write!(f, "record {}: {}", place, fault),
+        }
     }
 }
 
@@ -191,17 +271,17 @@ mod tests {
 
     #[test]
     fn each_answer_has_the_librarys_number_and_reply() {
-        for number in (0..=8).chain(20..=31).chain(40..=45) {
+        for number in (0..=8).chain(20..=31).chain(40..=45).chain(50..=53) {
             let reply = match number {
                 1..=4 => 0x06,
-                20..=31 => 0x15,
+                20..=31 | 50..=53 => 0x15,
                 _ => 0,
             };
             let answer = Answer::of(Answered {
                 number,
                 reply,
                 serial: 7,
-                place: 0,
+                place: 5,
                 digits: 0,
                 length: 9,
             });
@@ -212,7 +292,26 @@ mod tests {
                 serial: 7,
             };
             assert_eq!(answer == taken, number == 8);
+            let has_place = matches!(answer, Answer::Faulty { place: 5, .. });
+            assert_eq!(has_place, number >= 50);
         }
+    }
+
+    #[test]
+    fn faults_by_number() {
+        let faults = [
+            Fault::NoHeader,
+            Fault::UnknownType,
+            Fault::Misplaced,
+            Fault::Misnumbered,
+            Fault::NoFinalCr,
+        ];
+        for (fault, number) in faults.into_iter().zip(50..) {
+            assert_eq!(fault.number(), number);
+            assert_eq!(Fault::of(number), Some(fault));
+            assert_eq!(Refusal::Faulty { fault, place: 1 }.number(), number);
+        }
+        assert_eq!((Fault::of(49), Fault::of(55)), (None, None));
     }
 
     #[test]
@@ -220,5 +319,10 @@ mod tests {
         assert_eq!(Refusal::Malformed.number(), 46);
         assert_eq!(Refusal::NotFitting.number(), 47);
         assert_eq!(Refusal::NotFitting.to_string(), "the output does not fit");
+        let faulty = Refusal::Faulty {
+            fault: Fault::Misnumbered,
+            place: 9,
+        };
+        assert_eq!(faulty.to_string(), "record 9: a wrong sequence number");
     }
 }

@@ -64,6 +64,26 @@ impl Gateway {
     }
 
     /// A byte has come in on a line.
+    ///
+    /// A text that is complete and is no message is refused, and the answer says what is wrong first,
+    /// and with which of its records:
+    ///
+    /// ```
+    /// use ngachodui::{Answer, Fault, Gateway};
+    ///
+    /// let mut gateway = Gateway::fresh();
+    /// gateway.byte(3, 0x05);
+    /// let mut answer = Answer::Nothing;
+    /// for byte in b"\x021H|\\^&\rP|1\rO|2\rL|1|N\r\x03C9\r\n" {
+    ///     answer = gateway.byte(3, *byte);
+    /// }
+    /// assert_eq!(answer, Answer::Faulty { fault: Fault::Misnumbered, place: 3 });
+    /// assert_eq!(answer.reply(), Some(0x15)); // NAK
+    /// if let Answer::Faulty { fault, place } = answer {
+    ///     println!("answer {}, record {}: {}", answer.number(), place, fault);
+    ///     // answer 53, record 3: a wrong sequence number
+    /// }
+    /// ```
     pub fn byte(&mut self, line: u8, byte: u8) -> Answer {
         let memory = &mut *self.memory;
         Answer::of(boundary::byte(
@@ -122,7 +142,7 @@ impl Default for Gateway {
 #[cfg(test)]
 mod tests {
     use super::*;
-    use crate::cut;
+    use crate::{cut, Fault};
 
     const TEXT: &[u8] = b"H|\\^&\rP|1\rO|1\rR|1|^^^GLU|5.2|mmol/L\rL|1|N\r";
 
@@ -160,6 +180,42 @@ mod tests {
         assert!(buffer[TEXT.len()..].iter().all(|&byte| byte == 0xEE));
         assert_eq!(gateway.take(7, &mut buffer), Answer::NothingWaiting);
         assert_eq!(gateway.used(7), 0);
+    }
+
+    /// A text in one frame of number 1 that ends with ETX.
+    fn frame(text: &[u8]) -> Vec<u8> {
+        let counted = [b"1", text, b"\x03"].concat();
+        let sum = counted
+            .iter()
+            .fold(0, |sum: u8, byte| sum.wrapping_add(*byte));
+        let check = format!("{:02X}\r\n", sum);
+        [b"\x02", &counted[..], check.as_bytes()].concat()
+    }
+
+    #[test]
+    fn the_record_that_is_wrong_is_told() {
+        let cases: [(&[u8], Fault, u16); 5] = [
+            (b"L|1|N\r", Fault::NoHeader, 1),
+            (b"H|\\^&\rP|1\rp|2\rL|1\r", Fault::UnknownType, 3),
+            (b"H|\\^&\rP|1\rO|1\rL|1\rL|1\r", Fault::Misplaced, 5),
+            (b"H|\\^&\rP|1\rO|1\rR|2\rL|1\r", Fault::Misnumbered, 4),
+            // Two are wrong: the first counts.
+            (b"H|\\^&\rP|2\rX|1\rL|1\r", Fault::Misnumbered, 2),
+        ];
+        let mut gateway = Gateway::fresh();
+        for (text, fault, place) in cases {
+            assert_eq!(gateway.byte(2, 0x05), Answer::Opened);
+            let mut told = Vec::new();
+            for byte in frame(text).into_iter().chain(frame(TEXT)) {
+                match gateway.byte(2, byte) {
+                    Answer::Nothing => {}
+                    answer => told.push(answer),
+                }
+            }
+            assert_eq!(told, [Answer::Faulty { fault, place }, Answer::Refusing]);
+            assert_eq!(gateway.byte(2, 0x04), Answer::Ended);
+        }
+        assert_eq!(gateway.used(2), 0);
     }
 
     #[test]

@@ -17,7 +17,7 @@ mod gateway;
 mod layout;
 mod texts;
 
-pub use answers::{Answer, Refusal};
+pub use answers::{Answer, Fault, Refusal};
 pub use gateway::Gateway;
 pub use layout::{CUT_LIMIT, LINES, SHARE, TEXT_LIMIT, VERSION};
 pub use texts::{cut, escape, is_message, read, unescape, Record};

@@ -1,6 +1,6 @@
 //! Messages cut, read, escaped and unescaped: no gateway needed.
 
-use crate::answers::Refusal;
+use crate::answers::{Fault, Refusal};
 use crate::boundary::{self, Made};
 
 /// One record of a message.
@@ -21,7 +21,13 @@ fn outcome(made: Made) -> Result<usize, Refusal> {
         0 => Ok(made.length),
         46 => Err(Refusal::Malformed),
         47 => Err(Refusal::NotFitting),
-        number => unreachable!("no text is answered {}", number),
+        number => match Fault::of(number) {
+            Some(fault) => Err(Refusal::Faulty {
+                fault,
+                place: made.place,
+            }),
+            None => unreachable!("no text is answered {}", number),
+        },
     }
 }
 
@@ -47,7 +53,8 @@ pub fn is_message(text: &[u8]) -> bool {
 ///
 /// # Errors
 ///
-/// [`Refusal::Malformed`]: the text is no message. [`Refusal::NotFitting`]: `out` is too short.
+/// [`Refusal::Malformed`]: the text has over 4,000 bytes or one that is not allowed. [`Refusal::Faulty`]:
+/// it is no message for another reason. [`Refusal::NotFitting`]: `out` is too short.
 pub fn cut(text: &[u8], out: &mut [u8]) -> Result<usize, Refusal> {
     outcome(boundary::cut(text, out))
 }
@@ -65,7 +72,16 @@ pub fn cut(text: &[u8], out: &mut [u8]) -> Result<usize, Refusal> {
 ///
 /// # Errors
 ///
-/// [`Refusal::Malformed`]: the text is no message.
+/// [`Refusal::Malformed`]: the text has over 4,000 bytes or one that is not allowed. [`Refusal::Faulty`]:
+/// it is no message for another reason, which is told with the record that is wrong first.
+///
+/// ```
+/// use ngachodui::{Fault, Refusal};
+///
+/// let refusal = ngachodui::read(b"H|\\^&\rP|1\rR|1\rL|1\r").unwrap_err();
+/// assert_eq!(refusal, Refusal::Faulty { fault: Fault::Misplaced, place: 3 });
+/// assert_eq!(refusal.to_string(), "record 3: a type that may not stand there");
+/// ```
 pub fn read(text: &[u8]) -> Result<Vec<Record>, Refusal> {
     // Each record ends with a CR, so this many slots are enough.
     let slots = text.iter().filter(|&&byte| byte == b'\r').count();
@@ -150,13 +166,27 @@ mod tests {
 
     #[test]
     fn what_is_no_message_is_not_read() {
-        for text in [
-            &b""[..],
-            b"\r",
-            b"\r\r\r",
-            b"L|1\r",
-            &TEXT[..TEXT.len() - 1],
-        ] {
+        let cases: [(&[u8], Fault, u16); 8] = [
+            (b"", Fault::NoHeader, 1),
+            (b"\r\r\r", Fault::NoHeader, 1),
+            (b"L|1\r", Fault::NoHeader, 1),
+            (b"H|\\^&\r\rL|1\r", Fault::UnknownType, 2),
+            (b"H|\\^&\r", Fault::Misplaced, 1),
+            (b"H|\\^&\rP|5\r", Fault::Misplaced, 2),
+            (b"H|\\^&\rP|1\rL|2\r", Fault::Misnumbered, 3),
+            (&TEXT[..TEXT.len() - 1], Fault::NoFinalCr, 6),
+        ];
+        for (text, fault, place) in cases {
+            assert_eq!(read(text), Err(Refusal::Faulty { fault, place }));
+            assert_eq!(cut(text, &mut []), Err(Refusal::Faulty { fault, place }));
+            assert!(!is_message(text));
+        }
+    }
+
+    #[test]
+    fn what_is_no_text_is_not_read() {
+        // A record is wrong too: length and bytes go before it.
+        for text in [&b"H|\\^&\r\nX\r"[..], &[b'\r'; 4_001]] {
             assert_eq!(read(text), Err(Refusal::Malformed));
             assert_eq!(cut(text, &mut []), Err(Refusal::Malformed));
             assert!(!is_message(text));

@@ -1,4 +1,4 @@
-//! Messages cut into frames, sent to a gateway and taken from it again.
+//! Messages cut into frames, sent to a gateway and taken from it again, and read.
 //!
 //!     = TITLE        a fresh gateway; the lent memory keeps what it holds;   # TEXT   nothing
 //!     M L N TEXT     TEXT is cut into a buffer of N bytes; then ENQ, the frames and EOT come on line L
@@ -6,20 +6,21 @@
 //!     C L N TEXT     the same without ENQ and EOT, E L N TEXT without ENQ: the frames' numbers go on
 //!     T L N TEXT     a taking from line L with a buffer of N bytes, compared with TEXT; where there is
 //!                    none, with the last one
+//!     R 0 N TEXT     TEXT, or where there is none the last one, is read into memories of N slots
 //!
-//! In a TEXT <CR> is CR, <hh> the byte hh, <N*X> the byte X N times, <> nothing, and any other byte
-//! is itself.
+//! How a TEXT is spelt: `script::spelt`.
 
 use crate::boundary;
 use crate::frames::{check_digits, next_number, CR, ENQ, EOT, ETB, ETX, LF, STX};
 use crate::layout::{FRAMES_SIZE, JOURNAL_SIZE, NEXT, UNFINISHED_SIZE};
-use crate::library::Gateway;
-use crate::script::{decimal, each_step, hex, unknown, Step};
+use crate::library::{numbered, Gateway};
+use crate::script::{decimal, each_step, spelt, unknown, Step};
 
 /// What a buffer holds before it is lent: no byte of a frame and no byte of a text.
 const FILLER: u8 = 0x7F;
+const WIDE_FILLER: u16 = 0x7F7F;
 
-/// The most that a script may ask for: a buffer's length, or how often a byte comes.
+/// The most that a script may ask for as a buffer's length.
 const MOST: usize = 65_535;
 
 /// A gateway, and the last text.
@@ -59,6 +60,10 @@ impl Run {
         }
         match (step.letter, text) {
             ('T', _) => self.take(step.digit, room),
+            ('R', _) => {
+                step.no_line()?;
+                self.read(room);
+            }
             ('M' | 'O' | 'C' | 'E', None) => return Err("a cutting without a text".to_string()),
             ('M' | 'O' | 'C' | 'E', _) => self.message(step.letter, step.line()?, room),
             _ => return unknown(step.letter),
@@ -73,7 +78,7 @@ impl Run {
         print!("cut {} into {}:", self.text.len(), room);
         match made.number {
             0 => print!(" length {}", made.length),
-            number => print!(" answer {}", number),
+            number => print!(" answer {}", numbered(number, made.place)),
         }
         println!("{}", behind(&out, made.length));
         if made.number != 0 {
@@ -133,6 +138,32 @@ impl Run {
         self.show_ledger(line);
     }
 
+    /// The text is read: each record's type, offset, length and owner.
+    fn read(&self, slots: usize) {
+        let mut types = vec![FILLER; slots];
+        let mut wide = [(); 3].map(|()| vec![WIDE_FILLER; slots]);
+        let [offsets, lengths, owners] = &mut wide;
+        let made = boundary::read(&self.text, &mut types, offsets, lengths, owners);
+        print!("read {} into {}:", self.text.len(), slots);
+        match made.number {
+            0 => print!(" records {}", made.length),
+            number => print!(" answer {}", numbered(number, made.place)),
+        }
+        let mut columns = wide.iter();
+        if is_left(&types, made.length, FILLER)
+            && columns.all(|column| is_left(column, made.length, WIDE_FILLER))
+        {
+            println!(", slots as before {}", slots - made.length);
+        } else {
+            println!(", slots CHANGED");
+        }
+        let [offsets, lengths, owners] = &wide;
+        for i in 0..made.length {
+            let kind = char::from(types[i]);
+            println!("  {} {} {} {}", kind, offsets[i], lengths[i], owners[i]);
+        }
+    }
+
     /// The bytes in use, and the line's used count and next serial.
     fn show_ledger(&self, line: u8) {
         print!("in use {}", self.gateway.in_use());
@@ -145,11 +176,18 @@ impl Run {
 
 /// The rest of a buffer, behind what was written: how many bytes, where all are as before.
 fn behind(buffer: &[u8], length: usize) -> String {
-    match buffer.get(length..) {
-        Some(rest) if rest.iter().all(|&byte| byte == FILLER) => {
-            format!(", behind it {:02x}*{}", FILLER, rest.len())
-        }
-        _ => ", behind it CHANGED".to_string(),
+    if is_left(buffer, length, FILLER) {
+        format!(", behind it {:02x}*{}", FILLER, buffer.len() - length)
+    } else {
+        ", behind it CHANGED".to_string()
+    }
+}
+
+/// Whether a memory is as before from here on.
+fn is_left<T: PartialEq>(memory: &[T], from: usize, filler: T) -> bool {
+    match memory.get(from..) {
+        Some(rest) => rest.iter().all(|element| *element == filler),
+        None => false,
     }
 }
 
@@ -186,34 +224,4 @@ fn show_frames(frames: &[u8]) {
         count += 1;
     }
     println!(" {} frames", count);
-}
-
-/// The bytes that a text spells.
-fn spelt(text: &str) -> Result<Vec<u8>, String> {
-    let mut bytes = Vec::new();
-    let mut left = text;
-    while let Some((plain, behind)) = left.split_once('<') {
-        bytes.extend_from_slice(plain.as_bytes());
-        let (inside, rest) = match behind.split_once('>') {
-            Some(parts) => parts,
-            None => return Err(format!("'<{}' has no end", behind)),
-        };
-        bytes.extend(marked(inside)?);
-        left = rest;
-    }
-    bytes.extend_from_slice(left.as_bytes());
-    Ok(bytes)
-}
-
-/// What stands between < and >.
-fn marked(inside: &str) -> Result<Vec<u8>, String> {
-    match (inside, inside.split_once('*')) {
-        ("", _) => Ok(Vec::new()),
-        ("CR", _) => Ok(vec![CR]),
-        (_, Some((times, byte))) if byte.len() == 1 => {
-            Ok(byte.repeat(decimal(times, MOST)?).into_bytes())
-        }
-        _ if inside.len() == 2 => hex(inside),
-        _ => Err(format!("'<{}>' spells nothing", inside)),
-    }
 }

@@ -3,6 +3,7 @@
 //!
 //!     = TITLE             a fresh gateway, memory of the right sizes, all bytes 0;   # TEXT   nothing
 //!     B L HEX, A L N      bytes that come on line L; the byte 41 N times
+//!     M L TEXT            ENQ, TEXT (`script::spelt`) in one frame with ETX, and EOT come on line L
 //!     S L N, T L N        N seconds on line L; a taking from it with a buffer of N bytes
 //!     C L NNN HEX         no event: the text that the digits spell (- spells none) is cut into a
 //!                         buffer of NNN bytes
@@ -10,16 +11,17 @@
 //! and for states that no run leaves:
 //!
 //!     J 0 N, K 0 N, L 0 N    how many bytes of the journal, the unfinished text, the frames are lent
-//!     P D N, I 0 N           D is added to the journal's byte N; N bytes are in use
+//!     P D N, p D N           D is added to the byte N of the journal, of the unfinished text
+//!     I 0 N                  N bytes are in use
 //!     U L N, Z L N           line L's used count, its next serial
 //!     l L N                  line L as an accepted frame N leaves it
 //!     c, j, s, n, r          its collected, joined and second count, next number, refusing
 
 use crate::boundary::{self, Answered};
-use crate::frames::next_number;
+use crate::frames::{frame, next_number, ENQ, EOT, ETX};
 use crate::layout::*;
-use crate::library::{Gateway, Memory};
-use crate::script::{decimal, each_step, hex, unknown, Step};
+use crate::library::{numbered, Gateway, Memory};
+use crate::script::{decimal, each_step, hex, spelt, unknown, Step};
 
 /// Each memory has so much more than its right size, and can be lent too long.
 const SPARE: usize = 1;
@@ -69,6 +71,10 @@ impl Run {
         match step.letter {
             'B' => self.feed(line, &hex(step.words()?)?),
             'A' => self.feed(line, &vec![b'A'; step.number(MOST)?]),
+            'M' => {
+                let frame = frame(b'1', &spelt(step.words()?)?, ETX);
+                self.feed(line, &[&[ENQ], &frame[..], &[EOT]].concat());
+            }
             'S' => self.pass(line, step.number(255)? as u8),
             'T' => self.take(line, step.number(BUFFER)?),
             'C' => self.cut(line, step.words()?)?,
@@ -117,7 +123,7 @@ impl Run {
         let made = boundary::cut(&text, &mut self.buffer[..length]);
         let outcome = match made.number {
             0 => format!("cut {}", made.length),
-            number => format!("{} --", number),
+            number => format!("{} --", numbered(number, made.place)),
         };
         self.show(line, &outcome, &before);
         println!("  buffer {}", digest(&self.buffer));
@@ -131,10 +137,10 @@ impl Run {
             'J' => gateway.journal.lent = step.plain_number(JOURNAL_SIZE + SPARE)?,
             'K' => gateway.unfinished.lent = step.plain_number(UNFINISHED_SIZE + SPARE)?,
             'L' => gateway.frames.lent = step.plain_number(FRAMES_SIZE + SPARE)?,
-            'P' => {
-                let byte = &mut gateway.journal.bytes[step.number(JOURNAL_SIZE)?];
-                *byte = byte.wrapping_add(step.digit);
-            }
+            'P' => gateway.journal.add(step.number(JOURNAL_SIZE)?, step.digit),
+            'p' => gateway
+                .unfinished
+                .add(step.number(UNFINISHED_SIZE)?, step.digit),
             'I' => gateway.counts[IN_USE] = step.plain_number(MOST)? as u32,
             'U' => gateway.counts[step.line()?] = step.number(MOST)? as u32,
             'l' => {
@@ -195,15 +201,17 @@ fn field(letter: char) -> Result<(usize, usize), String> {
     }
 }
 
-/// The number, the reply byte, and where there are any the text's length and the serial.
+/// The number, the place of the wrong record, the reply byte, the text's length and the serial; places,
+/// lengths and serials where there are any.
 fn told(answer: Answered) -> String {
+    let number = numbered(answer.number, answer.place);
     let reply = match answer.reply {
         0 => "--".to_string(),
         byte => format!("{:02x}", byte),
     };
-    match (answer.number, answer.length, answer.serial) {
-        (number, 0, 0) => format!("{} {}", number, reply),
-        (number, length, serial) => format!("{} {} {} {}", number, reply, length, serial),
+    match (answer.length, answer.serial) {
+        (0, 0) => format!("{} {}", number, reply),
+        (length, serial) => format!("{} {} {} {}", number, reply, length, serial),
     }
 }
 

@@ -3,6 +3,14 @@
 use crate::boundary::{self, Answered, Counts, Numbers};
 use crate::layout::{COUNTS, FIELDS, IN_USE, LINES, NUMBERS, SERIAL};
 
+/// An answer's number, and where it has one the place of the record that is wrong.
+pub fn numbered(number: u8, place: u16) -> String {
+    match place {
+        0 => number.to_string(),
+        place => format!("{} at {}", number, place),
+    }
+}
+
 /// A memory, of which the first bytes are lent.
 pub struct Memory {
     pub bytes: Vec<u8>,
@@ -12,6 +20,11 @@ pub struct Memory {
 impl Memory {
     fn lend(&mut self) -> &mut [u8] {
         &mut self.bytes[..self.lent]
+    }
+
+    /// Changes one byte by hand.
+    pub fn add(&mut self, place: usize, value: u8) {
+        self.bytes[place] = self.bytes[place].wrapping_add(value);
     }
 }
 

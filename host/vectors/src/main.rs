@@ -1,15 +1,15 @@
-//! Runs a script of bytes, seconds, takings and cuttings through the library, and shows what each
-//! step comes to.
+//! Runs a script of bytes, seconds, takings, cuttings and readings through the library, and shows what
+//! each step comes to.
 //!
 //!     vectors gateway < SCRIPT       steps one by one, with every record and memory they leave
-//!     vectors cutting < SCRIPT       messages cut into frames, sent and taken again
+//!     vectors cutting < SCRIPT       messages cut into frames, sent and taken again, and read
 //!     vectors stretches < SCRIPT     whole traces, run and told again stretch by stretch
 //!
 //! Status 1: a trace was told by the rule and came to something else, or wrongly and was not found.
 //! Status 2: the script asks for what is no step.
 
 #[path = "../../rust/src/boundary.rs"]
-#[allow(dead_code)] // No script reads, escapes or unescapes.
+#[allow(dead_code)] // No script escapes or unescapes.
 mod boundary;
 mod cutting;
 mod frames;

@@ -1,7 +1,11 @@
 //! Reading a script: a step to a line, a letter, a hex digit and the rest, with one space between.
 //! What is no step is refused, so that a slip of the pen does not become another test.
 
+use crate::frames::CR;
 use crate::layout::LINES;
+
+/// The most times that a byte comes in a text.
+const MOST: usize = 65_535;
 
 /// A line of a script.
 pub enum Said<'a> {
@@ -131,6 +135,38 @@ pub fn hex(digits: &str) -> Result<Vec<u8>, String> {
         .collect())
 }
 
+/// The bytes that a text spells: <CR> is CR, <hh> the byte hh, <N*X> the byte X N times, <N*CR> so many
+/// CRs, <> nothing, and any other byte is itself.
+pub fn spelt(text: &str) -> Result<Vec<u8>, String> {
+    let mut bytes = Vec::new();
+    let mut left = text;
+    while let Some((plain, behind)) = left.split_once('<') {
+        bytes.extend_from_slice(plain.as_bytes());
+        let (inside, rest) = match behind.split_once('>') {
+            Some(parts) => parts,
+            None => return Err(format!("'<{}' has no end", behind)),
+        };
+        bytes.extend(marked(inside)?);
+        left = rest;
+    }
+    bytes.extend_from_slice(left.as_bytes());
+    Ok(bytes)
+}
+
+/// What stands between < and >.
+fn marked(inside: &str) -> Result<Vec<u8>, String> {
+    match (inside, inside.split_once('*')) {
+        ("", _) => Ok(Vec::new()),
+        ("CR", _) => Ok(vec![CR]),
+        (_, Some((times, "CR"))) => Ok(vec![CR; decimal(times, MOST)?]),
+        (_, Some((times, byte))) if byte.len() == 1 => {
+            Ok(byte.repeat(decimal(times, MOST)?).into_bytes())
+        }
+        _ if inside.len() == 2 => hex(inside),
+        _ => Err(format!("'<{}>' spells nothing", inside)),
+    }
+}
+
 /// A number in decimal digits, `most` at most.
 pub fn decimal(digits: &str, most: usize) -> Result<usize, String> {
     if digits.is_empty() || !digits.bytes().all(|digit| digit.is_ascii_digit()) {
@@ -181,11 +217,17 @@ impl<'a> Step<'a> {
         }
     }
 
-    /// The number of a step that is of no line: its digit is 0.
-    pub fn plain_number(&self, most: usize) -> Result<usize, String> {
+    /// A step that is of no line: its digit is 0.
+    pub fn no_line(&self) -> Result<(), String> {
         match self.digit {
-            0 => self.number(most),
+            0 => Ok(()),
             _ => Err(format!("digit {} where 0 stands", self.digit)),
         }
+    }
+
+    /// The number of such a step.
+    pub fn plain_number(&self, most: usize) -> Result<usize, String> {
+        self.no_line()?;
+        self.number(most)
     }
 }

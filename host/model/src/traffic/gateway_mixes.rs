@@ -1,6 +1,6 @@
 //! The scripts that set what no run reaches, and those that concern more than one line.
 
-use super::messages::{exact, right};
+use super::messages::{exact, right, wrong};
 use super::random::Random;
 use super::{Mix, Script};
 use crate::frames::{after, write};
@@ -237,7 +237,8 @@ impl Writer<'_> {
         }
     }
 
-    /// Takings before and behind a message that reaches room, with LF once more behind it.
+    /// Takings before and behind a message that reaches room, or one that is refused before it does, with
+    /// LF once more behind it.
     fn probes(&mut self) {
         for _ in 0..self.random.between(1, 2) {
             let line = self.any_line();
@@ -246,7 +247,11 @@ impl Writer<'_> {
         }
         let line = self.any_line();
         let longest = self.random.between(11, 60);
-        let text = right(self.random, longest);
+        let text = if self.random.once_in(4) {
+            wrong(self.random, longest)
+        } else {
+            right(self.random, longest)
+        };
         self.decided(line, &text);
         if self.random.once_in(2) {
             self.script.byte(line, LF);
@@ -444,6 +449,9 @@ impl Writer<'_> {
                 used[line] += size;
             }
         }
+        // What is wrong with a text is told before there is no room for it.
+        let text = wrong(self.random, 60);
+        self.decided(full as u8, &text);
         let line = self.any_line();
         self.script.take(line, 4_000);
         self.script.take(full as u8, 4_000);

@@ -22,6 +22,7 @@ pub fn script(mix: Mix, random: &mut Random, line: u8, world: &World) -> Script 
         Mix::Polite => writer.polite(record),
         Mix::Damaged => writer.damaged(record),
         Mix::Records => writer.records(record),
+        Mix::NotAllowed => writer.not_allowed(record),
         Mix::Long => writer.long(record),
         Mix::Clock => writer.clock(record),
         Mix::Flood => writer.flood(record),
@@ -271,6 +272,40 @@ impl Writer<'_> {
         }
     }
 
+    /// A message whose beginning is set by hand, most often with a byte in it that no frame brings.
+    fn not_allowed(&mut self, record: &Line) {
+        let number = self.open(record);
+        let longest = self.random.between(20, 60);
+        let text = if self.random.once_in(2) {
+            right(self.random, longest)
+        } else {
+            wrong(self.random, longest)
+        };
+        let (before, rest) = text.split_at(self.random.below(text.len()));
+        for (place, &byte) in before.iter().enumerate() {
+            self.set_text(place, byte);
+        }
+        if !before.is_empty() && !self.random.once_in(4) {
+            let place = self.random.below(before.len());
+            let byte = self.random.pick(&[0x00, STX, ETX, LF, 0x1F, 0x7F, 0xFF]);
+            self.set_text(place, byte);
+        }
+        self.script.push(Op::Joined {
+            line: self.line,
+            count: before.len() as u16,
+        });
+        self.send(&write(number, rest, ETX));
+    }
+
+    /// A byte of the line's unfinished text, by hand.
+    fn set_text(&mut self, place: usize, value: u8) {
+        self.script.push(Op::Poke {
+            memory: Memory::Unfinished,
+            index: usize::from(self.line) * UNFINISHED_PART + place,
+            value,
+        });
+    }
+
     fn long(&mut self, record: &Line) {
         if self.random.once_in(12) {
             let first = self.open(record);
@@ -312,14 +347,9 @@ impl Writer<'_> {
             line: self.line,
             count: count as u16,
         });
-        let end = usize::from(self.line) * UNFINISHED_PART + count;
         for back in 1..=3 {
             let value = self.random.pick(&[CR, b'L', b'x']);
-            self.script.push(Op::Poke {
-                memory: Memory::Unfinished,
-                index: end - back,
-                value,
-            });
+            self.set_text(count - back, value);
         }
     }
 

@@ -1,4 +1,4 @@
-//! Texts to send, cut or read: right messages, and messages with one fault.
+//! Texts to send, cut or read: right messages, and messages with a fault or two.
 //!
 //! The rules of messages (R) are written here a second time, from the sender's side, so that the
 //! reader in `records` and this writer check each other.
@@ -152,7 +152,8 @@ pub fn exact(random: &mut Random, length: usize) -> Vec<u8> {
     text
 }
 
-/// A message with one fault of the kind a sender makes; now and then the fault is none.
+/// A message with a fault of the kind a sender makes, or with two; now and then the fault is none. The
+/// text is never empty.
 pub fn wrong(random: &mut Random, longest: usize) -> Vec<u8> {
     if random.once_in(3) {
         // Short, so that the stray is the only fault.
@@ -162,63 +163,108 @@ pub fn wrong(random: &mut Random, longest: usize) -> Vec<u8> {
     }
     let mut all = records(random, longest, None);
     let place = random.below(all.len());
-    let last = all.len() - 1;
-    match random.below(18) {
-        // Sequence numbers: another one, a leading zero, something behind it, none.
+    match random.below(4) {
+        // Two faults in one record: only their order tells which is answered.
+        0 => {
+            spoil_number(random, &mut all[place]);
+            spoil_type(random, &mut all[place]);
+        }
+        // Two that may lie apart, the second before the first or behind it.
+        1 => {
+            spoil(random, &mut all, place);
+            let other = random.below(all.len());
+            spoil(random, &mut all, other);
+        }
+        _ => spoil(random, &mut all, place),
+    }
+    joined(&all)
+}
+
+/// One fault, in the record at this place or near it.
+fn spoil(random: &mut Random, all: &mut Vec<Vec<u8>>, place: usize) {
+    match random.below(4) {
+        0 => spoil_number(random, &mut all[place]),
+        1 => spoil_type(random, &mut all[place]),
+        2 => spoil_order(random, all, place),
+        _ => spoil_ends(random, all, place),
+    }
+}
+
+/// A sequence number: another one, a leading zero, something behind it, none.
+fn spoil_number(random: &mut Random, record: &mut Vec<u8>) {
+    match random.below(5) {
         0 => {
             let number = random.pick(&[&b"0"[..], b"2", b"3", b"10", b"999999", b"1000000"]);
-            renumber(&mut all[place], number);
+            renumber(record, number);
         }
         1 => {
-            if let Some(bar) = all[place].iter().position(|&byte| byte == b'|') {
-                all[place].insert(bar + 1, b'0');
+            if let Some(bar) = record.iter().position(|&byte| byte == b'|') {
+                record.insert(bar + 1, b'0');
             }
         }
         2 => {
             let behind = random.pick(b" ^\\&1x");
-            let end = second_bar(&all[place]);
-            all[place].insert(end, behind);
+            let end = second_bar(record);
+            record.insert(end, behind);
         }
-        3 => renumber(&mut all[place], b""),
-        4 => all[place].truncate(1),
-        // Order: two records changed over, one missing, one twice.
-        5 => all.swap(place, last),
-        6 if place > 0 => all.swap(place - 1, place),
-        7 => {
+        3 => renumber(record, b""),
+        _ => record.truncate(1),
+    }
+}
+
+/// A type: another, a small one, an unknown one, one letter too many. An empty record has none.
+fn spoil_type(random: &mut Random, record: &mut Vec<u8>) {
+    if record.is_empty() {
+        return;
+    }
+    match random.below(4) {
+        0 => record[0] = random.pick(b"HPORQLCM"),
+        1 => record[0] = record[0].to_ascii_lowercase(),
+        2 => record[0] = random.pick(b"SXA |1"),
+        _ => record.insert(1, random.pick(b" 1^L")),
+    }
+}
+
+/// The order: two records changed over, one missing, one twice.
+fn spoil_order(random: &mut Random, all: &mut Vec<Vec<u8>>, place: usize) {
+    let last = all.len() - 1;
+    match random.below(4) {
+        0 if place > 0 => all.swap(place - 1, place),
+        1 if last > 0 => {
             all.remove(place);
         }
-        8 => {
+        2 => {
             let again = all[place].clone();
             all.insert(place, again);
         }
-        // Types: another, a small one, an unknown one, one letter too many.
-        9 => all[place][0] = random.pick(b"HPORQLCM"),
-        10 => all[place][0] = all[place][0].to_ascii_lowercase(),
-        11 => all[place][0] = random.pick(b"SXA |1"),
-        12 => all[place].insert(1, random.pick(b" 1^L")),
-        // The head, the end, and records that are none.
-        13 => {
+        _ => all.swap(place, last),
+    }
+}
+
+/// The head, the end, a record that is none, a CR inside a record.
+fn spoil_ends(random: &mut Random, all: &mut Vec<Vec<u8>>, place: usize) {
+    let last = all.len() - 1;
+    match random.below(5) {
+        0 => {
             let index = random.below(5);
-            all[0][index] = random.pick(b"H|\\^&!");
+            if let Some(byte) = all[0].get_mut(index) {
+                *byte = random.pick(b"H|\\^&!");
+            }
         }
-        14 => {
-            all[last] = random
-                .pick(&[&b"L"[..], b"L|2", b"LX", b"L|", b"L |1"])
-                .to_vec()
+        1 => {
+            let ends = [&b"L"[..], b"L|2", b"LX", b"L|", b"L |1"];
+            all[last] = random.pick(&ends).to_vec();
         }
-        15 => all.push(
-            random
-                .pick(&[&b"C|1"[..], b"M|1", b"L|1", b"P|1", b""])
-                .to_vec(),
-        ),
-        16 => all.insert(place, Vec::new()),
-        // A CR inside a record.
+        2 => {
+            let behind = [&b"C|1"[..], b"M|1", b"L|1", b"P|1", b""];
+            all.push(random.pick(&behind).to_vec());
+        }
+        3 => all.insert(place, Vec::new()),
         _ => {
             let index = random.below(all[place].len() + 1);
             all[place].insert(index, CR);
         }
     }
-    joined(&all)
 }
 
 /// Where field 2 of a record ends.
@@ -256,7 +302,7 @@ pub fn component(random: &mut Random) -> Vec<u8> {
 #[cfg(test)]
 mod tests {
     use super::*;
-    use crate::{escape, is_message, unescape};
+    use crate::{escape, field, is_message, unescape};
 
     #[test]
     fn right_messages_are_messages_of_every_type() {
@@ -292,6 +338,60 @@ mod tests {
             .filter(|_| is_message(&wrong(&mut random, 200)))
             .count();
         assert!((20..600).contains(&accepted), "{}", accepted);
+    }
+
+    #[test]
+    fn every_fault_in_many_places() {
+        let mut random = Random::new(5);
+        let mut places = vec![Vec::new(); 256];
+        for _ in 0..4_000 {
+            let text = wrong(&mut random, 200);
+            if let Err(refusal) = crate::read(&text) {
+                places[usize::from(refusal.number)].push(refusal.place);
+            }
+        }
+        for (number, places) in places.iter_mut().enumerate() {
+            places.sort_unstable();
+            places.dedup();
+            match number {
+                50 => assert_eq!(*places, [1]),
+                51..=53 => assert!(places.len() > 10, "{}: {:?}", number, places),
+                _ => assert!(places.is_empty(), "{}", number),
+            }
+        }
+    }
+
+    fn has_no_type(record: &[u8]) -> bool {
+        !matches!(field(record, 1), [letter] if b"HPORQLCM".contains(letter))
+    }
+
+    fn has_no_number(record: &[u8]) -> bool {
+        let number = field(record, 2);
+        number.is_empty() || number.iter().any(|byte| !byte.is_ascii_digit())
+    }
+
+    /// The places of the records behind the first that have this fault, whatever else is wrong.
+    fn places(text: &[u8], has_fault: fn(&[u8]) -> bool) -> Vec<usize> {
+        let records = text[..text.len() - 1].split(|&byte| byte == CR).enumerate();
+        let wrong = records.skip(1).filter(|(_, record)| has_fault(record));
+        wrong.map(|(index, _)| index + 1).collect()
+    }
+
+    #[test]
+    fn two_faults_in_both_orders_and_in_one_record() {
+        let mut random = Random::new(6);
+        let (mut before, mut behind, mut both) = (0, 0, 0);
+        for _ in 0..4_000 {
+            let text = wrong(&mut random, 100);
+            let numbers = places(&text, has_no_number);
+            for place in places(&text, has_no_type) {
+                before += numbers.iter().filter(|&&other| other < place).count();
+                behind += numbers.iter().filter(|&&other| other > place).count();
+                both += numbers.iter().filter(|&&other| other == place).count();
+            }
+        }
+        let seen = [before, behind, both];
+        assert!(seen.iter().all(|&count| count > 20), "{:?}", seen);
     }
 
     #[test]

@@ -4,7 +4,7 @@
 use super::running::Outcome;
 use crate::boundary::Answered;
 use crate::layout::{LINES, SERIAL};
-use crate::library::Gateway;
+use crate::library::{numbered, Gateway};
 
 /// Whether each item that was told again, in this order, came to the same.
 pub fn answers(order: &[usize], was: &[Outcome], is: &[Outcome]) -> bool {
@@ -26,11 +26,11 @@ pub fn answers(order: &[usize], was: &[Outcome], is: &[Outcome]) -> bool {
     true
 }
 
-/// An answer's number, and for 8 its length and serial.
+/// An answer's number, for 50 to 53 its place, and for 8 its length and serial.
 fn shown(answer: Answered) -> String {
     match answer.number {
         8 => format!("8 {} {}", answer.length, answer.serial),
-        number => number.to_string(),
+        number => numbered(number, answer.place),
     }
 }
 
