@@ -180,7 +180,7 @@ static size_t sent_length;
 
 static void cut_message(void)
 {
-    if (plain_cut(text, length, sent, sizeof sent, &sent_length) != PLAIN_NOTHING)
+    if (plain_cut(text, length, sent, sizeof sent, &sent_length).number != PLAIN_NOTHING)
         stop("the message is not cut");
 }
 
@@ -400,7 +400,7 @@ FOR_EACH_SIDE void over_text(enum side side, uint64_t count, enum text_function 
         } else if (side == PLAIN && function == CHECK) {
             number = plain_is_message(text, length) ? 0 : NGACHODUI_MALFORMED;
         } else if (side == PLAIN) {
-            number = function == CUT ? plain_cut(text, length, out, sizeof out, &out_length)
+            number = function == CUT ? plain_cut(text, length, out, sizeof out, &out_length).number
                    : function == ESCAPE ? plain_escape(text, length, out, sizeof out, &out_length)
                    : plain_unescape(text, length, out, sizeof out, &out_length);
         }
@@ -424,7 +424,7 @@ FOR_EACH_SIDE void records_read(enum side side, uint64_t count)
     for (uint64_t i = 0; i < count; i++) {
         if (side == LIBRARY)
             n = ngachodui_read(text, length, types, RECORDS, offsets, RECORDS, lengths, RECORDS, owners, RECORDS).length;
-        else if (side == PLAIN && plain_read(text, length, rows, RECORDS, &n) != PLAIN_NOTHING)
+        else if (side == PLAIN && plain_read(text, length, rows, RECORDS, &n).number != PLAIN_NOTHING)
             stop("the text is refused");
         KEEP_MEMORY();
         note(n);
