@@ -52,6 +52,7 @@ static enum type type_of(uint8_t letter)
 
 /* followers[t] has the bit of each type that may follow t, C and M passed over. */
 #define BIT(t) (1u << (t))
+#define ANY_TYPE 0xFFu /* the bits of all eight */
 static const uint8_t followers[8] = {
     [H] = BIT(P) | BIT(O) | BIT(Q) | BIT(L) | BIT(C) | BIT(M),
     [P] = BIT(P) | BIT(O) | BIT(Q) | BIT(L) | BIT(C) | BIT(M),
@@ -78,13 +79,69 @@ static unsigned sequence_number(const uint8_t *at)
     return *at == '|' || *at == CR ? value : 0;
 }
 
-bool plain_is_message(const uint8_t *text, size_t n)
+static struct plain_outcome outcome(enum plain_number number)
+{
+    return (struct plain_outcome){ .number = (uint16_t)number };
+}
+
+static bool all_allowed(const uint8_t *text, size_t n)
+{
+    uint8_t classes = 0;
+    for (size_t i = 0; i < n; i++)
+        classes |= byte_class[text[i]];
+    return !(classes & NOT_ALLOWED);
+}
+
+/* Three functions for a text that is refused. They are kept out of plain_check: a message shall not pay for a count
+ * of its records, nor for the registers that it takes to tell the faults apart. */
+
+/* A fault of the record that the byte at `at` is of, with the record's place. */
+__attribute__((noinline))
+static struct plain_outcome fault_at(enum plain_number number, const uint8_t *text, size_t at)
+{
+    const uint8_t *cr = text, *end = text + at;
+    uint16_t place = 1;
+    while ((cr = memchr(cr, CR, (size_t)(end - cr))) != NULL) {
+        place++;
+        cr++;
+    }
+    return (struct plain_outcome){ (uint16_t)number, place };
+}
+
+/* A text that is too long, is empty, does not end with CR or has no header. */
+__attribute__((noinline))
+static struct plain_outcome text_fault(const uint8_t *text, size_t n)
+{
+    if (n > PLAIN_TEXT || !all_allowed(text, n))
+        return outcome(PLAIN_TEXT_MALFORMED);
+    if (n > 0 && text[n - 1] != CR)
+        return fault_at(PLAIN_NO_FINAL_CR, text, n - 1);
+    return (struct plain_outcome){ PLAIN_NO_HEADER, 1 };
+}
+
+/* The fault of the record at `at`, where the walk has stopped. `may` has the bit of each type that may stand there: of
+ * any, where its type has passed. */
+__attribute__((noinline))
+static struct plain_outcome record_fault(const uint8_t *text, size_t n, size_t at, unsigned may)
+{
+    if (!all_allowed(text + at, n - at)) /* goes before every fault, and the walk has not seen the rest */
+        return outcome(PLAIN_TEXT_MALFORMED);
+    enum type type = type_of(text[at]);
+    if (type == UNKNOWN || (text[at + 1] != '|' && text[at + 1] != CR))
+        return fault_at(PLAIN_UNKNOWN_TYPE, text, at);
+    bool last = memchr(text + at, CR, n - at) == text + n - 1;
+    if (!(may & BIT(type)) || (last && type != L))
+        return fault_at(PLAIN_MISPLACED, text, at);
+    return fault_at(PLAIN_MISNUMBERED, text, at);
+}
+
+struct plain_outcome plain_check(const uint8_t *text, size_t n)
 {
     /* With a CR at the very end every scan below stops inside the text. */
     if (n == 0 || n > PLAIN_TEXT || text[n - 1] != CR)
-        return false;
+        return text_fault(text, n);
     if (n < 6 || memcmp(text, "H|\\^&", 5) != 0)
-        return false;
+        return text_fault(text, n);
 
     unsigned count[8] = { 0 };   /* the last sequence number of each type, where it goes on */
     enum type before = H;        /* the last record that is no C or M */
@@ -93,13 +150,13 @@ bool plain_is_message(const uint8_t *text, size_t n)
         while (byte_class[text[at]] == ORDINARY)
             at++;
         if (text[at] != CR)
-            return false;
+            return outcome(PLAIN_TEXT_MALFORMED);
         if (++at == n)
-            return before == L;
+            return before == L ? outcome(PLAIN_NOTHING) : fault_at(PLAIN_MISPLACED, text, n - 1);
 
         enum type type = type_of(text[at]);
         if (type == UNKNOWN || text[at + 1] != '|' || !(followers[before] & BIT(type)))
-            return false;
+            return record_fault(text, n, at, followers[before]);
         if (type != C && type != M) {
             count[C] = count[M] = 0;
             if (type == P)
@@ -109,21 +166,27 @@ bool plain_is_message(const uint8_t *text, size_t n)
             before = type;
         }
         if (sequence_number(text + at + 2) != ++count[type])
-            return false;
+            return record_fault(text, n, at, ANY_TYPE);
         at += 2;
     }
 }
 
-enum plain_number plain_read(const uint8_t *text, size_t n, struct plain_record *records, size_t cap,
-                             size_t *count)
+bool plain_is_message(const uint8_t *text, size_t n)
 {
-    if (!plain_is_message(text, n))
-        return PLAIN_TEXT_MALFORMED;
+    return plain_check(text, n).number == PLAIN_NOTHING;
+}
+
+struct plain_outcome plain_read(const uint8_t *text, size_t n, struct plain_record *records, size_t cap,
+                                size_t *count)
+{
+    struct plain_outcome checked = plain_check(text, n);
+    if (checked.number != PLAIN_NOTHING)
+        return checked;
     size_t needed = 0;
     for (size_t i = 0; i < n; i++)
         needed += text[i] == CR;
     if (needed > cap)
-        return PLAIN_OUTPUT_TOO_SHORT;
+        return outcome(PLAIN_OUTPUT_TOO_SHORT);
 
     uint16_t patient = 1;   /* who owns the next O: the last P, or H */
     uint16_t order = 0;     /* who owns the next R */
@@ -162,7 +225,7 @@ enum plain_number plain_read(const uint8_t *text, size_t n, struct plain_record 
         start = (size_t)(end - text) + 1;
     }
     *count = needed;
-    return PLAIN_NOTHING;
+    return checked;
 }
 
 /* ---- Escapes ---- */
@@ -259,10 +322,11 @@ static uint8_t *write_frame(uint8_t *out, unsigned number, const uint8_t *text, 
     return out;
 }
 
-enum plain_number plain_cut(const uint8_t *text, size_t n, uint8_t *out, size_t cap, size_t *length)
+struct plain_outcome plain_cut(const uint8_t *text, size_t n, uint8_t *out, size_t cap, size_t *length)
 {
-    if (!plain_is_message(text, n))
-        return PLAIN_TEXT_MALFORMED;
+    struct plain_outcome checked = plain_check(text, n);
+    if (checked.number != PLAIN_NOTHING)
+        return checked;
 
     size_t needed = n;
     for (size_t start = 0; start < n;) {
@@ -271,7 +335,7 @@ enum plain_number plain_cut(const uint8_t *text, size_t n, uint8_t *out, size_t 
         start += size;
     }
     if (needed > cap)
-        return PLAIN_OUTPUT_TOO_SHORT;
+        return outcome(PLAIN_OUTPUT_TOO_SHORT);
 
     unsigned number = 1;
     for (size_t start = 0; start < n;) {
@@ -285,7 +349,7 @@ enum plain_number plain_cut(const uint8_t *text, size_t n, uint8_t *out, size_t 
         }
     }
     *length = needed;
-    return PLAIN_NOTHING;
+    return checked;
 }
 
 /* ---- Journal ---- */
@@ -352,7 +416,7 @@ static void store(struct plain_ledger *ledger, uint8_t *journal, unsigned line, 
 
 static struct plain_answer just(enum plain_number number)
 {
-    return (struct plain_answer){ .number = number };
+    return (struct plain_answer){ .number = (uint16_t)number };
 }
 
 struct plain_answer plain_take(struct plain_gateway *gateway, uint8_t *journal, size_t journal_length,
@@ -374,7 +438,9 @@ struct plain_answer plain_take(struct plain_gateway *gateway, uint8_t *journal, 
         return just(PLAIN_BUFFER_TOO_SHORT);
 
     uint32_t size = PLAIN_HEADER + n;
-    struct plain_answer answer = { PLAIN_TAKEN, (uint16_t)n, (uint16_t)(entry[2] << 8 | entry[3]) };
+    struct plain_answer answer = {
+        .number = PLAIN_TAKEN, .length = (uint16_t)n, .serial = (uint16_t)(entry[2] << 8 | entry[3])
+    };
     memcpy(buffer, entry + PLAIN_HEADER, n);
     memmove(entry, entry + size, ledger->in_use - oldest - size);
     ledger->in_use -= size;
@@ -451,9 +517,29 @@ static bool ends_with_l_record(const uint8_t *text, size_t n)
     return text[start] == 'L';
 }
 
-/* Answers 2, 4, 30, 31 and 43: a frame that is right in every way, its text to be joined. */
+/* Answers 4, 30, 31, 43 and 50 to 53: a complete text. A fault sets *place. */
+static enum plain_number decide(struct plain_ledger *ledger, uint8_t *journal, unsigned line, const uint8_t *text,
+                                unsigned n, uint16_t *place)
+{
+    struct plain_outcome checked = plain_check(text, n);
+    if (checked.number == PLAIN_TEXT_MALFORMED)
+        return PLAIN_NOT_A_MESSAGE;
+    if (checked.number != PLAIN_NOTHING) {
+        *place = checked.place;
+        return checked.number;
+    }
+    uint32_t oldest;
+    if (!whole(ledger, journal, line, &oldest))
+        return PLAIN_JOURNAL_BROKEN;
+    if (!has_room(ledger, line, PLAIN_HEADER + n))
+        return PLAIN_NO_ROOM;
+    store(ledger, journal, line, text, n);
+    return PLAIN_STORED;
+}
+
+/* Answer 2, or that of a complete text: a frame that is right in every way, its text to be joined. */
 static enum plain_number join(struct plain_gateway *gateway, const struct plain_memory *memory, unsigned number,
-                              const uint8_t *text, unsigned n, bool may_decide)
+                              const uint8_t *text, unsigned n, bool may_decide, uint16_t *place)
 {
     struct plain_line *line = &gateway->lines[number];
     uint8_t *unfinished = memory->unfinished + number * PLAIN_TEXT;
@@ -468,18 +554,10 @@ static enum plain_number join(struct plain_gateway *gateway, const struct plain_
         return PLAIN_ACCEPTED;
     }
 
-    enum plain_number answer;
-    uint32_t oldest;
-    if (!plain_is_message(unfinished, joined)) {
-        answer = PLAIN_NOT_A_MESSAGE;
-    } else if (!whole(&gateway->ledger, memory->journal, number, &oldest)) {
+    enum plain_number answer = decide(&gateway->ledger, memory->journal, number, unfinished, joined, place);
+    if (answer == PLAIN_JOURNAL_BROKEN) {
         memcpy(behind, overwritten, n); /* 43 changes nothing at all */
-        return PLAIN_JOURNAL_BROKEN;
-    } else if (!has_room(&gateway->ledger, number, PLAIN_HEADER + joined)) {
-        answer = PLAIN_NO_ROOM;
-    } else {
-        store(&gateway->ledger, memory->journal, number, unfinished, joined);
-        answer = PLAIN_STORED;
+        return answer;
     }
     line->joined = 0;
     line->refusing = answer != PLAIN_STORED;
@@ -488,7 +566,7 @@ static enum plain_number join(struct plain_gateway *gateway, const struct plain_
 
 /* The answer to a frame's last byte, with what it does to the text, the numbers and the journal. */
 static enum plain_number judge(struct plain_gateway *gateway, const struct plain_memory *memory, unsigned number,
-                               const uint8_t *frame, uint8_t last_byte)
+                               const uint8_t *frame, uint8_t last_byte, uint16_t *place)
 {
     struct plain_line *line = &gateway->lines[number];
     if (last_byte != LF)
@@ -516,7 +594,7 @@ static enum plain_number judge(struct plain_gateway *gateway, const struct plain
         if (!ended)
             return PLAIN_TEXT_NOT_ENDED;
     }
-    enum plain_number answer = join(gateway, memory, number, text, n, etx);
+    enum plain_number answer = join(gateway, memory, number, text, n, etx, place);
     if (answer == PLAIN_ACCEPTED || answer == PLAIN_STORED) {
         line->last = (uint8_t)frame_number;
         line->next = (line->next + 1) & 7;
@@ -527,19 +605,20 @@ static enum plain_number judge(struct plain_gateway *gateway, const struct plain
 /* The last byte of a frame. Kept out of plain_event: a collected byte, by far the most frequent
  * event, shall not pay for the registers and the stack that judging needs. */
 __attribute__((noinline))
-static enum plain_number end_frame(struct plain_gateway *gateway, const struct plain_memory *memory, unsigned number,
-                                   uint8_t last_byte)
+static struct plain_answer end_frame(struct plain_gateway *gateway, const struct plain_memory *memory, unsigned number,
+                                     uint8_t last_byte)
 {
     struct plain_line *line = &gateway->lines[number];
     uint8_t *frame = memory->frames + number * PLAIN_FRAME;
-    enum plain_number answer = judge(gateway, memory, number, frame, last_byte);
+    uint16_t place = 0;
+    enum plain_number answer = judge(gateway, memory, number, frame, last_byte, &place);
     if (answer != PLAIN_JOURNAL_BROKEN) {
         frame[line->collected] = last_byte;
         line->collected = 0;
         line->seconds = 0;
         line->state = PLAIN_WAITING;
     }
-    return answer;
+    return (struct plain_answer){ .number = (uint16_t)answer, .place = place };
 }
 
 struct plain_answer plain_event(struct plain_gateway *gateway, const struct plain_memory *memory,
@@ -557,7 +636,7 @@ struct plain_answer plain_event(struct plain_gateway *gateway, const struct plai
 
     if (record->state == PLAIN_INSIDE) {
         if (value == LF || record->collected == PLAIN_FRAME - 1)
-            return just(end_frame(gateway, memory, line, value));
+            return end_frame(gateway, memory, line, value);
         memory->frames[line * PLAIN_FRAME + record->collected++] = value;
         return just(PLAIN_NOTHING);
     }
@@ -588,7 +667,7 @@ int plain_reply(unsigned number)
 {
     if (number >= PLAIN_OPENED && number <= PLAIN_STORED)
         return ACK;
-    if (number >= PLAIN_BUSY && number <= PLAIN_NO_ROOM)
+    if ((number >= PLAIN_BUSY && number <= PLAIN_NO_ROOM) || (number >= PLAIN_NO_HEADER && number <= PLAIN_NO_FINAL_CR))
         return NAK;
     return PLAIN_NO_REPLY;
 }

@@ -2,7 +2,8 @@
  * yardstick for the proved gateway: a second reading of the rules, and a measure of speed.
  *
  * Nothing is allocated and nothing is kept between calls but what the caller lends. Every call
- * is answered with its number; a refusal (40 to 47) changes nothing. */
+ * is answered with its number. A refusal of 40 to 47 changes nothing, nor does one of a text
+ * function. */
 #ifndef PLAIN_BASELINE_H
 #define PLAIN_BASELINE_H
 
@@ -48,7 +49,7 @@ enum plain_number {
     PLAIN_NUMBER_OUT_OF_TURN = 27,
     PLAIN_TEXT_TOO_LONG = 28,
     PLAIN_TEXT_NOT_ENDED = 29,
-    PLAIN_NOT_A_MESSAGE = 30,
+    PLAIN_NOT_A_MESSAGE = 30,     /* a complete text with a byte that is not allowed */
     PLAIN_NO_ROOM = 31,
     PLAIN_NO_SUCH_LINE = 40,
     PLAIN_MEMORY_SIZE = 41,
@@ -57,7 +58,12 @@ enum plain_number {
     PLAIN_NONE_WAITING = 44,
     PLAIN_BUFFER_TOO_SHORT = 45,
     PLAIN_TEXT_MALFORMED = 46,
-    PLAIN_OUTPUT_TOO_SHORT = 47
+    PLAIN_OUTPUT_TOO_SHORT = 47,
+    PLAIN_NO_HEADER = 50,         /* 50 to 54: the first fault of a text's records, with the record's place */
+    PLAIN_UNKNOWN_TYPE = 51,
+    PLAIN_MISPLACED = 52,         /* also a last record that is no L */
+    PLAIN_MISNUMBERED = 53,
+    PLAIN_NO_FINAL_CR = 54        /* not on a line: there it is 29 */
 };
 
 enum plain_state { PLAIN_NEUTRAL, PLAIN_WAITING, PLAIN_INSIDE };
@@ -96,9 +102,16 @@ struct plain_memory {
 
 /* Eight bytes, so that it is handed back in one register. */
 struct plain_answer {
-    uint32_t number;
+    uint16_t number;
+    uint16_t place;    /* of the record with the fault, from 1; 0 unless number is 50 to 53 */
     uint16_t length;   /* of the text taken; 0 unless number is 8 */
     uint16_t serial;   /* of the entry taken; 0 unless number is 8 */
+};
+
+/* What the check, the cutting or the reading of a text comes to: PLAIN_NOTHING, or why it is refused. */
+struct plain_outcome {
+    uint16_t number;
+    uint16_t place;    /* of the record with the fault, from 1; 0 unless number is 50 to 54 */
 };
 
 /* One record of a message. Owner is the owning record's number from 1, or 0 for H and L. */
@@ -122,14 +135,18 @@ struct plain_answer plain_take(struct plain_gateway *gateway, uint8_t *journal, 
 /* The byte that goes back to the analyzer: 0x06, 0x15 or PLAIN_NO_REPLY. */
 int plain_reply(unsigned number);
 
+/* Whether a text is a message; if not, 46 where it is too long or has a byte that is not allowed,
+ * else its first fault. */
+struct plain_outcome plain_check(const uint8_t *text, size_t n);
 bool plain_is_message(const uint8_t *text, size_t n);
 
-/* The text functions give PLAIN_NOTHING when done, else 46 or 47 with nothing written. Output
- * does not overlap the text; what the output does not need of its room keeps its bytes. */
-enum plain_number plain_cut(const uint8_t *text, size_t n, uint8_t *out, size_t cap, size_t *length);
+/* The text functions give PLAIN_NOTHING when done, else a refusal with nothing written: 46 or 47,
+ * or the fault of a text to cut or to read. Output does not overlap the text; what the output does
+ * not need of its room keeps its bytes. */
+struct plain_outcome plain_cut(const uint8_t *text, size_t n, uint8_t *out, size_t cap, size_t *length);
 enum plain_number plain_escape(const uint8_t *text, size_t n, uint8_t *out, size_t cap, size_t *length);
 enum plain_number plain_unescape(const uint8_t *text, size_t n, uint8_t *out, size_t cap, size_t *length);
-enum plain_number plain_read(const uint8_t *text, size_t n, struct plain_record *records, size_t cap,
-                             size_t *count);
+struct plain_outcome plain_read(const uint8_t *text, size_t n, struct plain_record *records, size_t cap,
+                                size_t *count);
 
 #endif

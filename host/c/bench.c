@@ -69,26 +69,33 @@ FOR_EACH_SIDE void fresh(enum side side)
         plain = plain_fresh();
 }
 
+/* The number of an answer, and the place that it names, or 0. */
+struct told {
+    unsigned number;
+    unsigned place;
+};
+
 /* A host looks at the answer only where there is one. With 0 nothing is noted either: the checksum lies in
  * memory, and from one byte to the next it would be waited for longer than for the gateway. */
-FOR_EACH_SIDE unsigned byte_in(enum side side, unsigned line, uint8_t byte)
+FOR_EACH_SIDE struct told byte_in(enum side side, unsigned line, uint8_t byte)
 {
-    unsigned number = 0;
+    struct told told = { 0, 0 };
     if (side == LIBRARY) {
         ngachodui_answered answer = ngachodui_on_byte(&library, (uint8_t)line, byte);
-        number = answer.number;
-        if (number != 0)
-            note(64 * (uint64_t)answer.reply + number);
+        told = (struct told){ answer.number, answer.place };
+        if (told.number != 0)
+            note(64 * (uint64_t)answer.reply + told.number);
     } else if (side == PLAIN) {
-        number = plain_event(&plain, &memory, line, PLAIN_BYTE, byte).number;
-        if (number != 0) {
-            int reply = plain_reply(number);
-            note(64 * (uint64_t)(reply == PLAIN_NO_REPLY ? 0 : reply) + number);
+        struct plain_answer answer = plain_event(&plain, &memory, line, PLAIN_BYTE, byte);
+        told = (struct told){ answer.number, answer.place };
+        if (told.number != 0) {
+            int reply = plain_reply(told.number);
+            note(64 * (uint64_t)(reply == PLAIN_NO_REPLY ? 0 : reply) + told.number);
         }
     } else {
         __asm__ volatile("" : "+r"(line), "+r"(byte));
     }
-    return number;
+    return told;
 }
 
 FOR_EACH_SIDE void seconds_in(enum side side, unsigned line, uint8_t seconds)
@@ -180,8 +187,35 @@ static size_t sent_length;
 
 static void cut_message(void)
 {
-    if (plain_cut(text, length, sent, sizeof sent, &sent_length) != PLAIN_NOTHING)
+    if (plain_cut(text, length, sent, sizeof sent, &sent_length).number != PLAIN_NOTHING)
         stop("the message is not cut");
+}
+
+/* The check digits of a frame, behind its ETB or ETX. */
+static void put_check(const uint8_t *frame, uint8_t *end)
+{
+    unsigned sum = 0;
+    for (const uint8_t *at = frame + 1; at <= end; at++)
+        sum += *at;
+    end[1] = (uint8_t)"0123456789ABCDEF"[sum >> 4 & 15];
+    end[2] = (uint8_t)"0123456789ABCDEF"[sum & 15];
+}
+
+/* A wrong number for the last record, `L|1`, which has the last frame to itself: a fault that is met at the very end. */
+static void misnumber_last(void)
+{
+    enum { RECORD = 4 };
+    uint8_t *frame = sent + sent_length - (RECORD + 7);
+    frame[4] = '2';
+    put_check(frame, frame + 2 + RECORD);
+}
+
+static unsigned records_of_text(void)
+{
+    unsigned records = 0;
+    for (size_t i = 0; i < length; i++)
+        records += text[i] == CR;
+    return records;
 }
 
 /* ---- Bytes through the lines ---- */
@@ -264,14 +298,14 @@ static size_t text_of_frame(size_t size)
 static uint8_t *make_frame(uint8_t frame[FRAME], size_t size, bool right)
 {
     uint8_t *end = frame + 2 + size;
-    unsigned sum = '1' + ETB;
     frame[0] = STX;
     frame[1] = '1';
     for (size_t i = 0; i < size; i++)
-        sum += frame[2 + i] = (uint8_t)('!' + i % 90);
+        frame[2 + i] = (uint8_t)('!' + i % 90);
     end[0] = ETB;
-    end[1] = (uint8_t)"0123456789ABCDEF"[sum >> 4 & 15];
-    end[2] = right ? (uint8_t)"0123456789ABCDEF"[sum & 15] : '?';
+    put_check(frame, end);
+    if (!right)
+        end[2] = '?';
     end[3] = CR;
     end[4] = LF;
     return end + 4;
@@ -288,7 +322,7 @@ FOR_EACH_SIDE void judged(enum side side, uint64_t count, size_t size, bool righ
         byte_in(side, 3, *at);
     save();
     for (uint64_t i = 0; i < count; i++) {
-        unsigned number = byte_in(side, 3, LF);
+        unsigned number = byte_in(side, 3, LF).number;
         if (side != NONE && number != (right ? NGACHODUI_ACCEPTED : NGACHODUI_WRONG_CHECK))
             stop("the frame is not judged as it should be");
         put_back();
@@ -307,7 +341,7 @@ FOR_EACH_SIDE void framed(enum side side, uint64_t count, size_t size)
     for (uint64_t i = 0; i < count; i++) {
         unsigned number = 0;
         for (const uint8_t *at = frame; at <= end; at++)
-            number = byte_in(side, 3, *at);
+            number = byte_in(side, 3, *at).number;
         if (side != NONE && number != NGACHODUI_ACCEPTED)
             stop("the frame is not judged as it should be");
         put_back();
@@ -315,18 +349,22 @@ FOR_EACH_SIDE void framed(enum side side, uint64_t count, size_t size)
     done = count;
 }
 
-/* The LF that completes a message, in an empty journal: the records are checked and the text stored. */
-FOR_EACH_SIDE void decided(enum side side, uint64_t count)
+/* The LF that completes a text, in an empty journal: the records are checked, and the text is stored, or refused for
+ * the last of them. */
+FOR_EACH_SIDE void decided(enum side side, uint64_t count, bool right)
 {
+    const unsigned last_place = records_of_text();
     fresh(side);
     byte_in(side, 3, ENQ);
     for (size_t i = 0; i < sent_length - 1; i++)
         byte_in(side, 3, sent[i]);
     save();
     for (uint64_t i = 0; i < count; i++) {
-        unsigned number = byte_in(side, 3, LF);
-        if (side != NONE && number != NGACHODUI_STORED)
-            stop("the message is not stored");
+        struct told told = byte_in(side, 3, LF);
+        if (side != NONE && told.number != (right ? PLAIN_STORED : PLAIN_MISNUMBERED))
+            stop("the text is not decided as it should be");
+        if (side != NONE && !right && told.place != last_place)
+            stop("the fault is told at another place");
         put_back();
     }
     done = count;
@@ -400,7 +438,7 @@ FOR_EACH_SIDE void over_text(enum side side, uint64_t count, enum text_function 
         } else if (side == PLAIN && function == CHECK) {
             number = plain_is_message(text, length) ? 0 : NGACHODUI_MALFORMED;
         } else if (side == PLAIN) {
-            number = function == CUT ? plain_cut(text, length, out, sizeof out, &out_length)
+            number = function == CUT ? plain_cut(text, length, out, sizeof out, &out_length).number
                    : function == ESCAPE ? plain_escape(text, length, out, sizeof out, &out_length)
                    : plain_unescape(text, length, out, sizeof out, &out_length);
         }
@@ -424,7 +462,7 @@ FOR_EACH_SIDE void records_read(enum side side, uint64_t count)
     for (uint64_t i = 0; i < count; i++) {
         if (side == LIBRARY)
             n = ngachodui_read(text, length, types, RECORDS, offsets, RECORDS, lengths, RECORDS, owners, RECORDS).length;
-        else if (side == PLAIN && plain_read(text, length, rows, RECORDS, &n) != PLAIN_NOTHING)
+        else if (side == PLAIN && plain_read(text, length, rows, RECORDS, &n).number != PLAIN_NOTHING)
             stop("the text is refused");
         KEEP_MEMORY();
         note(n);
@@ -503,10 +541,12 @@ static void prepare(struct operation o)
         make_message(TEXT, false);
     else if (starts(o, "escape-") || starts(o, "unescape-"))
         make_text(o.size ? o.size : TEXT, many, starts(o, "unescape-"));
-    else if (starts(o, "decided-") || starts(o, "check-") || starts(o, "cut-") || starts(o, "read-"))
+    else if (starts(o, "decided-") || starts(o, "faulty-") || starts(o, "check-") || starts(o, "cut-") || starts(o, "read-"))
         make_message(o.size ? o.size : TEXT, many);
-    if (starts(o, "decided-"))
+    if (starts(o, "decided-") || starts(o, "faulty-"))
         cut_message();
+    if (starts(o, "faulty-"))
+        misnumber_last();
 }
 
 FOR_EACH_SIDE void run_side(enum side side, struct operation o, uint64_t count)
@@ -520,7 +560,9 @@ FOR_EACH_SIDE void run_side(enum side side, struct operation o, uint64_t count)
     else if (is(o, "framed"))
         framed(side, count, text_of_frame(o.size));
     else if (starts(o, "decided-"))
-        decided(side, count);
+        decided(side, count, true);
+    else if (starts(o, "faulty-"))
+        decided(side, count, false);
     else if (starts(o, "taken-"))
         taken(side, count, (unsigned)(o.size ? o.size : is(o, "taken-few") ? 8 : 2000));
     else if (starts(o, "check-"))
