@@ -31,7 +31,7 @@ abbrev pub placed : Bool → Kind → Bool
 placed true k = isTerminator k
 placed false k = true
 
--- a record behind the first, `last` if no other follows it: its type, then what it follows, then its number, which is the next of its count
+-- a record behind the first, `last` if no other follows it: its type, then what it follows, then its number, which is the next of its count [A51, A52, A53]
 unfoldable pub kindStep : Counts → Bool → Letter → ℕ → Step
 kindStep s last Unknown n = Wrong UnknownType
 kindStep s last (Known k) n =
@@ -41,7 +41,7 @@ kindStep s last (Known k) n =
 unfoldable pub recordStep : Delimiters → Counts → Bool → List ℕ → Step
 recordStep d s last r = kindStep s last (typeIn d r) (numberIn d r)
 
--- the first record: a header and, as it is no L, not the last
+-- the first record: a header and, as it is no L, not the last [A50, A52]
 unfoldable pub headerStep : Delimiters → Bool → List ℕ → Step
 headerStep d last r = unless (isHeader d r) (Wrong NoHeader) (cond last (Wrong Misplaced) (Fine started))
 
@@ -60,7 +60,7 @@ unfoldable pub recordsFault : Delimiters → List (List ℕ) → Checked
 recordsFault d [] = Faulty NoHeader 1
 recordsFault d (r ∷ rs) = after (headerStep d (none rs) r) 1 (λ t. restFault d t 2 rs)
 
--- a text: at most the limit long and of allowed bytes, else it has no records; then not empty, ended by CR, and its records front to back [R22]
+-- a text: at most the limit long and of allowed bytes, else it has no records; then not empty, ended by CR, and its records front to back [A50, A54, R22]
 unfoldable pub fault : Delimiters → List ℕ → Checked
 fault d text =
     unless (leb (length text) messageLimit && all allowed text) NotText

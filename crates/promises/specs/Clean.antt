@@ -21,7 +21,7 @@ use Rattle.promises.specs.Machine.{State, Parts, partsOf}
 abbrev pub unfinishedIn : Parts → List ℕ
 unfinishedIn p = unfinishedText (p .line) (p .texts)
 
--- every line's is of allowed bytes: so it is in every state of a run
+-- every line's is of allowed bytes: so it is in every state of a run [P9]
 abbrev pub Clean : State → Type 0
 Clean s = (i : ℕ) → i < lines → all allowed (unfinishedIn (partsOf s i)) ≡ true
 
@@ -31,7 +31,7 @@ pub record CompleteText (text : List ℕ) : Type 0 where
   pub short : length text ≤ messageLimit
   pub ended : endsWithCr text ≡ true
 
--- a text that is wrong at one of its records, at this place counted from 1, and not at its last byte (54)
+-- a text that is wrong at one of its records, at this place counted from 1, and not at its last byte (54) [P9]
 pub record WrongAt (text : List ℕ) : Type 0 where
   pub kind : Fault
   pub place : ℕ

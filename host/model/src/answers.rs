@@ -67,7 +67,7 @@ impl Refusal {
 pub fn reply(number: u8) -> Option<u8> {
     match number {
         1..=4 => Some(ACK),
-        20..=31 | 50..=53 => Some(NAK),
+        20..=31 | 50..=54 => Some(NAK),
         _ => None,
     }
 }
@@ -80,7 +80,7 @@ mod tests {
     fn ack_nak_or_none() {
         let ack = [1, 2, 3, 4];
         let nak = [
-            20, 21, 22, 23, 24, 25, 26, 27, 28, 29, 30, 31, 50, 51, 52, 53,
+            20, 21, 22, 23, 24, 25, 26, 27, 28, 29, 30, 31, 50, 51, 52, 53, 54,
         ];
         for number in 0..=255 {
             let expected = if ack.contains(&number) {

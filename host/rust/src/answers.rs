@@ -119,7 +119,7 @@ impl Answer {
     pub fn reply(self) -> Option<u8> {
         match self.number() {
             1..=4 => Some(0x06),
-            20..=31 | 50..=53 => Some(0x15),
+            20..=31 | 50..=54 => Some(0x15),
             _ => None,
         }
     }
@@ -271,10 +271,10 @@ mod tests {
 
     #[test]
     fn each_answer_has_the_librarys_number_and_reply() {
-        for number in (0..=8).chain(20..=31).chain(40..=45).chain(50..=53) {
+        for number in (0..=8).chain(20..=31).chain(40..=45).chain(50..=54) {
             let reply = match number {
                 1..=4 => 0x06,
-                20..=31 | 50..=53 => 0x15,
+                20..=31 | 50..=54 => 0x15,
                 _ => 0,
             };
             let answer = Answer::of(Answered {
