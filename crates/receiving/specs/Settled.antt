@@ -47,7 +47,7 @@ rowOf Refuse = record { line = waitingLine; adds = true; writes = none; stores =
 rowOf (Accept n) = record { line = λ l. acceptedLine l (l .joined + n); adds = true; writes = some n; stores = false }
 -- 4: besides, they are written and the whole text is stored; nothing is joined any more; the number advances [F9, L9]
 rowOf (Store n) = record { line = λ l. acceptedLine l 0; adds = true; writes = some n; stores = true }
--- 30 and 31: besides, they are written; nothing is joined any more; the line refuses [L10]
+-- 30, 31 and faults: besides, they are written; nothing is joined any more; the line refuses [L10]
 rowOf (Object n) = record { line = refusingLine; adds = true; writes = some n; stores = false }
 
 -- the line's record

@@ -1,4 +1,4 @@
--- The verdict on an event: 40, 41, 42, then the work; a complete message is decided by the records and the journal: 30, 43, 31, 4.
+-- The verdict on an event: 40, 41, 42, then the work; a complete text is decided by the records and the journal: 30 or a fault, 43, 31, 4.
 -- Assumes nothing.
 use Prim.Native.Nat.{ℕ}
 use mathlib.Core.List.{List}
