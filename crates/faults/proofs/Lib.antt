@@ -2,7 +2,6 @@ pub mod Messages
 pub mod NoFault
 pub mod Chain
 pub mod Head
-pub mod FirstRecord
 pub mod Walked
 pub mod OneOutcome
 pub mod Places

@@ -1,7 +1,7 @@
 -- A check that stands between two records: what is known of those passed, and that what is left decides.
 -- Assumes nothing.
 use mathlib.Core.Path.{_≡_, refl, ap, sym, _∙_}
-use mathlib.Core.Bool.{true, false, _&&_}
+use mathlib.Core.Bool.{true, false}
 use mathlib.Core.List.{List, [], _∷_}
 use Prim.Native.Nat.{ℕ, _+_, _-_, _<_, _≤_}
 use native.Mathlib.Omega.{arith}
@@ -29,7 +29,6 @@ use Rattle.faults.specs.declared.Checked.{Checked}
 use Rattle.faults.specs.declared.Checked.the-variants.{NotText, Faulty}
 use Rattle.records.proofs.Scans.{tailAt, rest-part, find-hit, find-before}
 use Rattle.records.proofs.Front.{none-left, front, count-front}
-use Rattle.faults.proofs.FirstRecord.{all-parts}
 
 -- what the records that are left lead to, the first of them at this place
 abbrev pub onward : Delimiters → Progress → ℕ → List (List ℕ) → Checked
@@ -63,7 +62,6 @@ pub record Walked (d : Delimiters) (s : List ℕ) (p : Progress) (at place : ℕ
   pub within : at ≤ length s + 1
   pub few : place ≤ at
   pub counts : place + length (records (drop at s)) ≡ length (records s)
-  pub clean : all allowed (drop at s) ≡ all allowed s
   pub decides : onward d p (place + 1) (records (drop at s)) ≡ recordsFault d (records s)
   pub closed : at ≡ length s → 0 < at → endsWithCr s ≡ true
   pub unclosed : length s < at → (0 < length s) × (endsWithCr s ≡ false)
@@ -73,7 +71,6 @@ walk-start d s = record {
   within = omega arith;
   few = omega arith;
   counts = omega arith;
-  clean = refl;
   decides = onward-all d (records s);
   closed = λ e h. absurd (omega arith);
   unclosed = λ h. absurd (omega arith);
@@ -96,12 +93,6 @@ module _ (d : Delimiters) (s : List ℕ) (p : Progress) (at place e : ℕ) (w : 
   last-is : none (records (drop (at + (e + 1)) s)) ≡ leb (length (tailAt s at)) (e + 1)
   last-is = ap (λ (l : List ℕ). none (records l)) (sym rest) ∙ none-left (tailAt s at) (e + 1)
 
-  -- the text from here on: its first record, and what comes behind it
-  parts : all allowed s ≡ all allowed (before cr (tailAt s at)) && all allowed (drop (at + (e + 1)) s)
-  parts =
-      sym (w .clean) ∙ ap (all allowed) (sym (rest-part s at)) ∙ all-parts (tailAt s at)
-      ∙ ap (λ (l : List ℕ). all allowed (before cr (tailAt s at)) && all allowed l) (ap (λ (n : ℕ). drop (n + 1) (tailAt s at)) (sym k) ∙ rest)
-
   ends : at + (e + 1) ≡ length s → endsWithCr s ≡ true
   ends q =
       let lt₂ : find (is cr) (drop at s) < length (drop at s) = omega (arith, left, found) in
@@ -115,13 +106,11 @@ module _ (d : Delimiters) (s : List ℕ) (p : Progress) (at place e : ℕ) (w : 
       let same : at + (length s - 1 - at) ≡ length s - 1 = omega arith in
       (omega arith, ap (λ (n : ℕ). is cr (getD s n 0)) (sym same) ∙ ap (is cr) (sym (getD-drop at s (length s - 1 - at) 0)) ∙ find-before (is cr) (drop at s) (length s - 1 - at) (omega arith))
 
-  pub walk-on : all allowed (before cr (tailAt s at)) ≡ true
-      → Walked d s (further d p (place + 1) (leb (length (tailAt s at)) (e + 1)) (take e (tailAt s at))) (at + (e + 1)) (place + 1)
-  walk-on a = record {
+  pub walk-on : Walked d s (further d p (place + 1) (leb (length (tailAt s at)) (e + 1)) (take e (tailAt s at))) (at + (e + 1)) (place + 1)
+  walk-on = record {
     within = omega (arith, scan-within);
     few = omega (arith, w .few);
     counts = count-front s at e place (length (records s)) lt k (w .counts);
-    clean = sym (rw a at parts);
     decides =
         let one = onward-one d p (place + 1) (take e (tailAt s at)) (records (drop (at + (e + 1)) s)) in
         sym (rw last-is at one) ∙ ap (onward d p (place + 1)) (sym (front s at e lt k)) ∙ w .decides;
@@ -129,29 +118,27 @@ module _ (d : Delimiters) (s : List ℕ) (p : Progress) (at place e : ℕ) (w : 
     unclosed = ends-not;
   }
 
-  pub walk-bad : length s ≤ messageLimit → all allowed (before cr (tailAt s at)) ≡ false → NotText ≡ fault d s
-  unfolding fault
-  walk-bad h a = let bad : all allowed s ≡ false = rw a at parts in rw (le-leb (length s) messageLimit h, bad)
-
 no-records : (d : Delimiters) (s : List ℕ) → length s ≡ 0 → recordsFault d (records s) ≡ Faulty NoHeader 1
 unfolding recordsFault
 no-records d [] e = refl
 no-records d (x ∷ xs) e = absurd (omega arith)
 
+-- a byte that is not allowed goes before all else
+pub not-allowed : (d : Delimiters) (s : List ℕ) → length s ≤ messageLimit → all allowed s ≡ false → NotText ≡ fault d s
+unfolding fault
+not-allowed d s h a = rw (le-leb (length s) messageLimit h, a)
+
 -- at the end of the text nothing is left
-module _ (d : Delimiters) (s : List ℕ) (p : Progress) (at place : ℕ) (w : Walked d s p at place) (h : length s ≤ messageLimit) (ge : length s ≤ at) where
+module _ (d : Delimiters) (s : List ℕ) (p : Progress) (at place : ℕ) (w : Walked d s p at place) (h : length s ≤ messageLimit) (clean : all allowed s ≡ true) (ge : length s ≤ at) where
   nothing : drop at s ≡ []
   nothing = drop-of-length-le s ge
-
-  is-clean : all allowed s ≡ true
-  is-clean = sym (rw nothing at (w .clean))
 
   pub walk-no-final-cr : length s < at → Faulty NoFinalCr place ≡ fault d s
   unfolding fault
   walk-no-final-cr q =
       let (some, unended) = w .unclosed q in
       let all-passed : length (records s) ≡ place = let z = rw nothing at (w .counts) in omega (arith, z) in
-      rw (le-leb (length s) messageLimit h, is-clean, ne-eqb (length s) 0 (λ z. omega arith), unended, all-passed)
+      rw (le-leb (length s) messageLimit h, clean, ne-eqb (length s) 0 (λ z. omega arith), unended, all-passed)
 
   pub walk-ended : at ≤ length s → endedAs p ≡ fault d s
   unfolding fault
@@ -160,8 +147,8 @@ module _ (d : Delimiters) (s : List ℕ) (p : Progress) (at place : ℕ) (w : Wa
       elim (decLt 0 (length s)) [
         | yes some ↦
             let ended : endsWithCr s ≡ true = w .closed (omega arith) (omega arith) in
-            rw (le-leb (length s) messageLimit h, is-clean, ne-eqb (length s) 0 (λ z. omega arith), ended) decided
+            rw (le-leb (length s) messageLimit h, clean, ne-eqb (length s) 0 (λ z. omega arith), ended) decided
         | no none ↦
             let empty : length s ≡ 0 = omega arith in
-            rw (le-leb (length s) messageLimit h, is-clean, eq-eqb (length s) 0 empty) (decided ∙ no-records d s empty)
+            rw (le-leb (length s) messageLimit h, clean, eq-eqb (length s) 0 empty) (decided ∙ no-records d s empty)
       ]

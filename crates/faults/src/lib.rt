@@ -14,12 +14,6 @@ pub enum Step {
     Wrong(Fault),
 }
 
-// A record's bytes: one is not allowed, or they end here, at the CR or the end of the text.
-enum Scanned {
-    NotText,
-    End(usize),
-}
-
 // What the records of a text have led to so far: none was met; the counts; or the first fault and the place of its record.
 enum Progress {
     Start,
@@ -35,12 +29,15 @@ pub enum Checked {
     Faulty(Fault, u16),
 }
 
-// Whether a text is a message by these delimiters, and the first fault of one that is not. A byte that is not allowed goes before
-// every fault, so the walk goes on to the end of the text.
+// Whether a text is a message by these delimiters, and the first fault of one that is not. A missing CR at the end goes before every
+// fault of a record, so the walk goes on to the end of the text.
 pub fn check(d: Delimiters, text: &[u8]) -> Checked
     ensures { λ r. ⌜ r ≡ fault d (now (text .entry)) ⌝ }
 {
     if memory::MESSAGE_LIMIT < text.len() {
+        return Checked::NotText;
+    }
+    if !characters::all_allowed(text) {
         return Checked::NotText;
     }
     let mut progress = Progress::Start;
@@ -48,18 +45,11 @@ pub fn check(d: Delimiters, text: &[u8]) -> Checked
     let mut place: u16 = 0;
     while at < text.len() {
         let tail = &text[at..];
-        let scanned = walk::scan(tail);
-        match scanned {
-            Scanned::End(e) => {
-                place += 1;
-                let last = tail.len() <= e + 1;
-                progress = walk::go_on(d, progress, place, last, &tail[..e]);
-                at = at + (e + 1);
-            }
-            Scanned::NotText => {
-                return Checked::NotText;
-            }
-        }
+        let e = records::index_of(tail, characters::CR);
+        place += 1;
+        let last = tail.len() <= e + 1;
+        progress = walk::go_on(d, progress, place, last, &tail[..e]);
+        at = at + (e + 1);
     }
     // The walk steps over each CR, so it ends past the end where the last record has none.
     if text.len() < at {
