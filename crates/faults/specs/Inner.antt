@@ -1,2 +1,1 @@
 pub mod Next
-pub mod Progress

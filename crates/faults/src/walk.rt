@@ -1,39 +1,53 @@
-// One record of a text, and what the records up to it have led to.
+// The records of a text, front to back, up to the first that is wrong.
+ghost use Prim.Native.Nat.{_+_, _<_, _≤_};
 ghost use mathlib.Core.Path.{_≡_};
-ghost use Rattle.faults.specs.Inner.Progress.{reached, further, endedAs};
+ghost use lib.ListN.{length, drop};
+ghost use Rattle.memory.specs.Sizes.{messageLimit};
+ghost use Rattle.records.specs.Records.{records};
+ghost use Rattle.faults.specs.Faults.{restFault, recordsFault};
 use crate::Checked;
-use crate::Progress;
 use crate::Step;
-use answers::Fault;
+use characters::CR;
 use kinds::Delimiters;
+use sequence::Counts;
 
-fn reach(step: Step, place: u16) -> Progress
-    ensures { λ r. ⌜ r ≡ reached step place ⌝ }
+// All records.
+pub fn records_fault(d: Delimiters, text: &[u8]) -> Checked
+    requires { ⌜ (0 < length (now text)) × (length (now text) ≤ messageLimit) ⌝ }
+    ensures { λ r. ⌜ r ≡ recordsFault d (records (now (text .entry))) ⌝ }
 {
+    let e = records::index_of(text, CR);
+    let last = text.len() <= e + 1;
+    let step = crate::judging::check_header(d, last, &text[..e]);
     match step {
-        Step::Fine(s) => Progress::Going(s),
-        Step::Wrong(f) => Progress::Stopped(f, place),
+        Step::Fine(s) => rest_fault(d, s, text, e + 1),
+        Step::Wrong(f) => Checked::Faulty(f, 1),
     }
 }
 
-// One record more, the last one or not. The first fault stays.
-pub fn go_on(d: Delimiters, progress: Progress, place: u16, last: bool, rec: &[u8]) -> Progress
-    ensures { λ r. ⌜ r ≡ further d progress place last (now (rec .entry)) ⌝ }
+// Those behind the first, which start here.
+fn rest_fault(d: Delimiters, counts: Counts, text: &[u8], start: usize) -> Checked
+    requires { ⌜ (length (now text) ≤ messageLimit) × (0 < start) × (start ≤ length (now text) + 1) ⌝ }
+    ensures { λ r. ⌜ r ≡ restFault d counts 2 (records (drop start (now (text .entry)))) ⌝ }
 {
-    match progress {
-        Progress::Start => reach(crate::judging::check_header(d, last, rec), place),
-        Progress::Going(s) => reach(crate::judging::check_record(d, s, last, rec), place),
-        Progress::Stopped(f, n) => Progress::Stopped(f, n),
+    let mut s = counts;
+    let mut at = start;
+    let mut place: u16 = 2;
+    while at < text.len() {
+        let tail = &text[at..];
+        let e = records::index_of(tail, CR);
+        let last = tail.len() <= e + 1;
+        let step = crate::judging::check_record(d, s, last, &tail[..e]);
+        match step {
+            Step::Fine(t) => {
+                s = t;
+                place += 1;
+                at = at + (e + 1);
+            }
+            Step::Wrong(f) => {
+                return Checked::Faulty(f, place);
+            }
+        }
     }
-}
-
-// What the check finds at the end of a text that is ended: one without a record has no header.
-pub fn ended(progress: Progress) -> Checked
-    ensures { λ r. ⌜ r ≡ endedAs progress ⌝ }
-{
-    match progress {
-        Progress::Start => Checked::Faulty(Fault::NoHeader, 1),
-        Progress::Going(_) => Checked::Message,
-        Progress::Stopped(f, n) => Checked::Faulty(f, n),
-    }
+    Checked::Message
 }
