@@ -1,12 +1,13 @@
 -- The rest of a text behind some of its records decides, record by record.
 -- Assumes nothing.
 use mathlib.Core.Path.{_≡_, refl, ap, sym, _∙_}
-use mathlib.Core.Bool.{Bool, true, false, _&&_}
-use mathlib.Core.List.{List}
-use Prim.Native.Nat.{ℕ, _<_, _≤_}
+use mathlib.Core.Bool.{Bool, true, false, cond, _&&_}
+use mathlib.Core.List.{List, [], _∷_}
+use Prim.Native.Nat.{ℕ, suc, _+_, _<_, _≤_}
+use native.Mathlib.Numerals.{add-one}
 use native.Mathlib.Omega.{arith}
 use lib.Dec.{leb}
-use lib.ListN.{length, getD}
+use lib.ListN.{length, getD, take, drop}
 use lib.Seq.{getD-take}
 use borrow.Author.Tests.{leb-true, le-leb, eqb-true, not-false}
 use Rattle.memory.specs.Sizes.{messageLimit}
@@ -26,7 +27,24 @@ use Rattle.kinds.specs.declared.Delimiters.{Delimiters}
 use Rattle.sequence.specs.declared.Counts.{Counts}
 use Rattle.kinds.specs.declared.Kind.the-variants.{Header}
 use Rattle.records.proofs.Scans.{find-before, before-length, records-cons}
-use Rattle.faults.proofs.FirstRecord.{all-parts}
+
+cr-allowed : (b : ℕ) → is cr b ≡ true → allowed b ≡ true
+unfolding allowed
+cr-allowed b e = rw (eqb-true b cr e)
+
+-- a text is of allowed bytes where its first record is and what comes behind it
+all-parts : (s : List ℕ) → all allowed s ≡ all allowed (before cr s) && all allowed (behind cr s)
+all-parts [] = refl
+all-parts (x ∷ xs) = by-first (is cr x) refl (all-parts xs)
+  where
+    grouped : (a b e : Bool) → a && (b && e) ≡ a && b && e
+    grouped true b e = refl
+    grouped false b e = refl
+
+    by-first : (b : Bool) → is cr x ≡ b → all allowed xs ≡ all allowed (before cr xs) && all allowed (behind cr xs)
+        → allowed x && all allowed xs ≡ all allowed (take (cond b 0 (suc (find (is cr) xs))) (x ∷ xs)) && all allowed (drop (cond b 0 (suc (find (is cr) xs)) + 1) (x ∷ xs))
+    by-first true k e = rw (cr-allowed x k)
+    by-first false k e = rw (add-one (suc (find (is cr) xs)), e, add-one (find (is cr) xs)) (grouped (allowed x) _ _)
 
 -- the delimiter between fields is ordinary where it stands in a header that CR breaks off
 pub header-ordinary : (d : Delimiters) (text : List ℕ) → isHeader d (before cr text) ≡ true → find breaks text ≡ find (is cr) text → ordinary (d .field) ≡ true
