@@ -75,7 +75,7 @@ fn check_kind(s: Counts, last: bool, k: Kind, n: u32) -> Step
 {
     let other = s.other;
     if !kinds::may_follow(other, k) {
-        return Step::Wrong(Fault::Misplaced);
+        return Step::Wrong(Fault::Misplaced); // whatever its number
     }
     if !is_placed(last, k) {
         return Step::Wrong(Fault::Misplaced);
