@@ -1,4 +1,4 @@
-/* The gateway in plain C: no proofs, written from the requirements alone. It is the
+/* The gateway in plain C: no proofs, written from the requirements. It is the
  * yardstick for the proved gateway: a second reading of the rules, and a measure of speed.
  *
  * Nothing is allocated and nothing is kept between calls but what the caller lends. Every call
