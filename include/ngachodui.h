@@ -137,8 +137,8 @@ enum ngachodui_outcome {
 };
 
 /* Why a text is no message: what is wrong with a record, answered with the place of that record, counted
- * from 1. Records are looked at front to back, each for 51, 52 and 53 in this order, and the first fault
- * counts. An event gets 50 to 53 where it completes the text, cutting and reading also 54. */
+ * from 1. A text is walked up to its first wrong record, and there 51 goes before 52 and 52 before 53. An
+ * event gets 50 to 53 where it completes the text, cutting and reading also 54. */
 enum ngachodui_fault {
     NGACHODUI_NO_HEADER = 50,       /* the first record does not begin with H|\^&, or the text is empty */
     NGACHODUI_UNKNOWN_TYPE = 51,    /* its type is none of H P O R Q L C M */

@@ -171,8 +171,8 @@ impl Answer {
     }
 }
 
-/// What is wrong with a record. Records are looked at front to back, each for its type, then for what
-/// it follows, then for its sequence number, and the first fault counts.
+/// What is wrong with a record. A text is walked up to its first wrong record; there the type goes
+/// before what the record follows, and that before its sequence number.
 #[derive(Clone, Copy, PartialEq, Eq, Debug)]
 pub enum Fault {
     /// 50: the first record does not begin with H and the four delimiters, or the text is empty.
