@@ -1,6 +1,7 @@
 -- The list of all answers: number and values tell the answer, and what a test finds of each in the list it finds of every answer; and what holds of every objection's number.
 -- Assumes nothing.
 use mathlib.Core.Path.{_≡_, refl, sym, ap, ap₂, subst, _∙_}
+use mathlib.Core.Logic.{_≢_}
 use mathlib.Core.Bool.{Bool, true, false, not, cond, _&&_, _||_}
 use mathlib.Core.List.{List, [], _∷_}
 use mathlib.Core.Option.{Option, none, some}
@@ -12,7 +13,7 @@ use lib.ListN.{getD}
 use types.Run.{OneOf, miss}
 use denote.Enum.Declared.{tagOf}
 use Rattle.memory.specs.Tests.{between}
-use Rattle.memory.proofs.Tests.{clash, and-left, and-right}
+use Rattle.memory.proofs.Tests.{clash, and-left, and-right, never-both}
 use Rattle.answers.specs.Paper.{faultNumber, isFaulty, numberOf, valuesOf, placeOf, nak, replyOf}
 use Rattle.answers.specs.Inner.Objections.{isObjection}
 use Rattle.answers.specs.declared.Answer.{Answer}
@@ -123,6 +124,15 @@ found test a n (b ∷ more) p q = by-number (eqb (numberOf b) n) q (found test a
 pub every-answer : (test : Answer → Bool) → ((vs : List ℕ) → passes test (answers vs) ≡ true) → (a : Answer) → test a ≡ true
 every-answer test h a = found test a (numberOf a) (answers (valuesOf a)) (h (valuesOf a)) (listed a)
 
+-- a test that only answers of one sort pass, no other answer passes
+pub every-but : (sort test : Answer → Bool) → ((vs : List ℕ) → passes (λ a. sort a || not (test a)) (answers vs) ≡ true) → (a : Answer) → sort a ≡ false → test a ≡ false
+every-but sort test h a other = by-sort (sort a) (test a) (every-answer (λ b. sort b || not (test b)) h a) other
+  where
+    by-sort : (s t : Bool) → s || not t ≡ true → s ≡ false → t ≡ false
+    by-sort false false p q = refl
+    by-sort false true p q = clash cc
+    by-sort true t p q = clash cc
+
 -- no two answers share number and values
 pub paper-injective : (a b : Answer) → numberOf a ≡ numberOf b → valuesOf a ≡ valuesOf b → a ≡ b
 paper-injective a b n v =
@@ -136,6 +146,15 @@ fault-number UnknownType = refl
 fault-number Misplaced = refl
 fault-number Misnumbered = refl
 fault-number NoFinalCr = refl
+
+-- and no other: so it is told from every answer that is none, and each fault from the others
+pub fault-other : (f : Fault) (n : ℕ) → isFaulty n ≡ false → faultNumber f ≢ n
+fault-other f n plain e = never-both (isFaulty n) (ap isFaulty (sym e) ∙ fault-number f) plain
+
+pub fault-injective : (f g : Fault) → faultNumber f ≡ faultNumber g → f ≡ g
+fault-injective f g e =
+    let same : Faulty f 0 ≡ Faulty g 0 = paper-injective (Faulty f 0) (Faulty g 0) e refl in
+    cc same
 
 pub faulty-place : (f : Fault) (place : ℕ) → placeOf (Faulty f place) ≡ place
 faulty-place f place = rw (fault-number f)

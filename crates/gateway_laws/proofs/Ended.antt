@@ -2,12 +2,12 @@
 -- Assumes nothing.
 use mathlib.Core.Path.{_≡_, refl, sym, ap, subst}
 use mathlib.Core.Logic.{_≢_}
-use mathlib.Core.Bool.{Bool, true, false, not, _||_}
+use mathlib.Core.Bool.{Bool, true, false}
 use mathlib.Core.List.{List}
 use Prim.Native.Nat.{ℕ}
+use borrow.Author.Tests.{ne-eqb}
 use lib.Dec.{eqb}
 use lib.ListN.{length}
-use Rattle.memory.proofs.Tests.{clash}
 use Rattle.faults.specs.Faults.{faultOf}
 use Rattle.faults.specs.declared.Checked.{Checked}
 use Rattle.faults.specs.declared.Checked.the-variants as checked
@@ -17,10 +17,11 @@ use Rattle.journal.specs.Verdicts.{judgeOf}
 use Rattle.journal.specs.declared.Ledger.{Ledger}
 use Rattle.journal.specs.declared.Verdict.{Verdict as Judgement}
 use Rattle.line.specs.declared.Line.{Line}
-use Rattle.answers.specs.Paper.{numberOf}
+use Rattle.answers.specs.Paper.{faultNumber, numberOf}
 use Rattle.answers.specs.declared.Answer.{Answer}
-use Rattle.answers.specs.declared.Fault.the-variants.{NoHeader, UnknownType, Misplaced, Misnumbered, NoFinalCr}
-use Rattle.answers.proofs.Paper.{every-answer}
+use Rattle.answers.specs.declared.Fault.{Fault}
+use Rattle.answers.specs.declared.Fault.the-variants.{NoFinalCr}
+use Rattle.answers.proofs.Paper.{every-but, fault-injective}
 use Rattle.looking.specs.Views.{framesOf, textsOf, joinedText}
 use Rattle.looking.specs.Inner.Ready.{Ready}
 use Rattle.looking.specs.Looks.{lookOf}
@@ -54,23 +55,14 @@ is54 a = eqb (numberOf a) 54
 
 -- 54 is of those that decide against a text
 not-against : (a : Answer) → isAgainst (classOf a) ≡ false → is54 a ≡ false
-not-against a h = by-class (isAgainst (classOf a)) (is54 a) (every-answer (λ b. isAgainst (classOf b) || not (is54 b)) (λ vs. refl) a) h
-  where
-    by-class : (c x : Bool) → c || not x ≡ true → c ≡ false → x ≡ false
-    by-class false false e q = refl
-    by-class false true e q = clash cc
-    by-class true x e q = clash cc
+not-against a h = every-but (λ b. isAgainst (classOf b)) is54 (λ vs. refl) a h
 
 -- ---- a text that is complete
 
 checked-ended : (x : Checked) → ((place : ℕ) → x ≢ checked.Faulty NoFinalCr place) → is54 (objection x) ≡ false
 checked-ended checked.Message h = refl
 checked-ended checked.NotText h = refl
-checked-ended (checked.Faulty NoHeader place) h = refl
-checked-ended (checked.Faulty UnknownType place) h = refl
-checked-ended (checked.Faulty Misplaced place) h = refl
-checked-ended (checked.Faulty Misnumbered place) h = refl
-checked-ended (checked.Faulty NoFinalCr place) h = absurd (h place refl)
+checked-ended (checked.Faulty f place) h = ne-eqb (faultNumber f) 54 (λ e. h place (ap (λ (g : Fault). checked.Faulty g place) (fault-injective f NoFinalCr e)))
 
 objection-ended : (text : List ℕ) → endsWithCr text ≡ true → is54 (objectionTo text) ≡ false
 unfolding objectionTo

@@ -2,18 +2,17 @@
 -- Assumes nothing.
 use mathlib.Core.Path.{_≡_, refl, sym, ap, subst, _∙_}
 use mathlib.Core.Logic.{_≢_}
-use mathlib.Core.Bool.{Bool, true, false, not, _||_}
+use mathlib.Core.Bool.{Bool, true, false}
 use mathlib.Core.List.{List, [], _∷_, map}
 use borrow.Author.Tests.{eqb-false}
 use lib.Dec.{eqb, ltb}
 use Rattle.memory.specs.Sizes.{lines}
 use Rattle.memory.specs.Tests.{unless}
-use Rattle.memory.proofs.Tests.{clash}
 use Rattle.room.specs.Room.{todaysShares}
 use Rattle.answers.specs.Paper.{numberOf}
 use Rattle.answers.specs.declared.Answer.{Answer}
 use Rattle.answers.specs.declared.Answer.the-variants.{NoLine}
-use Rattle.answers.proofs.Paper.{every-answer}
+use Rattle.answers.proofs.Paper.{every-but}
 use Rattle.receiving.specs.Verdicts.{verdictOf}
 use Rattle.receiving.specs.Steps.{Memory, stepOf}
 use Rattle.gateway.specs.Events.{lineAt, putBack, eventOf}
@@ -55,17 +54,9 @@ never-gives accepting x o = refl
 never-gives storing x o = refl
 never-gives against x o = refl
 
-abbrev isPlain : Answer → Bool
-isPlain a = isGiving (classOf a) || not (eqb (numberOf a) 8)
-
-not-8 : (gives eight : Bool) → gives || not eight ≡ true → gives ≡ false → eight ≡ false
-not-8 false false p q = refl
-not-8 false true p q = clash cc
-not-8 true eight p q = clash cc
-
 event-answer : (a : Answer) → isGiving (classOf a) ≡ false → inNumbers a ≡ answerInNumbers a
 unfolding inNumbers
-event-answer a h = rw (not-8 (isGiving (classOf a)) (eqb (numberOf a) 8) (every-answer isPlain (λ vs. refl) a) h)
+event-answer a h = rw (every-but (λ b. isGiving (classOf b)) (λ b. eqb (numberOf b) 8) (λ vs. refl) a h)
 
 event-gives : (g : Gateway) (e : Event) (m : Memory) → isGiving (classOf (eventOf todaysShares g e m .handled .answer)) ≡ false
 unfolding eventOf stepOf

@@ -1,7 +1,7 @@
 -- What an event of the gateway comes to, shown once: at an intact state it passes, or the text that it completes is stored, crowded out, or no message.
 -- Assumes nothing.
 use mathlib.Core.Path.{_≡_, refl, sym, ap, subst, _∙_}
-use mathlib.Core.Bool.{Bool, true, false, cond, not, _||_}
+use mathlib.Core.Bool.{Bool, true, false, cond}
 use mathlib.Core.List.{List, []}
 use mathlib.Core.Option.{none, some}
 use Prim.Native.Nat.{ℕ, _<_}
@@ -19,9 +19,9 @@ use Rattle.journal.proofs.Judged.{judged-room}
 use Rattle.answers.specs.Paper.{numberOf}
 use Rattle.answers.specs.Inner.Objections.{isObjection}
 use Rattle.line.specs.declared.Line.{Line}
-use Rattle.answers.specs.declared.Answer.{Answer}
 use Rattle.answers.specs.declared.Answer.the-variants.{NoRoom}
-use Rattle.answers.proofs.Paper.{every-answer, Objects, objection-objects}
+use Rattle.answers.specs.declared.Answer.{Answer}
+use Rattle.answers.proofs.Paper.{every-but, Objects, objection-objects}
 use Rattle.looking.specs.Views.{joinedText}
 use Rattle.looking.specs.Looks.{lookOf}
 use Rattle.deciding.specs.Decisions.{objectionTo, roomOutcome}
@@ -45,7 +45,7 @@ use Rattle.promises.specs.Sending.{Intact}
 use Rattle.promises.specs.Inner.Came.{Passes, Settles, Came, quiet, stored, crowded, against}
 use Rattle.promises.proofs.Sound.{work, ready, event-answer, event-journal}
 
--- a look that is done decides nothing and comes to no fault: only a message that is complete is decided
+-- a look that is done decides nothing and speaks of no damage: only a text that is complete is decided
 abbrev Harmless : Look → Type 0
 Harmless (Done v) = (isDamage (numberOf (v .answer)) ≡ false) × (isDecision (classOf (v .answer)) ≡ false)
 Harmless (Decides n) = Unit {0}
@@ -173,26 +173,16 @@ module _ (s : State) (w : Intact s) (i : ℕ) (k : Kind) (line : i < lines) wher
 
 -- ---- the numbers
 
--- 4 and 31 decide, and 30
-decisions-decide : (a : Answer) → isDecision (classOf a) || not (eqb (numberOf a) 4 || eqb (numberOf a) 31) ≡ true
-decisions-decide = every-answer (λ a. isDecision (classOf a) || not (eqb (numberOf a) 4 || eqb (numberOf a) 31)) (λ vs. refl)
-
-pub undecided-not-30 : (t : Response) → decides t ≡ false → eqb (answered t) 30 ≡ false
-undecided-not-30 t e = by-test (decides t) (eqb (answered t) 30) (every-answer (λ a. isDecision (classOf a) || not (eqb (numberOf a) 30)) (λ vs. refl) (t .answer)) e
-  where
-    by-test : (d x : Bool) → d || not x ≡ true → d ≡ false → x ≡ false
-    by-test false false h q = refl
-    by-test false true h q = clash cc
-    by-test true x h q = clash cc
-
-neither : (d x y : Bool) → d || not (x || y) ≡ true → d ≡ false → (x ≡ false) × (y ≡ false)
-neither false false false e q = (refl, refl)
-neither false false true e q = clash cc
-neither false true y e q = clash cc
-neither true x y e q = clash cc
+-- 4, 30 and 31 decide
+abbrev deciding : Answer → Bool
+deciding a = isDecision (classOf a)
 
 pub undecided-other : (t : Response) → decides t ≡ false → (eqb (answered t) 4 ≡ false) × (eqb (answered t) 31 ≡ false)
-undecided-other t e = neither (decides t) (eqb (answered t) 4) (eqb (answered t) 31) (decisions-decide (t .answer)) e
+undecided-other t e =
+    (every-but deciding (λ a. eqb (numberOf a) 4) (λ vs. refl) (t .answer) e, every-but deciding (λ a. eqb (numberOf a) 31) (λ vs. refl) (t .answer) e)
+
+pub undecided-not-30 : (t : Response) → decides t ≡ false → eqb (answered t) 30 ≡ false
+undecided-not-30 t e = every-but deciding (λ a. eqb (numberOf a) 30) (λ vs. refl) (t .answer) e
 
 -- what is no message is answered an objection: neither 4 nor 31, nor one that speaks of damage
 pub objected : (t : List ℕ) (n : ℕ) → n ≡ numberOf (objectionTo t) → Objects n

@@ -2,7 +2,7 @@
 -- Assumes nothing.
 use mathlib.Core.Path.{_≡_, refl, sym, ap, subst, _∙_}
 use mathlib.Core.Bool.{true, false}
-use mathlib.Core.List.{List, [], _∷_}
+use mathlib.Core.List.{List}
 use mathlib.Core.Option.{none, some}
 use Prim.Native.Nat.{ℕ, _<_}
 use native.Mathlib.Omega.{arith}
@@ -20,7 +20,7 @@ use Rattle.answers.specs.Paper.{faultNumber, isFaulty, numberOf, placeOf}
 use Rattle.answers.specs.declared.Answer.{Answer}
 use Rattle.answers.specs.declared.Answer.the-variants.{Faulty as IsFaulty}
 use Rattle.answers.specs.declared.Fault.{Fault}
-use Rattle.answers.proofs.Paper.{fault-number, faulty-place, paper-injective}
+use Rattle.answers.proofs.Paper.{fault-other, fault-injective, faulty-place}
 use Rattle.deciding.specs.Decisions.{objection, objectionTo}
 use Rattle.looking.specs.declared.Kind.{Kind}
 use Rattle.promises.specs.Machine.{State, Sound}
@@ -35,18 +35,17 @@ use Rattle.promises.proofs.Came.{comes-to, objected, objected-with}
 
 -- a fault's number and place are those of that fault and place alone
 told-faulty : (x : Checked) (a : Answer) → a ≡ objection x → (f : Fault) (place : ℕ) → numberOf a ≡ faultNumber f → placeOf a ≡ place → x ≡ Faulty f place
-told-faulty Message a e f place n p = let z : isFaulty 30 ≡ isFaulty (faultNumber f) = ap isFaulty (sym (ap numberOf e) ∙ n) in never-both (isFaulty 30) (z ∙ fault-number f) refl
-told-faulty NotText a e f place n p = let z : isFaulty 30 ≡ isFaulty (faultNumber f) = ap isFaulty (sym (ap numberOf e) ∙ n) in never-both (isFaulty 30) (z ∙ fault-number f) refl
+told-faulty Message a e f place n p = absurd (fault-other f 30 refl (sym n ∙ ap numberOf e))
+told-faulty NotText a e f place n p = absurd (fault-other f 30 refl (sym n ∙ ap numberOf e))
 told-faulty (Faulty g q) a e f place n p =
     let at : q ≡ place = sym (faulty-place g q) ∙ sym (ap placeOf e) ∙ p in
-    let same : IsFaulty g q ≡ IsFaulty f place = paper-injective (IsFaulty g q) (IsFaulty f place) (sym (ap numberOf e) ∙ n) (ap (λ (v : ℕ). v ∷ []) at) in
-    cc same
+    let kind : g ≡ f = fault-injective g f (sym (ap numberOf e) ∙ n) in
+    λ z. Faulty (kind z) (at z)
 
 told-foreign : (x : Checked) (a : Answer) → a ≡ objection x → numberOf a ≡ 30 → (x ≡ Message → ⊥) → x ≡ NotText
 told-foreign Message a e n other = absurd (other refl)
 told-foreign NotText a e n other = refl
-told-foreign (Faulty g q) a e n other =
-    let z : isFaulty (faultNumber g) ≡ isFaulty 30 = ap isFaulty (sym (ap numberOf e) ∙ n) in never-both (isFaulty 30) (sym z ∙ fault-number g) refl
+told-foreign (Faulty g q) a e n other = absurd (fault-other g 30 refl (sym (ap numberOf e) ∙ n))
 
 module _ (s : State) (i : ℕ) (k : Kind) where
   abbrev n : ℕ
@@ -63,13 +62,10 @@ module _ (s : State) (i : ℕ) (k : Kind) where
     right : (x : Checked) → faultOf t ≡ x → (x ≡ Message → ⊥) → ⊥
     right x e other = other (sym e ∙ message-fault _ t m)
 
-    not-faulty : (c : ℕ) → n ≡ c → isFaulty c ≡ false → (f : Fault) → numberTo s i k ≡ faultNumber f → ⊥
-    not-faulty c is plain f e = never-both (isFaulty c) (ap isFaulty (sym is ∙ e) ∙ fault-number f) plain
-
     decided : (c : ℕ) → n ≡ c → isFaulty c ≡ false → eqb c 30 ≡ false
         → ((f : Fault) (place : ℕ) → Exactly ((n ≡ faultNumber f) × (placeTo s i k ≡ place)) (faultOf t ≡ Faulty f place)) × Exactly (n ≡ 30) (faultOf t ≡ NotText)
     decided c is plain no-30 = (
-      λ f place. (λ e. absurd (not-faulty c is plain f (e .0)), λ e. absurd (right (Faulty f place) e (λ q. clash cc))),
+      λ f place. (λ e. absurd (fault-other f c plain (sym (e .0) ∙ is)), λ e. absurd (right (Faulty f place) e (λ q. clash cc))),
       (λ e. never-both (eqb c 30) (eq-eqb c 30 (sym is ∙ e)) no-30, λ e. absurd (right NotText e (λ q. clash cc))),
     )
 

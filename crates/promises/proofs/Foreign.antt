@@ -4,6 +4,7 @@ use mathlib.Core.Path.{_≡_, refl, ap, _∙_}
 use mathlib.Core.Bool.{false}
 use mathlib.Core.List.{List, [], _∷_}
 use Prim.Native.Nat.{ℕ, _<_}
+use borrow.Author.Tests.{ne-eqb}
 use lib.Dec.{eqb}
 use Rattle.memory.specs.Sizes.{lines}
 use Rattle.faults.specs.Faults.{faultOf}
@@ -11,7 +12,7 @@ use Rattle.faults.specs.declared.Checked.{Checked}
 use Rattle.faults.specs.declared.Checked.the-variants.{Faulty}
 use Rattle.answers.specs.Paper.{faultNumber, numberOf}
 use Rattle.answers.specs.declared.Fault.{Fault}
-use Rattle.answers.specs.declared.Fault.the-variants.{NoHeader, UnknownType, Misplaced, Misnumbered, NoFinalCr}
+use Rattle.answers.proofs.Paper.{fault-other}
 use Rattle.deciding.specs.Decisions.{objection, objectionTo}
 use Rattle.journal.specs.Removal.{takeOf as takeEntry}
 use Rattle.journal.specs.declared.Took.{Took}
@@ -30,16 +31,9 @@ use Rattle.promises.proofs.Came.{comes-to, undecided-not-30}
 use Rattle.promises.proofs.Kept.{keeps, fresh-sound}
 use Rattle.promises.proofs.Clean.{offered-faulty, keeps-clean, fresh-clean}
 
-fault-not-30 : (f : Fault) → eqb (faultNumber f) 30 ≡ false
-fault-not-30 NoHeader = refl
-fault-not-30 UnknownType = refl
-fault-not-30 Misplaced = refl
-fault-not-30 Misnumbered = refl
-fault-not-30 NoFinalCr = refl
-
 objection-not-30 : (t : List ℕ) (f : Fault) (place : ℕ) → faultOf t ≡ Faulty f place → eqb (numberOf (objectionTo t)) 30 ≡ false
 unfolding objectionTo
-objection-not-30 t f place e = ap (λ (x : Checked). eqb (numberOf (objection x)) 30) e ∙ fault-not-30 f
+objection-not-30 t f place e = ap (λ (x : Checked). eqb (numberOf (objection x)) 30) e ∙ ne-eqb (faultNumber f) 30 (fault-other f 30 refl)
 
 -- an event: what it completes is of allowed bytes
 came-not-30 : (s : State) → Clean s → (i : ℕ) → i < lines → (k : Kind) → Came s i k → eqb (answered (answer s i k)) 30 ≡ false

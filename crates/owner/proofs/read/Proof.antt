@@ -19,7 +19,7 @@ use Rattle.owner.proofs.read.Tie as tie
 
 -- the places, each from one behind it: the function's start, the text found a message, room found, the rows filled
 abbrev start : tie.After-is-message-by → tie.Start
-start c = c .before .before .before .before .before .before
+start c = let types = c .before .before .before in types .before .before .before
 
 abbrev a-message : tie.Else2 → tie.Else1
 a-message c = c .before .before .before
@@ -31,7 +31,7 @@ abbrev roomy : tie.After-fill-rows → tie.Else2
 roomy c = c .before .before .before .before
 
 abbrev filled : tie.After-slice-known7 → tie.After-fill-rows
-filled c = c .before .before .before .before .before .before
+filled c = let lent = c .before .before .before in lent .before .before .before
 
 -- past the first test the text is a message
 is-message : (c : tie.Else1) → let a = start (c .before) .args in isMessageBy (a .d) (a .text .now) ≡ true
