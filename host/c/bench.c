@@ -142,13 +142,17 @@ static inline void put_back(void)
 static uint8_t text[TEXT];
 static size_t length;
 
+/* The delimiters of the texts that are made. */
+static const uint8_t delimiters[NGACHODUI_DELIMITERS] = { '|', '\\', '^', '&' };
+
 /* A record with its number, filled up to `size` bytes where that is more than it needs. */
-static void add_record(const char *start, unsigned number, size_t size)
+static void add_record(char type, unsigned number, size_t size)
 {
-    size_t n = length + (size_t)sprintf((char *)text + length, "%s%u", start, number);
+    const char field = (char)delimiters[0];
+    size_t n = length + (size_t)sprintf((char *)text + length, "%c%c%u", type, field, number);
     const size_t end = length + size;
     if (n + 1 < end)
-        text[n++] = '|';
+        text[n++] = (uint8_t)field;
     for (; n + 1 < end; n++)
         text[n] = (uint8_t)('a' + n % 26);
     text[n++] = CR;
@@ -161,23 +165,22 @@ static void make_message(size_t size, bool many)
     enum { END = 4, LONG = 900, LEAST = 12 };
     if (size < 20 || size > TEXT)
         stop("a message has 20 to 4,000 bytes here");
-    length = (size_t)sprintf((char *)text, "H|\\^&\r");
+    length = (size_t)sprintf((char *)text, "H%.4s\r", (const char *)delimiters);
     if (many) {
         unsigned orders = 0;
         if (size - length >= 32)
-            add_record("P|", 1, 0);
+            add_record('P', 1, 0);
         while (size - length >= 80) {
-            add_record("O|", ++orders, 0);
+            add_record('O', ++orders, 0);
             for (unsigned results = 1; results <= 9; results++)
-                add_record("R|", results, 0);
+                add_record('R', results, 0);
         }
     }
     for (unsigned number = 1; size - length > END; number++) {
         size_t left = size - length - END;
-        add_record("M|", number, left > LONG + LEAST ? LONG : left);
+        add_record('M', number, left > LONG + LEAST ? LONG : left);
     }
-    length += (size_t)sprintf((char *)text + length, "L|1") + 1;
-    text[length - 1] = CR;
+    add_record('L', 1, 0);
     if (length != size || !plain_is_message(text, length))
         stop("the message is not what it should be");
 }
@@ -201,7 +204,7 @@ static void put_check(const uint8_t *frame, uint8_t *end)
     end[2] = (uint8_t)"0123456789ABCDEF"[sum & 15];
 }
 
-/* A wrong number for the last record, `L|1`, which has the last frame to itself: a fault that is met at the very end. */
+/* A wrong number for the last record, L, which has the last frame to itself: a fault that is met at the very end. */
 static void misnumber_last(void)
 {
     enum { RECORD = 4 };
@@ -431,16 +434,16 @@ FOR_EACH_SIDE void over_text(enum side side, uint64_t count, enum text_function 
             number = ngachodui_is_message(text, length) ? 0 : NGACHODUI_MALFORMED;
         } else if (side == LIBRARY) {
             ngachodui_made made = function == CUT ? ngachodui_cut(text, length, out, sizeof out)
-                                : function == ESCAPE ? ngachodui_escape(text, length, out, sizeof out)
-                                : ngachodui_unescape(text, length, out, sizeof out);
+                                : function == ESCAPE ? ngachodui_escape(delimiters, text, length, out, sizeof out)
+                                : ngachodui_unescape(delimiters, text, length, out, sizeof out);
             number = made.number;
             out_length = made.length;
         } else if (side == PLAIN && function == CHECK) {
             number = plain_is_message(text, length) ? 0 : NGACHODUI_MALFORMED;
         } else if (side == PLAIN) {
             number = function == CUT ? plain_cut(text, length, out, sizeof out, &out_length).number
-                   : function == ESCAPE ? plain_escape(text, length, out, sizeof out, &out_length)
-                   : plain_unescape(text, length, out, sizeof out, &out_length);
+                   : function == ESCAPE ? plain_escape(delimiters, text, length, out, sizeof out, &out_length)
+                   : plain_unescape(delimiters, text, length, out, sizeof out, &out_length);
         }
         KEEP_MEMORY();
         if (number != 0)
@@ -482,11 +485,11 @@ static void make_text(size_t size, bool many, bool escaped)
     if (size > TEXT)
         stop("a text has up to 4,000 bytes here");
     for (size_t i = 0; i < size; i++)
-        text[i] = many && i % 4 == 3 ? (uint8_t)"|^\\&"[i / 4 % 4] : (uint8_t)('a' + i % 26);
+        text[i] = many && i % 4 == 3 ? delimiters[i / 4 % 4] : (uint8_t)('a' + i % 26);
     length = size;
     if (escaped && many) {
         length = size * 2 / 3;
-        if (plain_escape(text, length, out, sizeof out, &length) != PLAIN_NOTHING || length > TEXT)
+        if (plain_escape(delimiters, text, length, out, sizeof out, &length) != PLAIN_NOTHING || length > TEXT)
             stop("the text is not escaped");
         memcpy(text, out, length);
         memset(out, 0, sizeof out);
