@@ -6,7 +6,8 @@
  * SIDE is library, plain or none. With none all is done but the call of the gateway, so that what it
  * costs to call it again and again can be subtracted. Standard output has a checksum of all answers
  * and of all memory at the end, which both sides must share, and how many operations were done (for
- * bytes: how many bytes).
+ * bytes: how many bytes). An operation that reads a text is then done once with other delimiters, for
+ * the checksum alone.
  *
  *     bench OPERATION times ROUNDS [SIZE]
  *
@@ -143,7 +144,9 @@ static uint8_t text[TEXT];
 static size_t length;
 
 /* The delimiters of the texts that are made. */
-static const uint8_t delimiters[NGACHODUI_DELIMITERS] = { '|', '\\', '^', '&' };
+static const uint8_t standard[NGACHODUI_DELIMITERS] = { '|', '\\', '^', '&' };
+static const uint8_t others[NGACHODUI_DELIMITERS] = { '!', '~', '$', '%' };
+static const uint8_t *delimiters = standard;
 
 /* A record with its number, filled up to `size` bytes where that is more than it needs. */
 static void add_record(char type, unsigned number, size_t size)
@@ -532,7 +535,17 @@ static bool starts(struct operation o, const char *start)
     return strncmp(o.name, start, strlen(start)) == 0;
 }
 
-/* What an operation works on, made once. */
+static bool takes_message(struct operation o)
+{
+    return starts(o, "decided-") || starts(o, "faulty-") || starts(o, "check-") || starts(o, "cut-") || starts(o, "read-");
+}
+
+static bool takes_component(struct operation o)
+{
+    return starts(o, "escape-") || starts(o, "unescape-");
+}
+
+/* What an operation works on, made once for its delimiters. */
 static void prepare(struct operation o)
 {
     const bool many = strstr(o.name, "-many") != NULL;
@@ -542,9 +555,9 @@ static void prepare(struct operation o)
         length = (size_t)sprintf((char *)text, "H|\\^&|A\rL|1\r");
     else if (is(o, "taken-few"))
         make_message(TEXT, false);
-    else if (starts(o, "escape-") || starts(o, "unescape-"))
+    else if (takes_component(o))
         make_text(o.size ? o.size : TEXT, many, starts(o, "unescape-"));
-    else if (starts(o, "decided-") || starts(o, "faulty-") || starts(o, "check-") || starts(o, "cut-") || starts(o, "read-"))
+    else if (takes_message(o))
         make_message(o.size ? o.size : TEXT, many);
     if (starts(o, "decided-") || starts(o, "faulty-"))
         cut_message();
@@ -641,6 +654,12 @@ int main(int argc, char **argv)
     if (side == NONE && strcmp(argv[2], "none") != 0)
         stop("the side is library, plain or none");
     run(side, o, count);
+    const uint64_t operations = done;
+    if (takes_message(o) || takes_component(o)) {
+        delimiters = others;
+        prepare(o);
+        run(side, o, 1);
+    }
 
     /* The counts and the memories, which lie alike on both sides. */
     for (unsigned line = 0; line < LINES; line++)
@@ -651,6 +670,6 @@ int main(int argc, char **argv)
     note_bytes(library.frames, sizeof library.frames);
     note_bytes(buffer, sizeof buffer);
     write_number(stdout, "checksum ", checksum);
-    write_number(stdout, "operations ", done);
+    write_number(stdout, "operations ", operations);
     return 0;
 }
