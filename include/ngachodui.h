@@ -69,7 +69,6 @@ enum {
     NGACHODUI_LINES = 8,                         /* the lines are numbered 0 to 7 */
     NGACHODUI_NUMBERS = 8 * NGACHODUI_LINES,     /* the numbers of all lines, of 16 bits */
     NGACHODUI_COUNTS = NGACHODUI_LINES + 1,      /* the counts: one for each line, one of them all */
-    NGACHODUI_DELIMITERS = 4,
 
     /* What is never exceeded: memory for so many is never too short. */
     NGACHODUI_TEXT_LIMIT = 4000,                 /* bytes of a message, for a taking */
@@ -370,12 +369,10 @@ ngachodui_made ngachodui_read(const uint8_t *text, size_t text_length,
 
 /* Writes a text so that it can stand in a field: | as &F&, ^ as &S&, \ as &R&, & as &E&. Never 46. At
  * most three times the text's length. [R19] */
-#define ngachodui_escape ngachodui_escape_2
-#define ngachodui_unescape ngachodui_unescape_2
-ngachodui_made ngachodui_escape(const uint8_t delimiters[NGACHODUI_DELIMITERS], const uint8_t *text, size_t text_length, uint8_t *out, size_t out_length);
+ngachodui_made ngachodui_escape(const uint8_t *text, size_t text_length, uint8_t *out, size_t out_length);
 
 /* The way back. 46: a | \ or ^ stands there, or an & that begins none of the four escapes. [R18] */
-ngachodui_made ngachodui_unescape(const uint8_t delimiters[NGACHODUI_DELIMITERS], const uint8_t *component, size_t component_length,
+ngachodui_made ngachodui_unescape(const uint8_t *component, size_t component_length,
                                   uint8_t *out, size_t out_length);
 
 #ifdef __cplusplus

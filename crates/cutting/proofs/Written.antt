@@ -17,7 +17,6 @@ use Rattle.framing.specs.Writing.{frameOf, putIn, FramePut}
 use Rattle.frame.specs.declared.End.{End}
 use Rattle.framing.specs.declared.Written.{Written}
 use Rattle.framing.proofs.Put.{length-collected}
-use Rattle.kinds.specs.declared.Delimiters.{Delimiters}
 use Rattle.faults.specs.Message.{isMessage}
 use Rattle.faults.specs.Faults.{faultOf}
 use Rattle.faults.specs.declared.Checked.{Checked}

@@ -9,7 +9,6 @@ use lib.ListN.{length}
 use Rattle.memory.specs.Sizes.{messageLimit}
 use Rattle.memory.proofs.Tests.{is-false}
 use Rattle.room.specs.Room.{todaysShares}
-use Rattle.kinds.specs.declared.Delimiters.{Delimiters}
 use Rattle.faults.specs.Message.{isMessage}
 use Rattle.faults.specs.Faults.{faultOf}
 use Rattle.faults.specs.declared.Checked.{Checked}

@@ -14,10 +14,11 @@ use borrow.Author.Tests.{le-leb, lt-leb, eq-eqb, ne-eqb, leb-true}
 use native.Mathlib.Nat.{zero-add}
 use Rattle.memory.specs.Moves.{copied}
 use Rattle.memory.proofs.Parts.{sets-splice}
+use Rattle.kinds.specs.Delimiters.{areDelimiters}
 use Rattle.kinds.specs.declared.Delimiters.{Delimiters}
 use Rattle.escaping.specs.Letters.{letterFor}
-use Rattle.escaping.specs.Escape.{escapeOf, escaped, escapeAnswer, Escaping}
-use Rattle.escaping.specs.declared.Put.the-variants.{Done, NotFitting}
+use Rattle.escaping.specs.Escape.{escapeOf, escaped, escapeAnswer, escapedOver, Escaping}
+use Rattle.escaping.specs.declared.Put.the-variants.{Done, NotFitting, BadDelimiters}
 
 pub escape-one : (d : Delimiters) (x : ℕ) → letterFor d x ≡ 0 → escapeOf d x ≡ x ∷ []
 unfolding escapeOf
@@ -71,17 +72,21 @@ pub three-less : (d : Delimiters) (s : List ℕ) (i o t : ℕ) → i < length s 
 three-less d s i o t h z e = let l = ap length (escape-three d (getD s i 0) z) in omega (arith, length-more d s i h, l, e)
 
 -- what each way out of escaping says
-module _ (d : Delimiters) (text out : List ℕ) where
+pub escape-bad : (d : Delimiters) (text out : List ℕ) → areDelimiters d ≡ false → Escaping d text out BadDelimiters out
+unfolding escapeAnswer escapedOver
+escape-bad d text out bad = record { answer = rw bad; after = rw bad }
+
+module _ (d : Delimiters) (text out : List ℕ) (four : areDelimiters d ≡ true) where
   pub escape-short : leb (length (escaped d text)) (length out) ≡ false → Escaping d text out NotFitting out
-  unfolding escapeAnswer copied
+  unfolding escapeAnswer escapedOver copied
   escape-short e =
       let over : leb (0 + length (escaped d text)) (length out) ≡ false = rw zero-add e in
-      record { answer = rw over; after = rw over }
+      record { answer = rw (four, over); after = rw (four, over) }
 
   pub escape-done : {n : ℕ} {out′ : List ℕ} → leb (length (escaped d text)) (length out) ≡ true → n ≡ length (escaped d text) → out′ ≡ sets out 0 (escaped d text)
       → Escaping d text out (Done n) out′
-  unfolding escapeAnswer copied
+  unfolding escapeAnswer escapedOver copied
   escape-done e k h =
       let yes : leb (0 + length (escaped d text)) (length out) ≡ true = rw zero-add e in
       let fits : 0 + length (escaped d text) ≤ length out = leb-true (0 + length (escaped d text)) (length out) yes in
-      record { answer = rw (yes, k); after = rw yes (h ∙ sets-splice out 0 (escaped d text) fits) }
+      record { answer = rw (four, yes, k); after = rw (four, yes) (h ∙ sets-splice out 0 (escaped d text) fits) }

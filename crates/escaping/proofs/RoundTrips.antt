@@ -1,7 +1,7 @@
 -- The two round trips, over any four different delimiters: a text that is escaped and unescaped comes back, and so does a component that is taken, unescaped and escaped.
 -- Assumes nothing.
 use mathlib.Core.Path.{_≡_, refl, sym, ap, _∙_}
-use mathlib.Core.Bool.{Bool, true, false, not, _&&_}
+use mathlib.Core.Bool.{true, not}
 use mathlib.Core.List.{List, [], _∷_, _++_}
 use mathlib.Core.Option.{some}
 use Prim.Native.Nat.{ℕ}
@@ -10,8 +10,9 @@ use native.Mathlib.Decide.{ℕ-discrete}
 use lib.Dec.{eqb}
 use borrow.Author.Tests.{eq-eqb, ne-eqb, not-true}
 use Rattle.memory.proofs.Tests.{clash, never-both, six}
-use Rattle.kinds.specs.Delimiters.{standard, different}
+use Rattle.kinds.specs.Delimiters.{different, areDelimiters}
 use Rattle.kinds.specs.declared.Delimiters.{Delimiters}
+use Rattle.kinds.proofs.Allowed.{allowed-different}
 use Rattle.escaping.specs.Letters.{letterFor, meant}
 use Rattle.escaping.specs.Escape.{escapeOf, escaped}
 use Rattle.escaping.specs.Unescape.{front, unescaped}
@@ -105,7 +106,10 @@ module _ (d : Delimiters) (good : different d ≡ true) where
   pub plain-escaped : (c t : List ℕ) → unescaped d c ≡ some t → escaped d t ≡ c
   plain-escaped c t e = back (reads d c t e)
 
--- the four standard delimiters
-pub standard-different : different standard ≡ true
-unfolding different
-standard-different = refl
+-- both for every allowed four
+module _ (d : Delimiters) (four : areDelimiters d ≡ true) where
+  pub allowed-back : (t : List ℕ) → unescaped d (escaped d t) ≡ some t
+  allowed-back t = escaped-plain d t
+
+  pub allowed-forth : (c t : List ℕ) → unescaped d c ≡ some t → escaped d t ≡ c
+  allowed-forth c t e = plain-escaped d (allowed-different d four) c t e

@@ -16,11 +16,12 @@ use Rattle.memory.specs.Tests.{is, isOneOf}
 use Rattle.memory.specs.Moves.{copied}
 use Rattle.memory.proofs.Tests.{clash, never-both}
 use Rattle.memory.proofs.Parts.{sets-splice}
+use Rattle.kinds.specs.Delimiters.{areDelimiters}
 use Rattle.kinds.specs.declared.Delimiters.{Delimiters}
 use Rattle.escaping.specs.Letters.{letterFor, meant}
 use Rattle.escaping.specs.Unescape.{itself, front, unescaped, behindEscape, unescapeAnswer, unescapedOver, Unescaping}
 use Rattle.escaping.specs.Inner.Passes.{letters, sizeOf}
-use Rattle.escaping.specs.declared.Put.the-variants.{Done, Malformed, NotFitting}
+use Rattle.escaping.specs.declared.Put.the-variants.{Done, Malformed, NotFitting, BadDelimiters}
 use Rattle.escaping.specs.declared.Measured.{Measured}
 use Rattle.escaping.specs.declared.Measured.the-variants.{Of, Wrong}
 
@@ -244,21 +245,25 @@ as-long (byte {b} o l r) e = ap (λ (s : List ℕ). b ∷ s) (as-long r (omega a
 as-long (escape p q m r) e = absurd (omega (arith, shorter r))
 
 -- what each way out of unescaping says
-module _ (d : Delimiters) (c out : List ℕ) where
+pub unescape-bad : (d : Delimiters) (c out : List ℕ) → areDelimiters d ≡ false → Unescaping d c out BadDelimiters out
+unfolding unescapeAnswer unescapedOver
+unescape-bad d c out bad = record { answer = rw bad; after = rw bad }
+
+module _ (d : Delimiters) (c out : List ℕ) (four : areDelimiters d ≡ true) where
   pub unescape-malformed : unescaped d c ≡ none → Unescaping d c out Malformed out
   unfolding unescapeAnswer unescapedOver
-  unescape-malformed e = record { answer = rw e; after = rw e }
+  unescape-malformed e = record { answer = rw (four, e); after = rw (four, e) }
 
   module _ (t : List ℕ) (n : ℕ) (e : unescaped d c ≡ some t) (k : n ≡ length t) where
     pub unescape-short : length out < n → Unescaping d c out NotFitting out
     unfolding unescapeAnswer unescapedOver copied
     unescape-short h =
         let over : leb (0 + length t) (length out) ≡ false = lt-leb (0 + length t) (length out) (omega arith) in
-        record { answer = rw (e, over); after = rw (e, over) }
+        record { answer = rw (four, e, over); after = rw (four, e, over) }
 
     pub unescape-done : {out′ : List ℕ} → n ≤ length out → out′ ≡ sets out 0 t → Unescaping d c out (Done n) out′
     unfolding unescapeAnswer unescapedOver copied
     unescape-done h w =
         let fits : 0 + length t ≤ length out = omega arith in
         let yes : leb (0 + length t) (length out) ≡ true = le-leb (0 + length t) (length out) fits in
-        record { answer = rw (e, yes, k); after = rw (e, yes) (w ∙ sets-splice out 0 t fits) }
+        record { answer = rw (four, e, yes, k); after = rw (four, e, yes) (w ∙ sets-splice out 0 t fits) }

@@ -6,12 +6,13 @@ use mathlib.Core.List.{List, [], _∷_}
 use mathlib.Core.Bool.{cond}
 use mathlib.Core.Option.{Option, none, some}
 use lib.ListN.{length}
-use Rattle.memory.specs.Tests.{is, isOneOf}
+use Rattle.memory.specs.Tests.{unless, is, isOneOf}
 use Rattle.memory.specs.Moves.{fitsAt, copied}
+use Rattle.kinds.specs.Delimiters.{areDelimiters}
 use Rattle.kinds.specs.declared.Delimiters.{Delimiters}
 use Rattle.escaping.specs.Letters.{meant}
 use Rattle.escaping.specs.declared.Put.{Put}
-use Rattle.escaping.specs.declared.Put.the-variants.{Done, Malformed, NotFitting}
+use Rattle.escaping.specs.declared.Put.the-variants.{Done, Malformed, NotFitting, BadDelimiters}
 
 -- a byte that stands for itself; none for a bare delimiter
 abbrev pub itself : Delimiters → ℕ → Option ℕ
@@ -35,13 +36,13 @@ abbrev mutual
   behindEscape d (l ∷ []) = none
   behindEscape d (l ∷ b ∷ bs) = cond (is (d .escape) b) (front (meant d l) (unescaped d bs)) none
 
--- the answer to an unescaping: 46 where the component is refused, then 47 where the memory is too short, else the length [A46, A47, O6, R18]
+-- the answer to an unescaping: 55 where the four are not allowed, 46 where the component is refused, 47 where the memory is too short, else the length [A46, A47, A55, O6, R18]
 abbrev pub answerTo : Option (List ℕ) → List ℕ → Put
 answerTo none out = Malformed
 answerTo (some t) out = cond (fitsAt out 0 t) (Done (length t)) NotFitting
 
 unfoldable pub unescapeAnswer : Delimiters → List ℕ → List ℕ → Put
-unescapeAnswer d c out = answerTo (unescaped d c) out
+unescapeAnswer d c out = unless (areDelimiters d) BadDelimiters (answerTo (unescaped d c) out)
 
 -- the memory after it: unchanged on a refusal
 abbrev pub writtenOver : Option (List ℕ) → List ℕ → List ℕ
@@ -49,7 +50,7 @@ writtenOver none out = out
 writtenOver (some t) out = copied out 0 t
 
 unfoldable pub unescapedOver : Delimiters → List ℕ → List ℕ → List ℕ
-unescapedOver d c out = writtenOver (unescaped d c) out
+unescapedOver d c out = unless (areDelimiters d) out (writtenOver (unescaped d c) out)
 
 -- what unescaping says: the answer, and the memory after it [R21]
 pub record Unescaping (d : Delimiters) (c out : List ℕ) (r : Put) (out′ : List ℕ) : Type 0 where

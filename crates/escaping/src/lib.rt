@@ -15,11 +15,13 @@ const REPEAT_LETTER: u8 = b'R';
 
 const ESCAPE_LETTER: u8 = b'E';
 
-// What becomes of a text that is escaped or unescaped: it is put out, with this length; it has a wrong escape; the memory is too short.
+// What becomes of a text that is escaped or unescaped: it is put out, with this length; it has a wrong escape; the memory is too short; the
+// four that were handed over are not allowed.
 pub enum Put {
     Done(usize),
     Malformed,
     NotFitting,
+    BadDelimiters,
 }
 
 // The length of a component without its escapes, if they are right.
@@ -28,10 +30,13 @@ enum Measured {
     Wrong,
 }
 
-// Escapes a text: | ^ \ & become &F& &S& &R& &E&.
+// Escapes a text: with the delimiters | \ ^ & the bytes | ^ \ & become &F& &S& &R& &E&.
 pub fn escape(d: Delimiters, text: &[u8], out: &mut [u8]) -> Put
     ensures { λ r. ⌜ Escaping d (now (text .entry)) (now (out .entry)) r (now (out .exit)) ⌝ }
 {
+    if !kinds::are_delimiters(d) {
+        return Put::BadDelimiters;
+    }
     if !with_escapes::fits(d, text, out.len()) {
         return Put::NotFitting;
     }
@@ -43,6 +48,9 @@ pub fn escape(d: Delimiters, text: &[u8], out: &mut [u8]) -> Put
 pub fn unescape(d: Delimiters, text: &[u8], out: &mut [u8]) -> Put
     ensures { λ r. ⌜ Unescaping d (now (text .entry)) (now (out .entry)) r (now (out .exit)) ⌝ }
 {
+    if !kinds::are_delimiters(d) {
+        return Put::BadDelimiters;
+    }
     let m = without_escapes::measure(d, text);
     match m {
         Measured::Of(n) => {

@@ -3,7 +3,7 @@
 -- Assumes nothing.
 use mathlib.Core.Path.{_≡_, refl, sym, ap, subst, _∙_}
 use mathlib.Core.Bool.{Bool, true, false, _&&_}
-use mathlib.Core.List.{List, [], _∷_}
+use mathlib.Core.List.{List, _∷_}
 use Prim.Native.Nat.{ℕ, _<_, _≤_}
 use native.Mathlib.Omega.{arith}
 use native.Mathlib.Decide.{decLt}
@@ -12,7 +12,6 @@ use lib.ListN.{length, getD}
 use lib.Seq.{getD-take}
 use borrow.Author.Tests.{lt-leb}
 use Rattle.memory.specs.Tests.{is, find}
-use Rattle.memory.proofs.Tests.{clash}
 use Rattle.characters.specs.Control.{cr}
 use Rattle.kinds.specs.Kinds.{letterOf}
 use Rattle.kinds.specs.Delimiters.{standard, delimitersOf, areDelimiters}

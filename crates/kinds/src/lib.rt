@@ -6,6 +6,9 @@ ghost use Rattle.kinds.specs.Kinds.{kindOf, mayFollow};
 ghost use Rattle.kinds.specs.Header.{isHeader};
 ghost use Rattle.kinds.specs.Inner.Rows.{rowOf};
 
+// How many delimiters a header names.
+pub const DELIMITERS: usize = 4;
+
 // The delimiters of a message: between fields, between repeats, between components, and around an escape.
 pub struct Delimiters {
     pub field: u8,
@@ -28,7 +31,7 @@ impl Delimiters {
     }
 
     // Four bytes, in the order in which a header names them.
-    pub fn of_four(four: &[u8; 4]) -> Delimiters
+    pub fn of_four(four: &[u8; DELIMITERS]) -> Delimiters
         ensures { λ r. ⌜ r ≡ fourAt 0 (now (four .entry)) ⌝ }
     {
         Delimiters {

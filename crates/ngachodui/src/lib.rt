@@ -92,20 +92,29 @@ pub extern "C" fn ngachodui_cut(text: &[u8], out: &mut [u8]) -> Made
     texts::cut(text, out)
 }
 
-// Escapes the delimiters of a text.
+// Escapes the delimiters of a text, four bytes in the order of a header. The 2: an object that was compiled before they were handed over
+// finds no such function.
 #[no_mangle]
-pub extern "C" fn ngachodui_escape(text: &[u8], out: &mut [u8]) -> Made
-    ensures { λ r. ⌜ Escaped (now (text .entry)) (now (out .entry)) r (now (out .exit)) ⌝ }
+pub extern "C" fn ngachodui_escape_2(
+    delimiters: &[u8; kinds::DELIMITERS],
+    text: &[u8],
+    out: &mut [u8],
+) -> Made
+    ensures { λ r. ⌜ Escaped (now (delimiters .entry)) (now (text .entry)) (now (out .entry)) r (now (out .exit)) ⌝ }
 {
-    texts::escape(text, out)
+    texts::escape(delimiters, text, out)
 }
 
 // Takes the escapes out of a component.
 #[no_mangle]
-pub extern "C" fn ngachodui_unescape(component: &[u8], out: &mut [u8]) -> Made
-    ensures { λ r. ⌜ Unescaped (now (component .entry)) (now (out .entry)) r (now (out .exit)) ⌝ }
+pub extern "C" fn ngachodui_unescape_2(
+    delimiters: &[u8; kinds::DELIMITERS],
+    component: &[u8],
+    out: &mut [u8],
+) -> Made
+    ensures { λ r. ⌜ Unescaped (now (delimiters .entry)) (now (component .entry)) (now (out .entry)) r (now (out .exit)) ⌝ }
 {
-    texts::unescape(component, out)
+    texts::unescape(delimiters, component, out)
 }
 
 // Reads a message: of each record its letter, where it starts, how long it is before its CR, and the number of its owner, from 1, or 0.

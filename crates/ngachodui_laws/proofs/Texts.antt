@@ -9,7 +9,6 @@ use native.Mathlib.Omega.{arith}
 use borrow.Author.Tests.{le-leb}
 use lib.ListN.{length}
 use Rattle.memory.specs.Sizes.{lines, frameLimit}
-use Rattle.kinds.specs.Delimiters.{standard}
 use Rattle.faults.specs.Message.{isMessage}
 use Rattle.cutting.specs.Frames.{cutOf, isCuttable, cutAnswer, cutIn}
 use Rattle.owner.specs.Reading.{readingOf}
@@ -54,7 +53,7 @@ not-faulty (Faulty f place) q = absurd (q f place refl)
 
 module _ (text : List ℕ) (h : there.Readable text) (ts os ls ws : List ℕ) where
   abbrev reading : Reading
-  reading = readingOf standard text (length ts) (length os) (length ls) (length ws)
+  reading = readingOf text (length ts) (length os) (length ls) (length ws)
 
   faultless : (f : Fault) (place : ℕ) → reading ≢ Faulty f place
   faultless f place = h .never-faulty f place (length ts) (length os) (length ls) (length ws)

@@ -19,7 +19,6 @@ use Rattle.faults.specs.Message.{isMessage}
 use Rattle.faults.specs.Faults.{faultOf}
 use Rattle.faults.specs.declared.Checked.{Checked}
 use Rattle.faults.specs.declared.Checked.the-variants as checked
-use Rattle.kinds.specs.declared.Delimiters.{Delimiters}
 use Rattle.owner.specs.declared.Reading.{Reading}
 use Rattle.owner.specs.declared.Reading.the-variants.{Read, NotFitting}
 use Rattle.owner.specs.Inner.Nearest.{nearestOwners}

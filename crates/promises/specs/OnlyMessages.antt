@@ -9,7 +9,6 @@ use mathlib.Core.List.{List}
 use mathlib.Core.Option.{some}
 use lib.ListN.{length}
 use Rattle.memory.specs.Sizes.{lines}
-use Rattle.kinds.specs.Delimiters.{standard}
 use Rattle.records.specs.Records.{records}
 use Rattle.faults.specs.Message.{isMessage}
 use Rattle.owner.specs.Reading.{roomFor, readingOf}
@@ -36,7 +35,7 @@ pub record OnlyMessages (m : Memory) (es : List GatewayItem) : Type 0 where
 
 -- reading it is never answered 46 or a fault, and where each of the four memories has a place for every record, it is read
 pub record Readable (text : List ℕ) : Type 0 where
-  pub never-46 : (types offsets lengths owners : ℕ) → readingOf standard text types offsets lengths owners ≢ Malformed
-  pub never-faulty : (f : Fault) (place types offsets lengths owners : ℕ) → readingOf standard text types offsets lengths owners ≢ Faulty f place
+  pub never-46 : (types offsets lengths owners : ℕ) → readingOf text types offsets lengths owners ≢ Malformed
+  pub never-faulty : (f : Fault) (place types offsets lengths owners : ℕ) → readingOf text types offsets lengths owners ≢ Faulty f place
   pub read : (types offsets lengths owners : ℕ) → roomFor (length (records text)) types offsets lengths owners ≡ true
-      → readingOf standard text types offsets lengths owners ≡ Read (length (records text))
+      → readingOf text types offsets lengths owners ≡ Read (length (records text))

@@ -10,11 +10,11 @@ use Rattle.texts.specs.declared.Made.{Made}
 pub cut-once : (text out : List ℕ) {r q : Made} {x y : List ℕ} → CutFrames text out r x → CutFrames text out q y → (r ≡ q) × (x ≡ y)
 cut-once text out a b = (a .result ∙ sym (b .result), a .after ∙ sym (b .after))
 
-pub escape-once : (text out : List ℕ) {r q : Made} {x y : List ℕ} → Escaped text out r x → Escaped text out q y → (r ≡ q) × (x ≡ y)
-escape-once text out a b = (a .result ∙ sym (b .result), a .after ∙ sym (b .after))
+pub escape-once : (four text out : List ℕ) {r q : Made} {x y : List ℕ} → Escaped four text out r x → Escaped four text out q y → (r ≡ q) × (x ≡ y)
+escape-once four text out a b = (a .result ∙ sym (b .result), a .after ∙ sym (b .after))
 
-pub unescape-once : (c out : List ℕ) {r q : Made} {x y : List ℕ} → Unescaped c out r x → Unescaped c out q y → (r ≡ q) × (x ≡ y)
-unescape-once c out a b = (a .result ∙ sym (b .result), a .after ∙ sym (b .after))
+pub unescape-once : (four c out : List ℕ) {r q : Made} {x y : List ℕ} → Unescaped four c out r x → Unescaped four c out q y → (r ≡ q) × (x ≡ y)
+unescape-once four c out a b = (a .result ∙ sym (b .result), a .after ∙ sym (b .after))
 
 -- `read`
 pub read-once : (text ts os ls ws : List ℕ) {r q : Made} {ts₁ os₁ ls₁ ws₁ ts₂ os₂ ls₂ ws₂ : List ℕ} → RecordsRead text ts os ls ws r ts₁ os₁ ls₁ ws₁ → RecordsRead text ts os ls ws q ts₂ os₂ ls₂ ws₂

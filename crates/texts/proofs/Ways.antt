@@ -4,7 +4,7 @@ use mathlib.Core.Path.{_≡_, ap, subst, _∙_}
 use mathlib.Core.List.{List}
 use Prim.Native.Nat.{ℕ}
 use Rattle.memory.specs.Sizes.{frameLimit}
-use Rattle.kinds.specs.Delimiters.{standard}
+use Rattle.kinds.specs.Delimiters.{fourAt}
 use Rattle.records.specs.Records.{records}
 use Rattle.kinds.specs.declared.Delimiters.{Delimiters}
 use Rattle.escaping.specs.Escape.{Escaping}
@@ -22,24 +22,23 @@ module _ {text out out′ : List ℕ} {r : Made} where
   pub by-cutting : {q : Framed} → CutInto frameLimit text out q out′ → r ≡ madeByCutting q → CutFrames text out r out′
   by-cutting c m = record { result = m ∙ ap madeByCutting (c .answer); after = c .after }
 
-  pub by-escaping : {d : Delimiters} {q : Put} → d ≡ standard → Escaping d text out q out′ → r ≡ madeByPutting q → Escaped text out r out′
-  by-escaping {d} {q} s c m =
-      let e = subst (λ (x : Delimiters). Escaping x text out q out′) s c in
-      record { result = m ∙ ap madeByPutting (e .answer); after = e .after }
+  module _ {four : List ℕ} {d : Delimiters} {q : Put} (s : d ≡ fourAt 0 four) where
+    pub by-escaping : Escaping d text out q out′ → r ≡ madeByPutting q → Escaped four text out r out′
+    by-escaping c m =
+        let e = subst (λ (x : Delimiters). Escaping x text out q out′) s c in
+        record { result = m ∙ ap madeByPutting (e .answer); after = e .after }
 
-  pub by-unescaping : {d : Delimiters} {q : Put} → d ≡ standard → Unescaping d text out q out′ → r ≡ madeByPutting q → Unescaped text out r out′
-  by-unescaping {d} {q} s c m =
-      let e = subst (λ (x : Delimiters). Unescaping x text out q out′) s c in
-      record { result = m ∙ ap madeByPutting (e .answer); after = e .after }
+    pub by-unescaping : Unescaping d text out q out′ → r ≡ madeByPutting q → Unescaped four text out r out′
+    by-unescaping c m =
+        let e = subst (λ (x : Delimiters). Unescaping x text out q out′) s c in
+        record { result = m ∙ ap madeByPutting (e .answer); after = e .after }
 
-pub by-reading : {text ts os ls ws ts′ os′ ls′ ws′ : List ℕ} {r : Made} {d : Delimiters} {q : Reading} → d ≡ standard → ReadAs d text ts os ls ws ts′ os′ ls′ ws′ q → r ≡ madeByReading q
+pub by-reading : {text ts os ls ws ts′ os′ ls′ ws′ : List ℕ} {r : Made} {q : Reading} → ReadAs text ts os ls ws ts′ os′ ls′ ws′ q → r ≡ madeByReading q
     → RecordsRead text ts os ls ws r ts′ os′ ls′ ws′
-by-reading {text} {ts} {os} {ls} {ws} {ts′} {os′} {ls′} {ws′} {r} {d} {q} s c m =
-    let e = subst (λ (x : Delimiters). ReadAs x text ts os ls ws ts′ os′ ls′ ws′ q) s c in
-    record {
-      result = m ∙ ap madeByReading (e .answer);
-      types = e .types ∙ ap (λ (x : Reading). laid x ts (typesOf (records text))) (e .answer);
-      offsets = e .offsets ∙ ap (λ (x : Reading). laid x os (offsetsOf 0 (records text))) (e .answer);
-      lengths = e .lengths ∙ ap (λ (x : Reading). laid x ls (lengthsOf (records text))) (e .answer);
-      owners = e .owners ∙ ap (λ (x : Reading). laid x ws (ownersOf (records text))) (e .answer);
-    }
+by-reading {text} {ts} {os} {ls} {ws} e m = record {
+  result = m ∙ ap madeByReading (e .answer);
+  types = e .types ∙ ap (λ (x : Reading). laid x ts (typesOf (records text))) (e .answer);
+  offsets = e .offsets ∙ ap (λ (x : Reading). laid x os (offsetsOf 0 (records text))) (e .answer);
+  lengths = e .lengths ∙ ap (λ (x : Reading). laid x ls (lengthsOf (records text))) (e .answer);
+  owners = e .owners ∙ ap (λ (x : Reading). laid x ws (ownersOf (records text))) (e .answer);
+}

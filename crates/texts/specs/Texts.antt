@@ -1,14 +1,14 @@
--- Texts that a host cuts, reads, escapes and unescapes: what became of one, in plain numbers. The delimiters are the standard ones.
+-- Texts that a host cuts, reads, escapes and unescapes: what became of one, in plain numbers. A message is read by the delimiters that it names; to escape and
+-- unescape, a host hands them over, four bytes in the order of a header.
 -- Assumes nothing.
 use Prim.Native.Nat.{ℕ}
 use mathlib.Core.Path.{_≡_}
 use mathlib.Core.List.{List}
 use lib.ListN.{length}
 use Rattle.memory.specs.Sizes.{frameLimit}
-use Rattle.memory.specs.Moves.{copied}
-use Rattle.kinds.specs.Delimiters.{standard}
+use Rattle.kinds.specs.Delimiters.{fourAt}
 use Rattle.records.specs.Records.{records}
-use Rattle.escaping.specs.Escape.{escaped, escapeAnswer}
+use Rattle.escaping.specs.Escape.{escapeAnswer, escapedOver}
 use Rattle.escaping.specs.Unescape.{unescapeAnswer, unescapedOver}
 use Rattle.escaping.specs.declared.Put.{Put}
 use Rattle.escaping.specs.declared.Put.the-variants as put
@@ -22,6 +22,7 @@ use Rattle.cutting.specs.declared.Framed.the-variants as framed
 use Rattle.answers.specs.Paper.{numberOf, placeOf}
 use Rattle.answers.specs.declared.Answer.{Answer}
 use Rattle.answers.specs.declared.Answer.the-variants.{Malformed, NotFitting, Faulty}
+use Rattle.answers.specs.declared.Fault.the-variants.{BadDelimiters}
 use Rattle.texts.specs.declared.Made.{Made}
 
 -- done, and so much written: 0, which is the number of no refusal [H5]
@@ -38,10 +39,12 @@ madeByCutting framed.Malformed = refusedWith Malformed
 madeByCutting framed.NotFitting = refusedWith NotFitting
 madeByCutting (framed.Faulty f place) = refusedWith (Faulty f place)
 
+-- a four that is not allowed has no record, and so no place [A55]
 unfoldable pub madeByPutting : Put → Made
 madeByPutting (put.Done n) = done n
 madeByPutting put.Malformed = refusedWith Malformed
 madeByPutting put.NotFitting = refusedWith NotFitting
+madeByPutting put.BadDelimiters = refusedWith (Faulty BadDelimiters 0)
 
 unfoldable pub madeByReading : Reading → Made
 madeByReading (reading.Read n) = done n
@@ -55,18 +58,18 @@ pub record CutFrames (text out : List ℕ) (r : Made) (out′ : List ℕ) : Type
   pub after : out′ ≡ cutIn frameLimit text out
 
 -- a text with its delimiters escaped
-pub record Escaped (text out : List ℕ) (r : Made) (out′ : List ℕ) : Type 0 where
-  pub result : r ≡ madeByPutting (escapeAnswer standard text out)
-  pub after : out′ ≡ copied out 0 (escaped standard text)
+pub record Escaped (four text out : List ℕ) (r : Made) (out′ : List ℕ) : Type 0 where
+  pub result : r ≡ madeByPutting (escapeAnswer (fourAt 0 four) text out)
+  pub after : out′ ≡ escapedOver (fourAt 0 four) text out
 
 -- a component with its escapes taken out
-pub record Unescaped (c out : List ℕ) (r : Made) (out′ : List ℕ) : Type 0 where
-  pub result : r ≡ madeByPutting (unescapeAnswer standard c out)
-  pub after : out′ ≡ unescapedOver standard c out
+pub record Unescaped (four c out : List ℕ) (r : Made) (out′ : List ℕ) : Type 0 where
+  pub result : r ≡ madeByPutting (unescapeAnswer (fourAt 0 four) c out)
+  pub after : out′ ≡ unescapedOver (fourAt 0 four) c out
 
 -- a message read: types, offsets, lengths and owners of its records
 abbrev pub readingInto : List ℕ → List ℕ → List ℕ → List ℕ → List ℕ → Reading
-readingInto text ts os ls ws = readingOf standard text (length ts) (length os) (length ls) (length ws)
+readingInto text ts os ls ws = readingOf text (length ts) (length os) (length ls) (length ws)
 
 pub record RecordsRead (text ts os ls ws : List ℕ) (r : Made) (ts′ os′ ls′ ws′ : List ℕ) : Type 0 where
   pub result : r ≡ madeByReading (readingInto text ts os ls ws)

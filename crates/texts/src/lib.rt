@@ -1,7 +1,9 @@
-// Texts over plain memory: cut, read, escaped and unescaped, with the standard delimiters and today's frame limit.
+// Texts over plain memory: cut and read by the delimiters that they name, escaped and unescaped by those that are handed over; with
+// today's frame limit.
 ghost use mathlib.Core.Path.{_≡_};
 ghost use Rattle.texts.specs.Texts.{done, refusedWith, madeByCutting, madeByPutting, madeByReading, CutFrames, Escaped, Unescaped, RecordsRead};
 use answers::Answer;
+use answers::Fault;
 use cutting::Framed;
 use escaping::Put;
 use kinds::Delimiters;
@@ -26,19 +28,19 @@ pub fn cut(text: &[u8], out: &mut [u8]) -> Made
     made_by_cutting(framed)
 }
 
-// Escapes the delimiters of a text.
-pub fn escape(text: &[u8], out: &mut [u8]) -> Made
-    ensures { λ r. ⌜ Escaped (now (text .entry)) (now (out .entry)) r (now (out .exit)) ⌝ }
+// Escapes the delimiters of a text, which are handed over in the order of a header.
+pub fn escape(delimiters: &[u8; kinds::DELIMITERS], text: &[u8], out: &mut [u8]) -> Made
+    ensures { λ r. ⌜ Escaped (now (delimiters .entry)) (now (text .entry)) (now (out .entry)) r (now (out .exit)) ⌝ }
 {
-    let put = escaping::escape(Delimiters::standard(), text, out);
+    let put = escaping::escape(Delimiters::of_four(delimiters), text, out);
     made_by_putting(put)
 }
 
 // Takes the escapes out of a component.
-pub fn unescape(component: &[u8], out: &mut [u8]) -> Made
-    ensures { λ r. ⌜ Unescaped (now (component .entry)) (now (out .entry)) r (now (out .exit)) ⌝ }
+pub fn unescape(delimiters: &[u8; kinds::DELIMITERS], component: &[u8], out: &mut [u8]) -> Made
+    ensures { λ r. ⌜ Unescaped (now (delimiters .entry)) (now (component .entry)) (now (out .entry)) r (now (out .exit)) ⌝ }
 {
-    let put = escaping::unescape(Delimiters::standard(), component, out);
+    let put = escaping::unescape(Delimiters::of_four(delimiters), component, out);
     made_by_putting(put)
 }
 
@@ -53,14 +55,7 @@ pub fn read(
     ensures { λ r. ⌜ RecordsRead (now (text .entry)) (now (types .entry)) (now (offsets .entry)) (now (lengths .entry)) (now (owners .entry))
         r (now (types .exit)) (now (offsets .exit)) (now (lengths .exit)) (now (owners .exit)) ⌝ }
 {
-    let reading = owner::read(
-        Delimiters::standard(),
-        text,
-        types,
-        offsets,
-        lengths,
-        owners,
-    );
+    let reading = owner::read(text, types, offsets, lengths, owners);
     made_by_reading(reading)
 }
 
@@ -82,6 +77,8 @@ fn made_by_putting(put: Put) -> Made
         Put::Done(n) => done(n),
         Put::Malformed => refused_with(Answer::Malformed),
         Put::NotFitting => refused_with(Answer::NotFitting),
+        // No record is wrong, so there is no place.
+        Put::BadDelimiters => refused_with(Answer::Faulty(Fault::BadDelimiters, 0)),
     }
 }
 

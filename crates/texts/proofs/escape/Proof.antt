@@ -1,12 +1,12 @@
 -- `texts::escape` meets its contract.
 -- Assumes nothing.
-use borrow.Author.Needs.{needs}
 use Rattle.texts.proofs.Ways.{by-escaping}
+use borrow.Author.Needs.{needs}
 use Rattle.texts.proofs.escape.Statement.{statement}
 use Rattle.texts.proofs.escape.Tie as tie
 
 returns : tie.Need-returns
-returns c = by-escaping (c .before .before .before .before .before .standard .ensures) (c .before .before .before .escape .ensures) (c .made-by-putting .ensures)
+returns c = let put = c .before .before .before in by-escaping (put .before .before .of-four .ensures) (put .escape .ensures) (c .made-by-putting .ensures)
 
 pub escape-spec : {M : Type 1} → statement M
 escape-spec =
