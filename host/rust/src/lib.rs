@@ -20,4 +20,4 @@ mod texts;
 pub use answers::{Answer, Fault, Refusal};
 pub use gateway::Gateway;
 pub use layout::{CUT_LIMIT, LINES, SHARE, TEXT_LIMIT, VERSION};
-pub use texts::{cut, escape, is_message, read, unescape, Record};
+pub use texts::{cut, escape, is_message, read, unescape, Delimiters, Record};
