@@ -299,7 +299,10 @@ fn spoil_delimiters(random: &mut Random, four: Delimiters, all: &mut Vec<Vec<u8>
         }
         2 => all[0].truncate(random.between(1, 5)),
         _ => {
-            let other = random.pick(POSSIBLE);
+            let other = match random.below(2) {
+                0 => b'|',
+                _ => random.pick(POSSIBLE),
+            };
             for byte in all[place].iter_mut().filter(|byte| **byte == four.field) {
                 *byte = other;
             }
