@@ -75,7 +75,7 @@ pub fn compare(
     let text = a_text(traffic, random);
     compare_text(&text, random, fault, counts)?;
 
-    // The text's own delimiters where it is a whole message, or any.
+    // The text with the four behind its own first byte, or a component with any.
     let (four, text) = match Delimiters::of(&text) {
         Some(four) if random.once_in(8) => (four, text),
         _ => {

@@ -541,7 +541,7 @@ mod tests {
     fn bad_delimiters_with_and_without_a_later_fault() {
         let mut random = Random::new(9);
         let (mut alone, mut with_more, mut only_record) = (0, 0, 0);
-        for _ in 0..20_000 {
+        for _ in 0..8_000 {
             let text = wrong(&mut random, 100);
             if read(&text).map_err(|refusal| refusal.number) != Err(55) {
                 continue;
