@@ -4,19 +4,21 @@
 
 enum { STX = 0x02, ETX = 0x03, EOT = 0x04, ENQ = 0x05, ACK = 0x06, LF = 0x0A, CR = 0x0D, NAK = 0x15, ETB = 0x17 };
 
-/* What each byte value is in a text: an allowed byte, the CR that ends a record, or not allowed. */
-enum { ORDINARY = 0, RECORD_END = 1, NOT_ALLOWED = 2 };
+/* What each byte value is in a text: the CR that ends a record, not allowed, allowed and fit for a delimiter, or just
+ * allowed, which is 0. */
+enum { RECORD_END = 1, NOT_ALLOWED = 2, DELIMITER = 4 };
 
 #define N NOT_ALLOWED
+#define D DELIMITER
 static const uint8_t byte_class[256] = {
     N, N, N, N, N, N, N, 0, N, 0, N, 0, 0, 1, N, N, /* 07, 09, 0B, 0C; 0D is CR */
     N, N, N, N, N, N, N, N, N, N, N, N, N, N, N, N,
-    0, 0, 0, 0, 0, 0, 0, 0, 0, 0, 0, 0, 0, 0, 0, 0, /* 20 to 7E */
-    0, 0, 0, 0, 0, 0, 0, 0, 0, 0, 0, 0, 0, 0, 0, 0,
-    0, 0, 0, 0, 0, 0, 0, 0, 0, 0, 0, 0, 0, 0, 0, 0,
-    0, 0, 0, 0, 0, 0, 0, 0, 0, 0, 0, 0, 0, 0, 0, 0,
-    0, 0, 0, 0, 0, 0, 0, 0, 0, 0, 0, 0, 0, 0, 0, 0,
-    0, 0, 0, 0, 0, 0, 0, 0, 0, 0, 0, 0, 0, 0, 0, N,
+    0, D, D, D, D, D, D, D, D, D, D, D, D, D, D, D, /* 20 to 7E; no digit and no letter delimits */
+    0, 0, 0, 0, 0, 0, 0, 0, 0, 0, D, D, D, D, D, D,
+    D, 0, 0, 0, 0, 0, 0, 0, 0, 0, 0, 0, 0, 0, 0, 0,
+    0, 0, 0, 0, 0, 0, 0, 0, 0, 0, 0, D, D, D, D, D,
+    D, 0, 0, 0, 0, 0, 0, 0, 0, 0, 0, 0, 0, 0, 0, 0,
+    0, 0, 0, 0, 0, 0, 0, 0, 0, 0, 0, D, D, D, D, N,
     0, 0, 0, 0, 0, 0, 0, 0, 0, 0, 0, 0, 0, 0, 0, 0, /* 80 to FE */
     0, 0, 0, 0, 0, 0, 0, 0, 0, 0, 0, 0, 0, 0, 0, 0,
     0, 0, 0, 0, 0, 0, 0, 0, 0, 0, 0, 0, 0, 0, 0, 0,
@@ -26,10 +28,24 @@ static const uint8_t byte_class[256] = {
     0, 0, 0, 0, 0, 0, 0, 0, 0, 0, 0, 0, 0, 0, 0, 0,
     0, 0, 0, 0, 0, 0, 0, 0, 0, 0, 0, 0, 0, 0, 0, N,
 };
+#undef D
 #undef N
 
 static const char upper_hex[16] = { '0', '1', '2', '3', '4', '5', '6', '7',
                                     '8', '9', 'A', 'B', 'C', 'D', 'E', 'F' };
+
+/* ---- Delimiters ---- */
+
+/* Where each of the four stands, in a header behind its H. */
+enum { FIELD, REPEAT, COMPONENT, ESCAPE };
+
+/* Whether these may be the delimiters: each byte is fit for it, and they are different. */
+static inline bool may_delimit(const uint8_t four[PLAIN_DELIMITERS])
+{
+    const uint8_t a = four[0], b = four[1], c = four[2], d = four[3];
+    return byte_class[a] & byte_class[b] & byte_class[c] & byte_class[d] & DELIMITER
+        && a != b && a != c && a != d && b != c && b != d && c != d;
+}
 
 /* ---- Records ---- */
 
@@ -65,7 +81,7 @@ static const uint8_t followers[8] = {
 };
 
 /* Field 2 as a number, or 0 where it is none. The text has an end: a CR stands at or behind `at`. */
-static unsigned sequence_number(const uint8_t *at)
+static unsigned sequence_number(const uint8_t *at, uint8_t field)
 {
     unsigned value = 0;
     int digits = 0;
@@ -76,7 +92,7 @@ static unsigned sequence_number(const uint8_t *at)
             return 0;
         value = value * 10 + (unsigned)(*at++ - '0');
     }
-    return *at == '|' || *at == CR ? value : 0;
+    return *at == field || *at == CR ? value : 0;
 }
 
 static struct plain_outcome outcome(enum plain_number number)
@@ -108,7 +124,7 @@ static struct plain_outcome fault_at(enum plain_number number, const uint8_t *te
     return (struct plain_outcome){ (uint16_t)number, place };
 }
 
-/* A text that is too long, is empty, does not end with CR or has no header. */
+/* A text that is too long, is empty, does not end with CR, has no header or one with bad delimiters. */
 __attribute__((noinline))
 static struct plain_outcome text_fault(const uint8_t *text, size_t n)
 {
@@ -116,7 +132,9 @@ static struct plain_outcome text_fault(const uint8_t *text, size_t n)
         return outcome(PLAIN_TEXT_MALFORMED);
     if (n > 0 && text[n - 1] != CR)
         return fault_at(PLAIN_NO_FINAL_CR, text, n - 1);
-    return (struct plain_outcome){ PLAIN_NO_HEADER, 1 };
+    if (n < 6 || text[0] != 'H' || memchr(text, CR, 5) != NULL)
+        return (struct plain_outcome){ PLAIN_NO_HEADER, 1 };
+    return (struct plain_outcome){ PLAIN_BAD_DELIMITERS, 1 };
 }
 
 /* The fault of the record at `at`, where the walk has stopped. `may` has the bit of each type that may stand there: of
@@ -127,7 +145,7 @@ static struct plain_outcome record_fault(const uint8_t *text, size_t n, size_t a
     if (!all_allowed(text + at, n - at)) /* goes before every fault, and the walk has not seen the rest */
         return outcome(PLAIN_TEXT_MALFORMED);
     enum type type = type_of(text[at]);
-    if (type == UNKNOWN || (text[at + 1] != '|' && text[at + 1] != CR))
+    if (type == UNKNOWN || (text[at + 1] != text[1] && text[at + 1] != CR))
         return fault_at(PLAIN_UNKNOWN_TYPE, text, at);
     bool last = memchr(text + at, CR, n - at) == text + n - 1;
     if (!(may & BIT(type)) || (last && type != L))
@@ -137,25 +155,25 @@ static struct plain_outcome record_fault(const uint8_t *text, size_t n, size_t a
 
 struct plain_outcome plain_check(const uint8_t *text, size_t n)
 {
-    /* With a CR at the very end every scan below stops inside the text. */
-    if (n == 0 || n > PLAIN_TEXT || text[n - 1] != CR)
-        return text_fault(text, n);
-    if (n < 6 || memcmp(text, "H|\\^&", 5) != 0)
+    /* With a CR at the very end every scan below stops inside the text. None is among the delimiters, so the first
+     * record has its five bytes. */
+    if (n < 6 || n > PLAIN_TEXT || text[n - 1] != CR || text[0] != 'H' || !may_delimit(text + 1))
         return text_fault(text, n);
 
+    const uint8_t field = text[1 + FIELD];
     unsigned count[8] = { 0 };   /* the last sequence number of each type, where it goes on */
     enum type before = H;        /* the last record that is no C or M */
     size_t at = 5;
     for (;;) {
-        while (byte_class[text[at]] == ORDINARY)
+        while (!(byte_class[text[at]] & (RECORD_END | NOT_ALLOWED)))
             at++;
         if (text[at] != CR)
             return outcome(PLAIN_TEXT_MALFORMED);
         if (++at == n)
-            return before == L ? outcome(PLAIN_NOTHING) : fault_at(PLAIN_MISPLACED, text, n - 1);
+            return before == L ? outcome(PLAIN_NOTHING) : fault_at(PLAIN_MISPLACED, text, at - 1);
 
         enum type type = type_of(text[at]);
-        if (type == UNKNOWN || text[at + 1] != '|' || !(followers[before] & BIT(type)))
+        if (type == UNKNOWN || text[at + 1] != field || !(followers[before] & BIT(type)))
             return record_fault(text, n, at, followers[before]);
         if (type != C && type != M) {
             count[C] = count[M] = 0;
@@ -165,7 +183,7 @@ struct plain_outcome plain_check(const uint8_t *text, size_t n)
                 count[R] = 0;
             before = type;
         }
-        if (sequence_number(text + at + 2) != ++count[type])
+        if (sequence_number(text + at + 2, field) != ++count[type])
             return record_fault(text, n, at, ANY_TYPE);
         at += 2;
     }
@@ -230,43 +248,49 @@ struct plain_outcome plain_read(const uint8_t *text, size_t n, struct plain_reco
 
 /* ---- Escapes ---- */
 
-static uint8_t escape_letter(uint8_t byte)
+/* The letter of each delimiter, in a table that has 0 for every other byte. */
+static void set_letters(uint8_t letters[256], const uint8_t four[PLAIN_DELIMITERS])
 {
-    switch (byte) {
-    case '|': return 'F';
-    case '^': return 'S';
-    case '\\': return 'R';
-    case '&': return 'E';
-    default: return 0;
-    }
+    letters[four[FIELD]] = 'F';
+    letters[four[COMPONENT]] = 'S';
+    letters[four[REPEAT]] = 'R';
+    letters[four[ESCAPE]] = 'E';
 }
 
-static uint8_t escaped_byte(uint8_t letter)
+/* The delimiter that a letter stands for, or 0. */
+static uint8_t escaped_byte(const uint8_t four[PLAIN_DELIMITERS], uint8_t letter)
 {
     switch (letter) {
-    case 'F': return '|';
-    case 'S': return '^';
-    case 'R': return '\\';
-    case 'E': return '&';
+    case 'F': return four[FIELD];
+    case 'S': return four[COMPONENT];
+    case 'R': return four[REPEAT];
+    case 'E': return four[ESCAPE];
     default: return 0;
     }
 }
 
-enum plain_number plain_escape(const uint8_t *text, size_t n, uint8_t *out, size_t cap, size_t *length)
+enum plain_number plain_escape(const uint8_t delimiters[PLAIN_DELIMITERS], const uint8_t *text, size_t n,
+                               uint8_t *out, size_t cap, size_t *length)
 {
+    if (!may_delimit(delimiters))
+        return PLAIN_BAD_DELIMITERS;
+    uint8_t letters[256] = { 0 };
+    set_letters(letters, delimiters);
+    const uint8_t escape = delimiters[ESCAPE];
+
     size_t needed = 0;
     for (size_t i = 0; i < n; i++) {
-        size_t more = escape_letter(text[i]) ? 3 : 1;
+        size_t more = letters[text[i]] ? 3 : 1;
         if (more > cap - needed) /* needed never passes cap, so nothing wraps */
             return PLAIN_OUTPUT_TOO_SHORT;
         needed += more;
     }
     for (size_t i = 0; i < n; i++) {
-        uint8_t letter = escape_letter(text[i]);
+        uint8_t letter = letters[text[i]];
         if (letter) {
-            *out++ = '&';
+            *out++ = escape;
             *out++ = letter;
-            *out++ = '&';
+            *out++ = escape;
         } else {
             *out++ = text[i];
         }
@@ -275,16 +299,23 @@ enum plain_number plain_escape(const uint8_t *text, size_t n, uint8_t *out, size
     return PLAIN_NOTHING;
 }
 
-enum plain_number plain_unescape(const uint8_t *text, size_t n, uint8_t *out, size_t cap, size_t *length)
+enum plain_number plain_unescape(const uint8_t delimiters[PLAIN_DELIMITERS], const uint8_t *text, size_t n,
+                                 uint8_t *out, size_t cap, size_t *length)
 {
+    if (!may_delimit(delimiters))
+        return PLAIN_BAD_DELIMITERS;
+    uint8_t letters[256] = { 0 };
+    set_letters(letters, delimiters);
+    const uint8_t escape = delimiters[ESCAPE];
+
     size_t needed = 0;
     for (size_t i = 0; i < n; needed++) {
-        if (text[i] == '&') {
-            if (n - i < 3 || !escaped_byte(text[i + 1]) || text[i + 2] != '&')
+        if (text[i] == escape) {
+            if (n - i < 3 || !escaped_byte(delimiters, text[i + 1]) || text[i + 2] != escape)
                 return PLAIN_TEXT_MALFORMED;
             i += 3;
         } else {
-            if (escape_letter(text[i]))
+            if (letters[text[i]])
                 return PLAIN_TEXT_MALFORMED;
             i++;
         }
@@ -292,8 +323,8 @@ enum plain_number plain_unescape(const uint8_t *text, size_t n, uint8_t *out, si
     if (needed > cap)
         return PLAIN_OUTPUT_TOO_SHORT;
     for (size_t i = 0; i < n;) {
-        if (text[i] == '&') {
-            *out++ = escaped_byte(text[i + 1]);
+        if (text[i] == escape) {
+            *out++ = escaped_byte(delimiters, text[i + 1]);
             i += 3;
         } else {
             *out++ = text[i++];
@@ -517,7 +548,7 @@ static bool ends_with_l_record(const uint8_t *text, size_t n)
     return text[start] == 'L';
 }
 
-/* Answers 4, 30, 31, 43 and 50 to 53: a complete text. A fault sets *place. */
+/* Answers 4, 30, 31, 43, 50 to 53 and 55: a complete text. A fault sets *place. */
 static enum plain_number decide(struct plain_ledger *ledger, uint8_t *journal, unsigned line, const uint8_t *text,
                                 unsigned n, uint16_t *place)
 {
@@ -667,7 +698,8 @@ int plain_reply(unsigned number)
 {
     if (number >= PLAIN_OPENED && number <= PLAIN_STORED)
         return ACK;
-    if ((number >= PLAIN_BUSY && number <= PLAIN_NO_ROOM) || (number >= PLAIN_NO_HEADER && number <= PLAIN_NO_FINAL_CR))
+    if ((number >= PLAIN_BUSY && number <= PLAIN_NO_ROOM)
+        || (number >= PLAIN_NO_HEADER && number <= PLAIN_BAD_DELIMITERS))
         return NAK;
     return PLAIN_NO_REPLY;
 }

@@ -16,6 +16,7 @@ enum {
     PLAIN_TEXT = 4000,    /* longest message, and a line's part of the unfinished text */
     PLAIN_FRAME = 246,    /* longest frame without STX, and a line's part of the frames */
     PLAIN_PIECE = 240,    /* longest text of one frame */
+    PLAIN_DELIMITERS = 4, /* of fields, repeats, components and escapes, in this order */
     PLAIN_HEADER = 4,     /* bytes in front of a journal entry's text */
     PLAIN_SHARE = 2048,   /* journal bytes that each line is sure of */
     PLAIN_SECONDS_LIMIT = 30,
@@ -59,11 +60,12 @@ enum plain_number {
     PLAIN_BUFFER_TOO_SHORT = 45,
     PLAIN_TEXT_MALFORMED = 46,
     PLAIN_OUTPUT_TOO_SHORT = 47,
-    PLAIN_NO_HEADER = 50,         /* 50 to 54: the first fault of a text's records, with the record's place */
+    PLAIN_NO_HEADER = 50,         /* 50 to 55: the first fault of a text's records, with the record's place */
     PLAIN_UNKNOWN_TYPE = 51,
     PLAIN_MISPLACED = 52,         /* also a last record that is no L */
     PLAIN_MISNUMBERED = 53,
-    PLAIN_NO_FINAL_CR = 54        /* not on a line: there it is 29 */
+    PLAIN_NO_FINAL_CR = 54,       /* not on a line: there it is 29 */
+    PLAIN_BAD_DELIMITERS = 55     /* also of the four to escape or to unescape with, without a place */
 };
 
 enum plain_state { PLAIN_NEUTRAL, PLAIN_WAITING, PLAIN_INSIDE };
@@ -103,7 +105,7 @@ struct plain_memory {
 /* Eight bytes, so that it is handed back in one register. */
 struct plain_answer {
     uint16_t number;
-    uint16_t place;    /* of the record with the fault, from 1; 0 unless number is 50 to 53 */
+    uint16_t place;    /* of the record with the fault, from 1; 0 unless number is 50 to 53 or 55 */
     uint16_t length;   /* of the text taken; 0 unless number is 8 */
     uint16_t serial;   /* of the entry taken; 0 unless number is 8 */
 };
@@ -111,7 +113,7 @@ struct plain_answer {
 /* What the check, the cutting or the reading of a text comes to: PLAIN_NOTHING, or why it is refused. */
 struct plain_outcome {
     uint16_t number;
-    uint16_t place;    /* of the record with the fault, from 1; 0 unless number is 50 to 54 */
+    uint16_t place;    /* of the record with the fault, from 1; 0 unless number is 50 to 55 */
 };
 
 /* One record of a message. Owner is the owning record's number from 1, or 0 for H and L. */
@@ -142,10 +144,13 @@ bool plain_is_message(const uint8_t *text, size_t n);
 
 /* The text functions give PLAIN_NOTHING when done, else a refusal with nothing written: 46 or 47,
  * or the fault of a text to cut or to read. Output does not overlap the text; what the output does
- * not need of its room keeps its bytes. */
+ * not need of its room keeps its bytes. Escaping and unescaping go by the delimiters that they are
+ * given, and refuse those that no header may have with 55 first. */
 struct plain_outcome plain_cut(const uint8_t *text, size_t n, uint8_t *out, size_t cap, size_t *length);
-enum plain_number plain_escape(const uint8_t *text, size_t n, uint8_t *out, size_t cap, size_t *length);
-enum plain_number plain_unescape(const uint8_t *text, size_t n, uint8_t *out, size_t cap, size_t *length);
+enum plain_number plain_escape(const uint8_t delimiters[PLAIN_DELIMITERS], const uint8_t *text, size_t n,
+                               uint8_t *out, size_t cap, size_t *length);
+enum plain_number plain_unescape(const uint8_t delimiters[PLAIN_DELIMITERS], const uint8_t *text, size_t n,
+                                 uint8_t *out, size_t cap, size_t *length);
 struct plain_outcome plain_read(const uint8_t *text, size_t n, struct plain_record *records, size_t cap,
                                 size_t *count);
 

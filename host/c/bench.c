@@ -6,7 +6,8 @@
  * SIDE is library, plain or none. With none all is done but the call of the gateway, so that what it
  * costs to call it again and again can be subtracted. Standard output has a checksum of all answers
  * and of all memory at the end, which both sides must share, and how many operations were done (for
- * bytes: how many bytes).
+ * bytes: how many bytes). An operation that reads a text is then done once with other delimiters, for
+ * the checksum alone.
  *
  *     bench OPERATION times ROUNDS [SIZE]
  *
@@ -142,13 +143,19 @@ static inline void put_back(void)
 static uint8_t text[TEXT];
 static size_t length;
 
+/* The delimiters of the texts that are made. */
+static const uint8_t standard[NGACHODUI_DELIMITERS] = { '|', '\\', '^', '&' };
+static const uint8_t others[NGACHODUI_DELIMITERS] = { '!', '~', '$', '%' };
+static const uint8_t *delimiters = standard;
+
 /* A record with its number, filled up to `size` bytes where that is more than it needs. */
-static void add_record(const char *start, unsigned number, size_t size)
+static void add_record(char type, unsigned number, size_t size)
 {
-    size_t n = length + (size_t)sprintf((char *)text + length, "%s%u", start, number);
+    const char field = (char)delimiters[0];
+    size_t n = length + (size_t)sprintf((char *)text + length, "%c%c%u", type, field, number);
     const size_t end = length + size;
     if (n + 1 < end)
-        text[n++] = '|';
+        text[n++] = (uint8_t)field;
     for (; n + 1 < end; n++)
         text[n] = (uint8_t)('a' + n % 26);
     text[n++] = CR;
@@ -161,23 +168,22 @@ static void make_message(size_t size, bool many)
     enum { END = 4, LONG = 900, LEAST = 12 };
     if (size < 20 || size > TEXT)
         stop("a message has 20 to 4,000 bytes here");
-    length = (size_t)sprintf((char *)text, "H|\\^&\r");
+    length = (size_t)sprintf((char *)text, "H%.4s\r", (const char *)delimiters);
     if (many) {
         unsigned orders = 0;
         if (size - length >= 32)
-            add_record("P|", 1, 0);
+            add_record('P', 1, 0);
         while (size - length >= 80) {
-            add_record("O|", ++orders, 0);
+            add_record('O', ++orders, 0);
             for (unsigned results = 1; results <= 9; results++)
-                add_record("R|", results, 0);
+                add_record('R', results, 0);
         }
     }
     for (unsigned number = 1; size - length > END; number++) {
         size_t left = size - length - END;
-        add_record("M|", number, left > LONG + LEAST ? LONG : left);
+        add_record('M', number, left > LONG + LEAST ? LONG : left);
     }
-    length += (size_t)sprintf((char *)text + length, "L|1") + 1;
-    text[length - 1] = CR;
+    add_record('L', 1, 0);
     if (length != size || !plain_is_message(text, length))
         stop("the message is not what it should be");
 }
@@ -201,7 +207,7 @@ static void put_check(const uint8_t *frame, uint8_t *end)
     end[2] = (uint8_t)"0123456789ABCDEF"[sum & 15];
 }
 
-/* A wrong number for the last record, `L|1`, which has the last frame to itself: a fault that is met at the very end. */
+/* A wrong number for the last record, L, which has the last frame to itself: a fault that is met at the very end. */
 static void misnumber_last(void)
 {
     enum { RECORD = 4 };
@@ -431,16 +437,16 @@ FOR_EACH_SIDE void over_text(enum side side, uint64_t count, enum text_function 
             number = ngachodui_is_message(text, length) ? 0 : NGACHODUI_MALFORMED;
         } else if (side == LIBRARY) {
             ngachodui_made made = function == CUT ? ngachodui_cut(text, length, out, sizeof out)
-                                : function == ESCAPE ? ngachodui_escape(text, length, out, sizeof out)
-                                : ngachodui_unescape(text, length, out, sizeof out);
+                                : function == ESCAPE ? ngachodui_escape(delimiters, text, length, out, sizeof out)
+                                : ngachodui_unescape(delimiters, text, length, out, sizeof out);
             number = made.number;
             out_length = made.length;
         } else if (side == PLAIN && function == CHECK) {
             number = plain_is_message(text, length) ? 0 : NGACHODUI_MALFORMED;
         } else if (side == PLAIN) {
             number = function == CUT ? plain_cut(text, length, out, sizeof out, &out_length).number
-                   : function == ESCAPE ? plain_escape(text, length, out, sizeof out, &out_length)
-                   : plain_unescape(text, length, out, sizeof out, &out_length);
+                   : function == ESCAPE ? plain_escape(delimiters, text, length, out, sizeof out, &out_length)
+                   : plain_unescape(delimiters, text, length, out, sizeof out, &out_length);
         }
         KEEP_MEMORY();
         if (number != 0)
@@ -482,11 +488,11 @@ static void make_text(size_t size, bool many, bool escaped)
     if (size > TEXT)
         stop("a text has up to 4,000 bytes here");
     for (size_t i = 0; i < size; i++)
-        text[i] = many && i % 4 == 3 ? (uint8_t)"|^\\&"[i / 4 % 4] : (uint8_t)('a' + i % 26);
+        text[i] = many && i % 4 == 3 ? delimiters[i / 4 % 4] : (uint8_t)('a' + i % 26);
     length = size;
     if (escaped && many) {
         length = size * 2 / 3;
-        if (plain_escape(text, length, out, sizeof out, &length) != PLAIN_NOTHING || length > TEXT)
+        if (plain_escape(delimiters, text, length, out, sizeof out, &length) != PLAIN_NOTHING || length > TEXT)
             stop("the text is not escaped");
         memcpy(text, out, length);
         memset(out, 0, sizeof out);
@@ -529,7 +535,17 @@ static bool starts(struct operation o, const char *start)
     return strncmp(o.name, start, strlen(start)) == 0;
 }
 
-/* What an operation works on, made once. */
+static bool takes_message(struct operation o)
+{
+    return starts(o, "decided-") || starts(o, "faulty-") || starts(o, "check-") || starts(o, "cut-") || starts(o, "read-");
+}
+
+static bool takes_component(struct operation o)
+{
+    return starts(o, "escape-") || starts(o, "unescape-");
+}
+
+/* What an operation works on, made once for its delimiters. */
 static void prepare(struct operation o)
 {
     const bool many = strstr(o.name, "-many") != NULL;
@@ -539,9 +555,9 @@ static void prepare(struct operation o)
         length = (size_t)sprintf((char *)text, "H|\\^&|A\rL|1\r");
     else if (is(o, "taken-few"))
         make_message(TEXT, false);
-    else if (starts(o, "escape-") || starts(o, "unescape-"))
+    else if (takes_component(o))
         make_text(o.size ? o.size : TEXT, many, starts(o, "unescape-"));
-    else if (starts(o, "decided-") || starts(o, "faulty-") || starts(o, "check-") || starts(o, "cut-") || starts(o, "read-"))
+    else if (takes_message(o))
         make_message(o.size ? o.size : TEXT, many);
     if (starts(o, "decided-") || starts(o, "faulty-"))
         cut_message();
@@ -638,6 +654,12 @@ int main(int argc, char **argv)
     if (side == NONE && strcmp(argv[2], "none") != 0)
         stop("the side is library, plain or none");
     run(side, o, count);
+    const uint64_t operations = done;
+    if (takes_message(o) || takes_component(o)) {
+        delimiters = others;
+        prepare(o);
+        run(side, o, 1);
+    }
 
     /* The counts and the memories, which lie alike on both sides. */
     for (unsigned line = 0; line < LINES; line++)
@@ -648,6 +670,6 @@ int main(int argc, char **argv)
     note_bytes(library.frames, sizeof library.frames);
     note_bytes(buffer, sizeof buffer);
     write_number(stdout, "checksum ", checksum);
-    write_number(stdout, "operations ", done);
+    write_number(stdout, "operations ", operations);
     return 0;
 }

@@ -20,7 +20,7 @@ use Rattle.answers.specs.declared.Answer.{Answer}
 use Rattle.answers.proofs.Answer.{the-type}
 use Rattle.answers.specs.declared.Reply.the-variants.{Byte}
 use Rattle.answers.specs.declared.Fault.{Fault}
-use Rattle.answers.specs.declared.Fault.the-variants.{NoHeader, UnknownType, Misplaced, Misnumbered, NoFinalCr}
+use Rattle.answers.specs.declared.Fault.the-variants.{NoHeader, UnknownType, Misplaced, Misnumbered, NoFinalCr, BadDelimiters}
 use Rattle.answers.specs.declared.Answer.the-variants.{Nothing, Opened, Accepted, Repeated, Stored, Ended, Dropped, TimedOut, Taken, Busy, Unended, Torn, WrongCheck, BadText, BadNumber, Refusing, OutOfTurn, TooLong, NoCr, NoMessage, NoRoom, NoLine, WrongSize, BeyondLimits, Broken, NothingWaiting, BufferShort, Malformed, NotFitting, Faulty}
 
 -- all answers: those that carry values carry these
@@ -60,6 +60,7 @@ answers vs =
     ∷ Faulty Misplaced (getD vs 0 0)
     ∷ Faulty Misnumbered (getD vs 0 0)
     ∷ Faulty NoFinalCr (getD vs 0 0)
+    ∷ Faulty BadDelimiters (getD vs 0 0)
     ∷ []
 
 -- the first of a list with this number
@@ -103,6 +104,7 @@ listed (Faulty UnknownType place) = refl
 listed (Faulty Misplaced place) = refl
 listed (Faulty Misnumbered place) = refl
 listed (Faulty NoFinalCr place) = refl
+listed (Faulty BadDelimiters place) = refl
 
 -- each answer of a list passes a test
 abbrev pub passes : (Answer → Bool) → List Answer → Bool
@@ -146,6 +148,7 @@ fault-number UnknownType = refl
 fault-number Misplaced = refl
 fault-number Misnumbered = refl
 fault-number NoFinalCr = refl
+fault-number BadDelimiters = refl
 
 -- and no other: so it is told from every answer that is none, and each fault from the others
 pub fault-other : (f : Fault) (n : ℕ) → isFaulty n ≡ false → faultNumber f ≢ n
@@ -188,7 +191,7 @@ pub record Objects (n : ℕ) : Type 0 where
 faulty-objects : (n : ℕ) → isFaulty n ≡ true → Objects n
 unfolding replyOf
 faulty-objects n e =
-    let low : 50 ≤ n = leb-true 50 n (and-left (leb 50 n) (leb n 54) e) in
+    let low : 50 ≤ n = leb-true 50 n (and-left (leb 50 n) (leb n 55) e) in
     record {
       refused = rw (le-ltb n 1 (omega (arith, low)), lt-leb n 4 (omega (arith, low)), le-ltb n 20 (omega (arith, low)), lt-leb n 31 (omega (arith, low)), e);
       not-4 = ne-eqb n 4 (λ q. absurd (omega (arith, low, q)));

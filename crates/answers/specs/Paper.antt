@@ -7,23 +7,24 @@ use lib.Dec.{leb, ltb}
 use lib.ListN.{getD}
 use Rattle.memory.specs.Tests.{between}
 use Rattle.answers.specs.declared.Fault.{Fault}
-use Rattle.answers.specs.declared.Fault.the-variants.{NoHeader, UnknownType, Misplaced, Misnumbered, NoFinalCr}
+use Rattle.answers.specs.declared.Fault.the-variants.{NoHeader, UnknownType, Misplaced, Misnumbered, NoFinalCr, BadDelimiters}
 use Rattle.answers.specs.declared.Answer.{Answer}
 use Rattle.answers.specs.declared.Answer.the-variants.{Nothing, Opened, Accepted, Repeated, Stored, Ended, Dropped, TimedOut, Taken, Busy, Unended, Torn, WrongCheck, BadText, BadNumber, Refusing, OutOfTurn, TooLong, NoCr, NoMessage, NoRoom, NoLine, WrongSize, BeyondLimits, Broken, NothingWaiting, BufferShort, Malformed, NotFitting, Faulty}
 use Rattle.answers.specs.declared.Reply.{Reply}
 use Rattle.answers.specs.declared.Reply.the-variants.{Silence, Byte}
 
--- the number of a fault of the records [A50, A51, A52, A53, A54]
+-- the number of a fault of the records [A50, A51, A52, A53, A54, A55]
 abbrev pub faultNumber : Fault → ℕ
 faultNumber NoHeader = 50
 faultNumber UnknownType = 51
 faultNumber Misplaced = 52
 faultNumber Misnumbered = 53
 faultNumber NoFinalCr = 54
+faultNumber BadDelimiters = 55
 
 -- whether a number tells of such a fault
 abbrev pub isFaulty : ℕ → Bool
-isFaulty n = between 50 54 n
+isFaulty n = between 50 55 n
 
 -- the answer's number [O2]
 abbrev pub numberOf : Answer → ℕ

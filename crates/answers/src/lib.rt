@@ -14,6 +14,7 @@ pub enum Fault {
     Misplaced,
     Misnumbered,
     NoFinalCr,
+    BadDelimiters,
 }
 
 impl Fault {
@@ -27,6 +28,7 @@ impl Fault {
             Fault::Misplaced => 52,
             Fault::Misnumbered => 53,
             Fault::NoFinalCr => 54,
+            Fault::BadDelimiters => 55,
         }
     }
 }
@@ -147,7 +149,7 @@ pub fn reply_to(number: u8) -> Reply
     if number < 50 {
         return Reply::Silence;
     }
-    if number <= 54 {
+    if number <= 55 {
         return Reply::Byte(NAK);
     }
     Reply::Silence

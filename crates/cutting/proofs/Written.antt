@@ -17,12 +17,10 @@ use Rattle.framing.specs.Writing.{frameOf, putIn, FramePut}
 use Rattle.frame.specs.declared.End.{End}
 use Rattle.framing.specs.declared.Written.{Written}
 use Rattle.framing.proofs.Put.{length-collected}
-use Rattle.kinds.specs.Delimiters.{standard}
 use Rattle.kinds.specs.declared.Delimiters.{Delimiters}
 use Rattle.faults.specs.Message.{isMessage}
-use Rattle.faults.specs.Faults.{fault, faultOf}
+use Rattle.faults.specs.Faults.{faultOf}
 use Rattle.faults.specs.declared.Checked.{Checked}
-use Rattle.faults.proofs.Places.{checked-standard}
 use Rattle.records.proofs.Scans.{tailAt, rest-part}
 use Rattle.cutting.specs.Pieces.{Piece, piecesOf}
 use Rattle.cutting.specs.Inner.Wholes.{bytesOf}
@@ -117,8 +115,8 @@ unfolding isCuttable
 by-message limit text h e = rw (lt-ltb aroundText limit h) e
 
 -- why a text is not cut is told by what its check finds
-pub refused-checked : (text : List ℕ) (x : Checked) {d : Delimiters} {found : Checked} → d ≡ standard → found ≡ fault d text → found ≡ x → refusedAs x ≡ refusedAs (faultOf text)
-refused-checked text x s f e = ap refusedAs (checked-standard text s f e)
+pub refused-checked : (x : Checked) {found c : Checked} → found ≡ c → found ≡ x → refusedAs x ≡ refusedAs c
+refused-checked x f e = ap refusedAs (sym e ∙ f)
 
 -- what each way out of cutting says
 module _ (limit : ℕ) (text out : List ℕ) where

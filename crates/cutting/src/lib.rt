@@ -6,7 +6,6 @@ ghost use Rattle.faults.specs.Faults.{faultOf};
 ghost use Rattle.cutting.specs.Frames.{refusedAs, CutInto};
 use answers::Fault;
 use faults::Checked;
-use kinds::Delimiters;
 
 mod pieces; // pieces.rt: where pieces end, and how long the frames are
 mod writing; // writing.rt: the frames in lent memory
@@ -35,7 +34,7 @@ pub fn first_piece(limit: usize, text: &[u8]) -> usize
 fn refused(text: &[u8]) -> Framed
     ensures { λ r. ⌜ r ≡ refusedAs (faultOf (now (text .entry))) ⌝ }
 {
-    match faults::check(Delimiters::standard(), text) {
+    match faults::check(text) {
         Checked::Message => Framed::Malformed,
         Checked::NotText => Framed::Malformed,
         Checked::Faulty(fault, place) => Framed::Faulty(fault, place),

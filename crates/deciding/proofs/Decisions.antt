@@ -9,14 +9,13 @@ use lib.ListN.{length}
 use Rattle.memory.specs.Sizes.{messageLimit}
 use Rattle.memory.proofs.Tests.{is-false}
 use Rattle.room.specs.Room.{todaysShares}
-use Rattle.kinds.specs.Delimiters.{standard}
 use Rattle.kinds.specs.declared.Delimiters.{Delimiters}
 use Rattle.faults.specs.Message.{isMessage}
-use Rattle.faults.specs.Faults.{fault, faultOf}
+use Rattle.faults.specs.Faults.{faultOf}
 use Rattle.faults.specs.declared.Checked.{Checked}
 use Rattle.faults.specs.declared.Checked.the-variants as checked
 use Rattle.faults.proofs.Messages.{message-short}
-use Rattle.faults.proofs.Places.{checked-standard, fault-too-long}
+use Rattle.faults.proofs.Places.{fault-too-long}
 use Rattle.journal.specs.Verdicts.{judgeOf}
 use Rattle.journal.specs.Storage.{storeBy, storeOf, Stored}
 use Rattle.journal.specs.declared.Ledger.{Ledger}
@@ -45,9 +44,9 @@ unfolding objectionTo
 objection-number text = checked-number (faultOf text)
 
 -- it is told by what the check of the text finds
-pub objection-checked : (text : List ℕ) (x : Checked) {d : Delimiters} {found : Checked} → d ≡ standard → found ≡ fault d text → found ≡ x → objection x ≡ objectionTo text
+pub objection-checked : (text : List ℕ) (x : Checked) {found : Checked} → found ≡ faultOf text → found ≡ x → objection x ≡ objectionTo text
 unfolding objectionTo
-objection-checked text x s f e = ap objection (checked-standard text s f e)
+objection-checked text x f e = ap objection (sym e ∙ f)
 
 -- what the journal's storing leaves is what its answer comes to
 room-row : (q : Judgement) (d : Ledger) (i : ℕ) (text j : List ℕ)
@@ -90,7 +89,7 @@ module _ (d : Ledger) (i : ℕ) (text j : List ℕ) where
   -- a text that is longer than any message
   pub too-long : (o : Outcome) → o ≡ Against NoMessage → messageLimit < length text → Decision d i text j (record { outcome = o; ledger = d }) j
   unfolding objectionTo
-  too-long o of h = no-message o (of ∙ sym (ap (λ (x : Checked). Against (objection x)) (fault-too-long standard text h))) (is-false (isMessage text) (λ m. absurd (omega (arith, message-short _ text m, h))))
+  too-long o of h = no-message o (of ∙ sym (ap (λ (x : Checked). Against (objection x)) (fault-too-long _ text h))) (is-false (isMessage text) (λ m. absurd (omega (arith, message-short _ text m, h))))
 
   pub by-store : (s : Storing) (o : Outcome) (j′ : List ℕ) → isMessage text ≡ true → Stored d todaysShares i text j s j′ → o ≡ roomOutcome (s .answer) → Decision d i text j (record { outcome = o; ledger = s .ledger }) j′
   unfolding storeOf

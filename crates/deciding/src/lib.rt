@@ -8,7 +8,6 @@ ghost use Rattle.deciding.specs.Inner.Joined.{Joined};
 use answers::Answer;
 use faults::Checked;
 use journal::Ledger;
-use kinds::Delimiters;
 
 // What becomes of a text: it is stored or decided against, or everything is left as it was.
 pub enum Fate {
@@ -91,7 +90,7 @@ fn of_text(ledger: Ledger, line: u8, text: &[u8], journal: &mut [u8]) -> Decided
 fn objection(text: &[u8]) -> Answer
     ensures { λ r. ⌜ r ≡ objectionTo (now (text .entry)) ⌝ }
 {
-    match faults::check(Delimiters::standard(), text) {
+    match faults::check(text) {
         Checked::Message => Answer::NoMessage,
         Checked::NotText => Answer::NoMessage,
         Checked::Faulty(fault, place) => Answer::Faulty(fault, place),

@@ -9,7 +9,7 @@ use native.Mathlib.Omega.{arith}
 use native.Mathlib.Decide.{ℕ-discrete}
 use lib.Dec.{eqb}
 use borrow.Author.Tests.{eq-eqb, ne-eqb, not-true}
-use Rattle.memory.proofs.Tests.{clash, never-both}
+use Rattle.memory.proofs.Tests.{clash, never-both, six}
 use Rattle.kinds.specs.Delimiters.{standard, different}
 use Rattle.kinds.specs.declared.Delimiters.{Delimiters}
 use Rattle.escaping.specs.Letters.{letterFor, meant}
@@ -41,16 +41,6 @@ there d x rest =
 pub escaped-plain : (d : Delimiters) (t : List ℕ) → unescaped d (escaped d t) ≡ some t
 escaped-plain d [] = refl
 escaped-plain d (x ∷ t) = there d x (escaped d t) ∙ ap (front (some x)) (escaped-plain d t)
-
--- what `different` tells of each pair
-six : (a b c e f g : Bool) → a && b && c && e && f && g ≡ true → (a ≡ true) × (b ≡ true) × (c ≡ true) × (e ≡ true) × (f ≡ true) × (g ≡ true)
-six true true true true true true h = (refl, refl, refl, refl, refl, refl)
-six true true true true true false h = clash (cc)
-six true true true true false g h = clash (cc)
-six true true true false f g h = clash (cc)
-six true true false e f g h = clash (cc)
-six true false c e f g h = clash (cc)
-six false b c e f g h = clash (cc)
 
 -- the letter of each delimiter
 module _ (d : Delimiters) (good : different d ≡ true) where

@@ -7,7 +7,6 @@ use Prim.Native.Nat.{ℕ}
 use lib.ListN.{getD}
 use Rattle.memory.proofs.Tests.{and-left, and-right, never-both}
 use Rattle.kinds.specs.Kinds.{letterOf, kindOf, mayFollow}
-use Rattle.kinds.specs.Header.{isHeader}
 use Rattle.records.specs.Records.{records}
 use Rattle.sequence.specs.Numbers.{started, counted}
 use Rattle.faults.specs.Message.{numberIn, areNext, areRecords, isMessageBy}
@@ -17,7 +16,7 @@ use Rattle.sequence.specs.declared.Counts.{Counts}
 use Rattle.kinds.specs.declared.Letter.the-variants.{Known}
 use Rattle.kinds.specs.declared.Kind.{Kind}
 use Rattle.kinds.specs.declared.Kind.the-variants.{Header, Patient, Order, Result, Query, Terminator, Comment, Manufacturer}
-use Rattle.faults.proofs.Messages.{sound, typed, header}
+use Rattle.faults.proofs.Messages.{sound, typed, header, headed}
 
 -- the last other type behind a record of type k
 abbrev pub otherOf : Kind → Kind → Kind
@@ -67,8 +66,8 @@ chained d (r ∷ rs) h = record {
   first = r;
   others = rs;
   all = refl;
-  is-header = header d r (and-left (isHeader d r) _ h) .1;
-  chain = chain-rest d started rs (and-right (isHeader d r) _ h);
+  is-header = header d r (headed d r rs h .head) .1;
+  chain = chain-rest d started rs (headed d r rs h .others);
 }
 
 pub message-chained : (d : Delimiters) (m : List ℕ) → isMessageBy d m ≡ true → Chained (records m)

@@ -1,5 +1,6 @@
 pub mod Messages
 pub mod NoFault
+pub mod InForce
 pub mod Chain
 pub mod Head
 pub mod Walked

@@ -16,7 +16,7 @@ use Rattle.characters.specs.Control.{cr}
 use Rattle.characters.specs.Allowed.{allowed}
 use Rattle.kinds.specs.Kinds.{letterOf, kindOf, mayFollow, isTerminator}
 use Rattle.kinds.specs.Header.{isHeader}
-use Rattle.kinds.specs.Delimiters.{standard}
+use Rattle.kinds.specs.Delimiters.{areDelimiters}
 use Rattle.records.specs.Fields.{before, behind}
 use Rattle.records.specs.Records.{records, joined, none, isNotCr, endsWithCr, beginsWithL, endsWithL}
 use Rattle.sequence.specs.Numbers.{numberOf, started, countOf, counted}
@@ -126,10 +126,25 @@ header d r h =
     let two = and-left _ _ (and-left _ _ (and-left _ _ (and-left _ _ h))) in
     (leb-true 5 (length r) (and-left (leb 5 (length r)) _ two), eqb-true (getD r 0 0) (letterOf Header) (and-right (leb 5 (length r)) _ two))
 
+-- the first of a message's records: a header that names an allowed four, and the others come behind it
+pub record Headed (d : Delimiters) (r : List ℕ) (rs : List (List ℕ)) : Type 0 where
+  pub head : isHeader d r ≡ true
+  pub four : areDelimiters d ≡ true
+  pub others : areNext d started rs ≡ true
+
+pub headed : (d : Delimiters) (r : List ℕ) (rs : List (List ℕ)) → areRecords d (r ∷ rs) ≡ true → Headed d r rs
+headed d r rs h =
+    let proper = and-left (isHeader d r && areDelimiters d) (areNext d started rs) h in
+    record {
+      head = and-left (isHeader d r) (areDelimiters d) proper;
+      four = and-right (isHeader d r) (areDelimiters d) proper;
+      others = and-right (isHeader d r && areDelimiters d) (areNext d started rs) h;
+    }
+
 all-last : (d : Delimiters) (rs : List (List ℕ)) (r : List ℕ) (ss : List (List ℕ)) → areRecords d (rs ++ r ∷ ss) ≡ true → beginsWithL r ≡ none ss
-all-last d [] r [] h = never-both false (and-right (isHeader d r) false h) refl
-all-last d [] r (q ∷ ss) h = rw (header d r (and-left (isHeader d r) _ h) .1)
-all-last d (x ∷ rs) r ss h = rest-last d started rs r ss (and-right (isHeader d x) _ h)
+all-last d [] r [] h = never-both false (headed d r [] h .others) refl
+all-last d [] r (q ∷ ss) h = rw (header d r (headed d r (q ∷ ss) h .head) .1)
+all-last d (x ∷ rs) r ss h = rest-last d started rs r ss (headed d x (rs ++ r ∷ ss) h .others)
 
 -- the least lengths of a message's records, without their CRs: H and four delimiters; a letter, a delimiter and a digit
 abbrev pub OthersLong : List (List ℕ) → Type 0
@@ -147,7 +162,7 @@ rest-long d s (r ∷ rs) h =
 
 all-long : (d : Delimiters) (rs : List (List ℕ)) → areRecords d rs ≡ true → RecordsLong rs
 all-long d [] h = never-both false h refl
-all-long d (r ∷ rs) h = (header d r (and-left (isHeader d r) _ h) .0, rest-long d started rs (and-right (isHeader d r) _ h))
+all-long d (r ∷ rs) h = let p = headed d r rs h in (header d r (p .head) .0, rest-long d started rs (p .others))
 
 -- how many there can be
 rest-few : (rs : List (List ℕ)) → OthersLong rs → length rs * 4 ≤ length (joined rs)
@@ -223,4 +238,4 @@ module _ (d : Delimiters) (m : List ℕ) (h : isMessageBy d m ≡ true) where
   few-records = all-few (records m) message-long (rw message-joined message-short)
 
 pub message-records : (text : List ℕ) → isMessage text ≡ true → length (records text) ≤ recordsLimit
-message-records text h = few-records standard text h
+message-records text h = few-records _ text h

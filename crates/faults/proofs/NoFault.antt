@@ -14,6 +14,7 @@ use Rattle.memory.specs.Tests.{unless, all}
 use Rattle.characters.specs.Allowed.{allowed}
 use Rattle.kinds.specs.Kinds.{mayFollow, isTerminator}
 use Rattle.kinds.specs.Header.{isHeader}
+use Rattle.kinds.specs.Delimiters.{areDelimiters}
 use Rattle.records.specs.Records.{records, endsWithCr}
 use Rattle.sequence.specs.Numbers.{started, countOf, counted}
 use Rattle.faults.specs.Message.{typeIn, numberIn, isNext, nextCounts, areNext, areRecords, isMessageBy}
@@ -24,7 +25,7 @@ use Rattle.kinds.specs.declared.Letter.{Letter}
 use Rattle.kinds.specs.declared.Letter.the-variants.{Known, Unknown}
 use Rattle.sequence.specs.declared.Counts.{Counts}
 use Rattle.answers.specs.declared.Fault.{Fault}
-use Rattle.answers.specs.declared.Fault.the-variants.{NoHeader, Misplaced, Misnumbered, NoFinalCr}
+use Rattle.answers.specs.declared.Fault.the-variants.{NoHeader, Misplaced, Misnumbered, NoFinalCr, BadDelimiters}
 use Rattle.faults.specs.declared.Step.the-variants.{Fine, Wrong}
 use Rattle.faults.specs.declared.Checked.{Checked}
 use Rattle.faults.specs.declared.Checked.the-variants.{Message, NotText, Faulty}
@@ -72,17 +73,19 @@ rest-right d s place r (q ∷ rs) =
 records-right : (d : Delimiters) (rs : List (List ℕ)) → isFaultless (recordsFault d rs) ≡ areRecords d rs
 unfolding recordsFault headerStep
 records-right d [] = refl
-records-right d (r ∷ []) = by-header (isHeader d r)
+records-right d (r ∷ []) = by-tests (isHeader d r) (areDelimiters d)
   where
-    by-header : (b : Bool) → isFaultless (after (unless b (Wrong NoHeader) (Wrong Misplaced)) 1 (λ t. Message)) ≡ b && false
-    by-header true = refl
-    by-header false = refl
-records-right d (r ∷ q ∷ rs) = by-header (isHeader d r) (rest-right d started 2 q rs)
+    by-tests : (b c : Bool) → isFaultless (after (unless b (Wrong NoHeader) (unless c (Wrong BadDelimiters) (Wrong Misplaced))) 1 (λ t. Message)) ≡ b && c && false
+    by-tests true true = refl
+    by-tests true false = refl
+    by-tests false c = refl
+records-right d (r ∷ q ∷ rs) = by-tests (isHeader d r) (areDelimiters d) (rest-right d started 2 q rs)
   where
-    by-header : (b : Bool) → isFaultless (restFault d started 2 (q ∷ rs)) ≡ areNext d started (q ∷ rs)
-        → isFaultless (after (unless b (Wrong NoHeader) (Fine started)) 1 (λ t. restFault d t 2 (q ∷ rs))) ≡ b && areNext d started (q ∷ rs)
-    by-header true e = e
-    by-header false e = refl
+    by-tests : (b c : Bool) → isFaultless (restFault d started 2 (q ∷ rs)) ≡ areNext d started (q ∷ rs)
+        → isFaultless (after (unless b (Wrong NoHeader) (unless c (Wrong BadDelimiters) (Fine started))) 1 (λ t. restFault d t 2 (q ∷ rs))) ≡ b && c && areNext d started (q ∷ rs)
+    by-tests true true e = e
+    by-tests true false e = refl
+    by-tests false c e = refl
 
 empty : (n : ℕ) → eqb n 0 ≡ not (leb 1 n)
 empty n =

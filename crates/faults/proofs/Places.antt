@@ -16,27 +16,23 @@ use Rattle.memory.proofs.Tests.{clash, and-both, never-both}
 use Rattle.characters.specs.Allowed.{allowed}
 use Rattle.kinds.specs.Kinds.{mayFollow}
 use Rattle.kinds.specs.Header.{isHeader}
-use Rattle.kinds.specs.Delimiters.{standard}
+use Rattle.kinds.specs.Delimiters.{areDelimiters}
 use Rattle.records.specs.Records.{records, none, endsWithCr}
 use Rattle.records.proofs.Scans.{records-cons}
 use Rattle.sequence.specs.Numbers.{started, countOf, counted}
 use Rattle.faults.specs.Message.{typeIn, numberIn, isMessageBy}
-use Rattle.faults.specs.Faults.{placed, kindStep, recordStep, headerStep, after, restFault, recordsFault, fault, faultOf, isFaultless}
+use Rattle.faults.specs.Faults.{placed, kindStep, recordStep, headerStep, after, restFault, recordsFault, fault, isFaultless}
 use Rattle.kinds.specs.declared.Delimiters.{Delimiters}
 use Rattle.kinds.specs.declared.Letter.{Letter}
 use Rattle.kinds.specs.declared.Letter.the-variants.{Known, Unknown}
 use Rattle.sequence.specs.declared.Counts.{Counts}
 use Rattle.answers.specs.declared.Fault.{Fault}
-use Rattle.answers.specs.declared.Fault.the-variants.{NoHeader, Misplaced, Misnumbered, NoFinalCr}
+use Rattle.answers.specs.declared.Fault.the-variants.{NoHeader, Misplaced, Misnumbered, NoFinalCr, BadDelimiters}
 use Rattle.faults.specs.declared.Step.{Step}
 use Rattle.faults.specs.declared.Step.the-variants.{Fine, Wrong}
 use Rattle.faults.specs.declared.Checked.{Checked}
 use Rattle.faults.specs.declared.Checked.the-variants.{Message, NotText, Faulty}
 use Rattle.faults.proofs.NoFault.{no-fault}
-
--- what a check by the standard delimiters has found of a text is wrong with it first
-pub checked-standard : (text : List ℕ) {x found : Checked} {d : Delimiters} → d ≡ standard → found ≡ fault d text → found ≡ x → x ≡ faultOf text
-checked-standard text s f e = sym e ∙ f ∙ ap (λ (d : Delimiters). fault d text) s
 
 -- ---- the records, front to back
 
@@ -61,12 +57,13 @@ record-stops d s last r = kind-stops s last (typeIn d r) (numberIn d r)
 
 header-stops : (d : Delimiters) (last : Bool) (r : List ℕ) → Stops (headerStep d last r)
 unfolding headerStep
-header-stops d last r = by-tests (isHeader d r) last
+header-stops d last r = by-tests (isHeader d r) (areDelimiters d) last
   where
-    by-tests : (a b : Bool) → Stops (unless a (Wrong NoHeader) (cond b (Wrong Misplaced) (Fine started)))
-    by-tests true true = λ e. clash (cc e)
-    by-tests true false = tt
-    by-tests false b = λ e. clash (cc e)
+    by-tests : (a b c : Bool) → Stops (unless a (Wrong NoHeader) (unless b (Wrong BadDelimiters) (cond c (Wrong Misplaced) (Fine started))))
+    by-tests true true true = λ e. clash (cc e)
+    by-tests true true false = tt
+    by-tests true false c = λ e. clash (cc e)
+    by-tests false b c = λ e. clash (cc e)
 
 -- a fault stands at one of n records, the first of them at this place
 abbrev Among : ℕ → ℕ → Checked → Type 0

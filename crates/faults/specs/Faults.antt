@@ -10,7 +10,7 @@ use Rattle.memory.specs.Tests.{unless, all}
 use Rattle.characters.specs.Allowed.{allowed}
 use Rattle.kinds.specs.Kinds.{mayFollow, isTerminator}
 use Rattle.kinds.specs.Header.{isHeader}
-use Rattle.kinds.specs.Delimiters.{standard}
+use Rattle.kinds.specs.Delimiters.{delimitersOf, areDelimiters}
 use Rattle.records.specs.Records.{records, none, endsWithCr}
 use Rattle.sequence.specs.Numbers.{started, countOf, counted}
 use Rattle.faults.specs.Message.{typeIn, numberIn}
@@ -20,7 +20,7 @@ use Rattle.kinds.specs.declared.Letter.the-variants.{Known, Unknown}
 use Rattle.kinds.specs.declared.Delimiters.{Delimiters}
 use Rattle.sequence.specs.declared.Counts.{Counts}
 use Rattle.answers.specs.Paper.{faultNumber}
-use Rattle.answers.specs.declared.Fault.the-variants.{NoHeader, UnknownType, Misplaced, Misnumbered, NoFinalCr}
+use Rattle.answers.specs.declared.Fault.the-variants.{NoHeader, UnknownType, Misplaced, Misnumbered, NoFinalCr, BadDelimiters}
 use Rattle.faults.specs.declared.Step.{Step}
 use Rattle.faults.specs.declared.Step.the-variants.{Fine, Wrong}
 use Rattle.faults.specs.declared.Checked.{Checked}
@@ -41,9 +41,9 @@ kindStep s last (Known k) n =
 unfoldable pub recordStep : Delimiters → Counts → Bool → List ℕ → Step
 recordStep d s last r = kindStep s last (typeIn d r) (numberIn d r)
 
--- the first record: a header and, as it is no L, not the last [A50, A52]
+-- the first record: a header, by an allowed four and, as it is no L, not the last [A50, A52, A55]
 unfoldable pub headerStep : Delimiters → Bool → List ℕ → Step
-headerStep d last r = unless (isHeader d r) (Wrong NoHeader) (cond last (Wrong Misplaced) (Fine started))
+headerStep d last r = unless (isHeader d r) (Wrong NoHeader) (unless (areDelimiters d) (Wrong BadDelimiters) (cond last (Wrong Misplaced) (Fine started)))
 
 -- from a record's step on: the fault with the record's place, or what comes behind it
 abbrev pub after : Step → ℕ → (Counts → Checked) → Checked
@@ -73,9 +73,9 @@ isFaultless Message = true
 isFaultless NotText = false
 isFaultless (Faulty f place) = false
 
--- what is wrong with a text first, read by the delimiters in force: today the standard ones
+-- what is wrong with a text first, read by the delimiters in force in it [R2]
 abbrev pub faultOf : List ℕ → Checked
-faultOf text = fault standard text
+faultOf text = fault (delimitersOf text) text
 
 -- number and values with which such a text is refused where it is cut or read; none for a message [A46, R22]
 abbrev pub paper : Checked → List ℕ

@@ -1,4 +1,5 @@
--- What a message is: allowed bytes, not none and not over the limit, made of records that CR ends: a header, records of which each may come next, and L the last.
+-- What a message is: allowed bytes, not none and not over the limit, made of records that CR ends: a header that names four allowed delimiters, records of which each
+-- may come next, read by these four, and L the last.
 -- Assumes nothing.
 use Prim.Native.Nat.{ℕ, _+_}
 use mathlib.Core.List.{List, [], _∷_}
@@ -10,7 +11,7 @@ use Rattle.memory.specs.Tests.{between, all}
 use Rattle.characters.specs.Allowed.{allowed}
 use Rattle.kinds.specs.Kinds.{typeOf, mayFollow, isTerminator}
 use Rattle.kinds.specs.Header.{isHeader}
-use Rattle.kinds.specs.Delimiters.{standard}
+use Rattle.kinds.specs.Delimiters.{delimitersOf, areDelimiters}
 use Rattle.records.specs.Fields.{fieldOf}
 use Rattle.records.specs.Records.{records, endsWithCr}
 use Rattle.sequence.specs.Numbers.{numberOf, started, countOf, counted}
@@ -41,15 +42,15 @@ abbrev pub areNext : Delimiters → Counts → List (List ℕ) → Bool
 areNext d s [] = isTerminator (s .other)
 areNext d s (r ∷ rs) = isNext s (typeIn d r) (numberIn d r) && areNext d (nextCounts s (typeIn d r) (numberIn d r)) rs
 
--- all records: a header, and those behind it [R3]
+-- all records: a header with an allowed four, and those behind it [R3]
 abbrev pub areRecords : Delimiters → List (List ℕ) → Bool
 areRecords d [] = false
-areRecords d (r ∷ rs) = isHeader d r && areNext d started rs
+areRecords d (r ∷ rs) = isHeader d r && areDelimiters d && areNext d started rs
 
 -- a text is a message by these delimiters [R1]
 unfoldable pub isMessageBy : Delimiters → List ℕ → Bool
 isMessageBy d text = between 1 messageLimit (length text) && all allowed text && endsWithCr text && areRecords d (records text)
 
--- a text is a message, by the delimiters in force: today the standard ones [R1, R11]
+-- a text is a message, by the delimiters in force in it [R1, R2, R11]
 abbrev pub isMessage : List ℕ → Bool
-isMessage text = isMessageBy standard text
+isMessage text = isMessageBy (delimitersOf text) text

@@ -108,6 +108,9 @@ pub fn check_header(d: Delimiters, last: bool, rec: &[u8]) -> Step
     if !kinds::is_header(d, rec) {
         return Step::Wrong(Fault::NoHeader);
     }
+    if !kinds::are_delimiters(d) {
+        return Step::Wrong(Fault::BadDelimiters);
+    }
     if last {
         return Step::Wrong(Fault::Misplaced);
     }

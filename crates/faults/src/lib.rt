@@ -1,8 +1,7 @@
 // The check of a text: whether it is a message, or the first fault of one that is not and the place of its record.
 ghost use mathlib.Core.Path.{_≡_};
-ghost use Rattle.faults.specs.Faults.{fault};
+ghost use Rattle.faults.specs.Faults.{faultOf};
 use answers::Fault;
-use kinds::Delimiters;
 use sequence::Counts;
 
 mod judging; // judging.rt: one record
@@ -22,9 +21,10 @@ pub enum Checked {
     Faulty(Fault, u16),
 }
 
-// Whether a text is a message by these delimiters, and the first fault of one that is not: its length and bytes, its end, its records.
-pub fn check(d: Delimiters, text: &[u8]) -> Checked
-    ensures { λ r. ⌜ r ≡ fault d (now (text .entry)) ⌝ }
+// Whether a text is a message, and the first fault of one that is not: its length and bytes, its end, its records, by the delimiters that
+// it names.
+pub fn check(text: &[u8]) -> Checked
+    ensures { λ r. ⌜ r ≡ faultOf (now (text .entry)) ⌝ }
 {
     let n = text.len();
     if memory::MESSAGE_LIMIT < n {
@@ -39,5 +39,5 @@ pub fn check(d: Delimiters, text: &[u8]) -> Checked
     if text[n - 1] != characters::CR {
         return Checked::Faulty(Fault::NoFinalCr, records::count_records(text) as u16);
     }
-    walk::records_fault(d, text)
+    walk::records_fault(kinds::delimiters_of(text), text)
 }

@@ -4,7 +4,7 @@ use mathlib.Core.Path.{_≡_, sym, _∙_}
 use mathlib.Core.Bool.{Bool}
 use mathlib.Core.List.{List}
 use Prim.Native.Nat.{ℕ}
-use Rattle.kinds.specs.Delimiters.{standard}
+use Rattle.kinds.specs.Delimiters.{standard, fourAt, delimitersOf, isDelimiter, areDelimiters}
 use Rattle.kinds.specs.Kinds.{kindOf, mayFollow}
 use Rattle.kinds.specs.Header.{isHeader}
 use Rattle.kinds.specs.declared.Delimiters.{Delimiters}
@@ -14,6 +14,22 @@ use Rattle.kinds.specs.declared.Letter.{Letter}
 -- `Delimiters::standard`
 pub standard-once : {r q : Delimiters} → r ≡ standard → q ≡ standard → r ≡ q
 standard-once a b = a ∙ sym b
+
+-- `Delimiters::of_four`
+pub four-once : (four : List ℕ) {r q : Delimiters} → r ≡ fourAt 0 four → q ≡ fourAt 0 four → r ≡ q
+four-once four a b = a ∙ sym b
+
+-- `delimiters_of`
+pub delimiters-once : (text : List ℕ) {r q : Delimiters} → r ≡ delimitersOf text → q ≡ delimitersOf text → r ≡ q
+delimiters-once text a b = a ∙ sym b
+
+-- `is_delimiter`
+pub delimiter-once : (b : ℕ) {r q : Bool} → r ≡ isDelimiter b → q ≡ isDelimiter b → r ≡ q
+delimiter-once b a e = a ∙ sym e
+
+-- `are_delimiters`
+pub allowed-once : (d : Delimiters) {r q : Bool} → r ≡ areDelimiters d → q ≡ areDelimiters d → r ≡ q
+allowed-once d a b = a ∙ sym b
 
 -- `kind_of`
 pub kind-once : (b : ℕ) {r q : Letter} → r ≡ kindOf b → q ≡ kindOf b → r ≡ q

@@ -1,6 +1,7 @@
 // The delimiters of a message, the types of its records, and what may follow what.
 ghost use mathlib.Core.Path.{_≡_};
-ghost use Rattle.kinds.specs.Delimiters.{standard};
+ghost use lib.ListN.{getD};
+ghost use Rattle.kinds.specs.Delimiters.{standard, fourAt, delimitersOf, isDelimiter, different, areDelimiters};
 ghost use Rattle.kinds.specs.Kinds.{kindOf, mayFollow};
 ghost use Rattle.kinds.specs.Header.{isHeader};
 ghost use Rattle.kinds.specs.Inner.Rows.{rowOf};
@@ -25,6 +26,90 @@ impl Delimiters {
             escape: b'&',
         }
     }
+
+    // Four bytes, in the order in which a header names them.
+    pub fn of_four(four: &[u8; 4]) -> Delimiters
+        ensures { λ r. ⌜ r ≡ fourAt 0 (now (four .entry)) ⌝ }
+    {
+        Delimiters {
+            field: four[0],
+            repeat: four[1],
+            component: four[2],
+            escape: four[3],
+        }
+    }
+}
+
+// The byte at this place, or 0 where there is none.
+fn byte_at(text: &[u8], i: usize) -> u8
+    ensures { λ r. ⌜ r ≡ getD (now (text .entry)) i 0 ⌝ }
+{
+    if i < text.len() { text[i] } else { 0 }
+}
+
+// The delimiters in force in a text: the four behind its first byte.
+pub fn delimiters_of(text: &[u8]) -> Delimiters
+    ensures { λ r. ⌜ r ≡ delimitersOf (now (text .entry)) ⌝ }
+{
+    Delimiters {
+        field: byte_at(text, 1),
+        repeat: byte_at(text, 2),
+        component: byte_at(text, 3),
+        escape: byte_at(text, 4),
+    }
+}
+
+// Whether a byte may be a delimiter.
+pub fn is_delimiter(b: u8) -> bool
+    ensures { λ r. ⌜ r ≡ isDelimiter b ⌝ }
+{
+    match b {
+        b'0'..=b'9' => false,
+        b'A'..=b'Z' => false,
+        b'a'..=b'z' => false,
+        0x21..=0x7e => true,
+        _ => false,
+    }
+}
+
+fn are_different(d: Delimiters) -> bool
+    ensures { λ r. ⌜ r ≡ different d ⌝ }
+{
+    if d.repeat == d.field {
+        return false;
+    }
+    if d.component == d.field {
+        return false;
+    }
+    if d.escape == d.field {
+        return false;
+    }
+    if d.component == d.repeat {
+        return false;
+    }
+    if d.escape == d.repeat {
+        return false;
+    }
+    d.escape != d.component
+}
+
+// Whether the four may be the delimiters of a message.
+pub fn are_delimiters(d: Delimiters) -> bool
+    ensures { λ r. ⌜ r ≡ areDelimiters d ⌝ }
+{
+    if !is_delimiter(d.field) {
+        return false;
+    }
+    if !is_delimiter(d.repeat) {
+        return false;
+    }
+    if !is_delimiter(d.component) {
+        return false;
+    }
+    if !is_delimiter(d.escape) {
+        return false;
+    }
+    are_different(d)
 }
 
 // The record types, in the order of their rows: H P O R Q L C M.

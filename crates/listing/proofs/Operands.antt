@@ -11,9 +11,8 @@ use lib.ListN.{length, getD, drop, length-drop}
 use lib.Seq.{getD-drop}
 use borrow.Author.Tests.{le-leb, lt-leb, le-ltb, lt-ltb, eq-eqb, ne-eqb, leb-true}
 use Rattle.memory.specs.Tests.{all, between}
-use Rattle.memory.proofs.Tests.{and-right, and-not-right}
+use Rattle.memory.proofs.Tests.{between-yes, between-low, between-high, and-right, and-not-right}
 use Rattle.sequence.specs.Numbers.{isDigit, decimal}
-use Rattle.sequence.proofs.Decimal.{between-yes, between-low, between-high}
 use Rattle.looking.specs.declared.Kind.the-variants.{Byte}
 use Rattle.listing.specs.Items.{shortest, lineLimit, isLaidOut, itemOf, operandOf, operandAt, notHex, hexValue, eventOn, byteItem, amountOf}
 use Rattle.listing.specs.declared.Item.the-variants.{NotAnEvent}

@@ -6,9 +6,11 @@ use mathlib.Core.List.{List, [], _∷_, _++_}
 use Prim.Native.Nat.{ℕ, suc, _+_, _≤_, _<_, zero-le, suc-le-suc}
 use native.Mathlib.Numerals.{add-one}
 use native.Mathlib.Omega.{arith}
+use lib.Dec.{leb}
 use lib.ListN.{length, getD, drop, drop-of-length-le}
 use lib.Seq.{drop-cons}
-use Rattle.memory.specs.Tests.{all, find}
+use borrow.Author.Tests.{le-leb, lt-leb}
+use Rattle.memory.specs.Tests.{between, all, find}
 
 -- what cannot be: a fact that makes 0 equal to 1 proves anything. Where a wrong case is met, `clash cc` closes it
 pub clash : {A : Type 0} → _≡_ {A = ℕ} 0 1 → A
@@ -29,6 +31,26 @@ and-both a b p q = rw (p, q)
 pub and-not-right : (a b : Bool) → b ≡ false → a && b ≡ false
 and-not-right true b e = e
 and-not-right false b e = refl
+
+-- each of six
+pub six : (a b c e f g : Bool) → a && b && c && e && f && g ≡ true → (a ≡ true) × (b ≡ true) × (c ≡ true) × (e ≡ true) × (f ≡ true) × (g ≡ true)
+six true true true true true true h = (refl, refl, refl, refl, refl, refl)
+six true true true true true false h = clash (cc)
+six true true true true false g h = clash (cc)
+six true true true false f g h = clash (cc)
+six true true false e f g h = clash (cc)
+six true false c e f g h = clash (cc)
+six false b c e f g h = clash (cc)
+
+-- a number within two bounds, under them and over them
+pub between-yes : (a e x : ℕ) → a ≤ x → x ≤ e → between a e x ≡ true
+between-yes a e x h k = rw (le-leb a x h, le-leb x e k)
+
+pub between-low : (a e x : ℕ) → x < a → between a e x ≡ false
+between-low a e x h = rw (lt-leb a x h)
+
+pub between-high : (a e x : ℕ) → e < x → between a e x ≡ false
+between-high a e x h = and-not-right (leb a x) (leb x e) (lt-leb x e h)
 
 -- a test is true or false
 pub never-both : {A : Type 0} (b : Bool) → b ≡ true → b ≡ false → A

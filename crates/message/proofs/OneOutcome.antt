@@ -4,12 +4,8 @@ use mathlib.Core.Path.{_≡_, sym, _∙_}
 use mathlib.Core.Bool.{Bool}
 use mathlib.Core.List.{List}
 use Prim.Native.Nat.{ℕ}
-use Rattle.kinds.specs.declared.Delimiters.{Delimiters}
-use Rattle.faults.specs.Message.{isMessage, isMessageBy}
+use Rattle.faults.specs.Message.{isMessage}
 
--- `is_message_by` and, at the standard delimiters, `is_message`
-pub message-once : (d : Delimiters) (text : List ℕ) {r q : Bool} → r ≡ isMessageBy d text → q ≡ isMessageBy d text → r ≡ q
-message-once d text a b = a ∙ sym b
-
-pub standard-message-once : (text : List ℕ) {r q : Bool} → r ≡ isMessage text → q ≡ isMessage text → r ≡ q
-standard-message-once text a b = a ∙ sym b
+-- `is_message`
+pub message-once : (text : List ℕ) {r q : Bool} → r ≡ isMessage text → q ≡ isMessage text → r ≡ q
+message-once text a b = a ∙ sym b

@@ -17,6 +17,7 @@ use Rattle.characters.specs.Control.{cr}
 use Rattle.characters.specs.Allowed.{allowed, ordinary}
 use Rattle.kinds.specs.Kinds.{letterOf}
 use Rattle.kinds.specs.Header.{isHeader}
+use Rattle.kinds.specs.Delimiters.{areDelimiters}
 use Rattle.records.specs.Fields.{before, behind}
 use Rattle.records.specs.Records.{records, endsWithCr}
 use Rattle.sequence.specs.Numbers.{started}
@@ -60,7 +61,7 @@ header-ordinary d text h e =
 
 -- a text within the limit that ends with CR, cut at its first CR
 module _ (d : Delimiters) (text : List ℕ) (short : length text ≤ messageLimit) (some : 0 < length text) (ends : endsWithCr text ≡ true) where
-  whole : isMessageBy d text ≡ all allowed text && (isHeader d (before cr text) && areNext d started (records (behind cr text)))
+  whole : isMessageBy d text ≡ all allowed text && (isHeader d (before cr text) && areDelimiters d && areNext d started (records (behind cr text)))
   unfolding isMessageBy
   whole =
       rw (le-leb 1 (length text) (omega arith), le-leb (length text) messageLimit short, ends) (by-clean (all allowed text) (areRecords d (records text)))
@@ -70,10 +71,10 @@ module _ (d : Delimiters) (text : List ℕ) (short : length text ≤ messageLimi
       by-clean true b = refl
       by-clean false b = refl
 
-  pub headless : isHeader d (before cr text) ≡ false → isMessageBy d text ≡ false
+  pub headless : isHeader d (before cr text) && areDelimiters d ≡ false → isMessageBy d text ≡ false
   headless h = whole ∙ rw h (and-not-right (all allowed text) false refl)
 
-  pub header-passed : isHeader d (before cr text) ≡ true → all allowed (before cr text) ≡ true → rightRest d started (behind cr text) ≡ isMessageBy d text
+  pub header-passed : isHeader d (before cr text) && areDelimiters d ≡ true → all allowed (before cr text) ≡ true → rightRest d started (behind cr text) ≡ isMessageBy d text
   unfolding rightRest
   header-passed h a = sym (whole ∙ rw (h, all-parts text, a))
 

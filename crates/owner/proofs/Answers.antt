@@ -15,8 +15,8 @@ use Rattle.memory.proofs.Tests.{clash, and-left, and-right}
 use Rattle.memory.proofs.Parts.{sets-splice}
 use Rattle.characters.specs.Control.{cr}
 use Rattle.records.specs.Records.{onto, records}
-use Rattle.faults.specs.Message.{isMessageBy}
-use Rattle.faults.specs.Faults.{fault}
+use Rattle.faults.specs.Message.{isMessage}
+use Rattle.faults.specs.Faults.{faultOf}
 use Rattle.faults.specs.declared.Checked.{Checked}
 use Rattle.faults.specs.declared.Checked.the-variants as checked
 use Rattle.kinds.specs.declared.Delimiters.{Delimiters}
@@ -79,14 +79,14 @@ room-all n a b c e h =
 pub refused-checked : (x : Checked) {found c : Checked} → found ≡ c → found ≡ x → refusedAs x ≡ refusedAs c
 refused-checked x f e = ap refusedAs (sym e ∙ f)
 
-module _ (d : Delimiters) (text ts os ls ws : List ℕ) where
+module _ (text ts os ls ws : List ℕ) where
   -- what is refused leaves every memory
   refused-leaves : (x : Checked) (old new : List ℕ) → laid (refusedAs x) old new ≡ old
   refused-leaves checked.Message old new = refl
   refused-leaves checked.NotText old new = refl
   refused-leaves (checked.Faulty f place) old new = refl
 
-  pub read-none : (r : Reading) → r ≡ refusedAs (fault d text) → isMessageBy d text ≡ false → ReadAs d text ts os ls ws ts os ls ws r
+  pub read-none : (r : Reading) → r ≡ refusedAs (faultOf text) → isMessage text ≡ false → ReadAs text ts os ls ws ts os ls ws r
   unfolding readingOf
   read-none r of e = record {
     answer = of ∙ rw e;
@@ -97,23 +97,23 @@ module _ (d : Delimiters) (text ts os ls ws : List ℕ) where
   }
     where
       left : (old new : List ℕ) → old ≡ laid r old new
-      left old new = sym (ap (λ (q : Reading). laid q old new) of ∙ refused-leaves (fault d text) old new)
+      left old new = sym (ap (λ (q : Reading). laid q old new) of ∙ refused-leaves (faultOf text) old new)
 
-  pub read-short : isMessageBy d text ≡ true → roomFor (length (records text)) (length ts) (length os) (length ls) (length ws) ≡ false → ReadAs d text ts os ls ws ts os ls ws NotFitting
+  pub read-short : isMessage text ≡ true → roomFor (length (records text)) (length ts) (length os) (length ls) (length ws) ≡ false → ReadAs text ts os ls ws ts os ls ws NotFitting
   unfolding readingOf
   read-short e f = record { answer = rw (e, f); types = refl; offsets = refl; lengths = refl; owners = refl }
 
-  pub read-done : (ts′ os′ ls′ ws′ us : List ℕ) (n : ℕ) → n ≡ length (records text) → isMessageBy d text ≡ true
+  pub read-done : (ts′ os′ ls′ ws′ us : List ℕ) (n : ℕ) → n ≡ length (records text) → isMessage text ≡ true
       → roomFor (length (records text)) (length ts) (length os) (length ls) (length ws) ≡ true
       → ts′ ≡ sets ts 0 (typesOf (records text)) → os′ ≡ sets os 0 (offsetsOf 0 (records text)) → ls′ ≡ sets ls 0 (lengthsOf (records text))
-      → us ≡ take n ts′ → ws′ ≡ sets ws 0 (nearestOwners us) → ReadAs d text ts os ls ws ts′ os′ ls′ ws′ (Read n)
+      → us ≡ take n ts′ → ws′ ≡ sets ws 0 (nearestOwners us) → ReadAs text ts os ls ws ts′ os′ ls′ ws′ (Read n)
   unfolding readingOf
   read-done ts′ os′ ls′ ws′ us n k e f t o l u w =
       let (a, b, c, g) = room-all (length (records text)) (length ts) (length os) (length ls) (length ws) f in
       let v : us ≡ typesOf (records text) = u ∙ rw t (take-types ts (records text) n k (omega arith)) in
-      let same : nearestOwners us ≡ ownersOf (records text) = ap nearestOwners v ∙ owners-message d text e in
+      let same : nearestOwners us ≡ ownersOf (records text) = ap nearestOwners v ∙ owners-message _ text e in
       let many : length (ownersOf (records text)) ≡ length (records text) =
-      sym (ap length (owners-message d text e)) ∙ length-owners (typesOf (records text)) 0 (length (typesOf (records text))) ∙ length-types (records text) in
+      sym (ap length (owners-message _ text e)) ∙ length-owners (typesOf (records text)) 0 (length (typesOf (records text))) ∙ length-types (records text) in
       record {
         answer = rw (e, f, k);
         types = t ∙ laid-from-start ts (typesOf (records text)) (length (records text)) (length-types (records text)) a;
@@ -123,17 +123,17 @@ module _ (d : Delimiters) (text ts os ls ws : List ℕ) where
       }
 
 -- a message that was read has no more records than each memory has places
-pub read-fits : (d : Delimiters) (text : List ℕ) (a b c e n : ℕ) → readingOf d text a b c e ≡ Read n
+pub read-fits : (text : List ℕ) (a b c e n : ℕ) → readingOf text a b c e ≡ Read n
     → (length (records text) ≤ a) × (length (records text) ≤ b) × (length (records text) ≤ c) × (length (records text) ≤ e)
 unfolding readingOf
-read-fits d text a b c e n h = room-all (length (records text)) a b c e (by-tests (isMessageBy d text) (roomFor (length (records text)) a b c e) h)
+read-fits text a b c e n h = room-all (length (records text)) a b c e (by-tests (isMessage text) (roomFor (length (records text)) a b c e) h)
   where
     not-read : (x : Checked) → refusedAs x ≡ Read n → ⊥
     not-read checked.Message g = clash cc
     not-read checked.NotText g = clash cc
     not-read (checked.Faulty f place) g = clash cc
 
-    by-tests : (m r : Bool) → unless m (refusedAs (fault d text)) (unless r NotFitting (Read (length (records text)))) ≡ Read n → r ≡ true
+    by-tests : (m r : Bool) → unless m (refusedAs (faultOf text)) (unless r NotFitting (Read (length (records text)))) ≡ Read n → r ≡ true
     by-tests true true g = refl
     by-tests true false g = clash cc
-    by-tests false r g = absurd (not-read (fault d text) g)
+    by-tests false r g = absurd (not-read (faultOf text) g)

@@ -9,12 +9,11 @@ use lib.ListN.{length}
 use Rattle.memory.specs.Tests.{unless}
 use Rattle.memory.specs.Parts.{splice}
 use Rattle.records.specs.Records.{records}
-use Rattle.faults.specs.Message.{isMessageBy}
-use Rattle.faults.specs.Faults.{fault}
+use Rattle.faults.specs.Message.{isMessage}
+use Rattle.faults.specs.Faults.{faultOf}
 use Rattle.faults.specs.declared.Checked.{Checked}
 use Rattle.faults.specs.declared.Checked.the-variants as checked
 use Rattle.answers.specs.Paper.{faultNumber}
-use Rattle.kinds.specs.declared.Delimiters.{Delimiters}
 use Rattle.owner.specs.Owners.{typesOf, ownersOf}
 use Rattle.owner.specs.declared.Reading.{Reading}
 use Rattle.owner.specs.declared.Reading.the-variants.{Read, Malformed, NotFitting, Faulty}
@@ -39,9 +38,9 @@ refusedAs checked.NotText = Malformed
 refusedAs (checked.Faulty f place) = Faulty f place
 
 -- the answer: that for what is no message, then 47 where one of four memories of these lengths is too short, else the number of records [A47, O6, R14]
-unfoldable pub readingOf : Delimiters → List ℕ → ℕ → ℕ → ℕ → ℕ → Reading
-readingOf d text types offsets lengths owners =
-    unless (isMessageBy d text) (refusedAs (fault d text))
+unfoldable pub readingOf : List ℕ → ℕ → ℕ → ℕ → ℕ → Reading
+readingOf text types offsets lengths owners =
+    unless (isMessage text) (refusedAs (faultOf text))
     (unless (roomFor (length (records text)) types offsets lengths owners) NotFitting (Read (length (records text))))
 
 -- a memory after an answer: these numbers at its start and its rest kept where the message was read, else as it was [R21]
@@ -59,8 +58,8 @@ paper NotFitting = 47 ∷ []
 paper (Faulty f place) = faultNumber f ∷ place ∷ []
 
 -- what reading says: the answer, and each of the four memories after it [R14]
-pub record ReadAs (d : Delimiters) (text ts os ls ws ts′ os′ ls′ ws′ : List ℕ) (r : Reading) : Type 0 where
-  pub answer : r ≡ readingOf d text (length ts) (length os) (length ls) (length ws)
+pub record ReadAs (text ts os ls ws ts′ os′ ls′ ws′ : List ℕ) (r : Reading) : Type 0 where
+  pub answer : r ≡ readingOf text (length ts) (length os) (length ls) (length ws)
   pub types : ts′ ≡ laid r ts (typesOf (records text))
   pub offsets : os′ ≡ laid r os (offsetsOf 0 (records text))
   pub lengths : ls′ ≡ laid r ls (lengthsOf (records text))

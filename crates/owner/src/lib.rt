@@ -1,10 +1,9 @@
 // Reading a message: each record with its type, offset, length and owner.
 ghost use mathlib.Core.Path.{_≡_};
-ghost use Rattle.faults.specs.Faults.{fault};
+ghost use Rattle.faults.specs.Faults.{faultOf};
 ghost use Rattle.owner.specs.Reading.{roomFor, refusedAs, ReadAs};
 use answers::Fault;
 use faults::Checked;
-use kinds::Delimiters;
 
 mod rows; // rows.rt: types, offsets and lengths
 mod runs; // runs.rt: owners, by the runs of records that they own
@@ -35,10 +34,10 @@ fn has_room(n: usize, types: usize, offsets: usize, lengths: usize, owners: usiz
 }
 
 // Why a text is refused, asked only of one that is no message: whoever reads a message does not wait for it.
-fn refused(d: Delimiters, text: &[u8]) -> Reading
-    ensures { λ r. ⌜ r ≡ refusedAs (fault d (now (text .entry))) ⌝ }
+fn refused(text: &[u8]) -> Reading
+    ensures { λ r. ⌜ r ≡ refusedAs (faultOf (now (text .entry))) ⌝ }
 {
-    match faults::check(d, text) {
+    match faults::check(text) {
         Checked::Message => Reading::Malformed,
         Checked::NotText => Reading::Malformed,
         Checked::Faulty(fault, place) => Reading::Faulty(fault, place),
@@ -47,17 +46,16 @@ fn refused(d: Delimiters, text: &[u8]) -> Reading
 
 // Reads a message: of each record its letter, where it starts, how long it is before its CR, and the number of its owner, from 1, or 0.
 pub fn read(
-    d: Delimiters,
     text: &[u8],
     types: &mut [u8],
     offsets: &mut [u16],
     lengths: &mut [u16],
     owners: &mut [u16],
 ) -> Reading
-    ensures { λ r. ⌜ ReadAs d (now (text .entry)) (now (types .entry)) (now (offsets .entry)) (now (lengths .entry)) (now (owners .entry)) (now (types .exit)) (now (offsets .exit)) (now (lengths .exit)) (now (owners .exit)) r ⌝ }
+    ensures { λ r. ⌜ ReadAs (now (text .entry)) (now (types .entry)) (now (offsets .entry)) (now (lengths .entry)) (now (owners .entry)) (now (types .exit)) (now (offsets .exit)) (now (lengths .exit)) (now (owners .exit)) r ⌝ }
 {
-    if !message::is_message_by(d, text) {
-        return refused(d, text);
+    if !message::is_message(text) {
+        return refused(text);
     }
     let n = records::count_records(text);
     if !has_room(n, types.len(), offsets.len(), lengths.len(), owners.len()) {

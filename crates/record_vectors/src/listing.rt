@@ -44,7 +44,7 @@ fn line_end(n: usize) {
 // A text: what the check finds, whether it ends with an L record, and its records.
 pub fn message(text: &[u8]) {
     number(text.len());
-    found(faults::check(Delimiters::standard(), text));
+    found(faults::check(text));
     whole(message::is_message(text));
     last(text);
     reading(text, MOST, MOST);
@@ -120,7 +120,6 @@ pub fn reading(text: &[u8], places: usize, owned: usize)
     let mut lengths = [7u16; MOST];
     let mut owners = [7u16; MOST];
     let r = owner::read(
-        Delimiters::standard(),
         text,
         &mut types[..places],
         &mut offsets[..places],
@@ -207,24 +206,24 @@ fn result(text: &[u8], offset: u16, length: u16) {
     let at = offset as usize;
     let end = at + length as usize;
     if end <= text.len() {
-        fields(&text[at..end]);
+        fields(kinds::delimiters_of(text), &text[at..end]);
     }
 }
 
-fn fields(rec: &[u8]) {
+fn fields(d: Delimiters, rec: &[u8]) {
     letter(b' ');
     letter(b' ');
-    named(rec, ResultField::Test);
-    named(rec, ResultField::Value);
-    named(rec, ResultField::Units);
-    named(rec, ResultField::Flag);
-    named(rec, ResultField::Status);
-    named(rec, ResultField::Completion);
+    named(d, rec, ResultField::Test);
+    named(d, rec, ResultField::Value);
+    named(d, rec, ResultField::Units);
+    named(d, rec, ResultField::Flag);
+    named(d, rec, ResultField::Status);
+    named(d, rec, ResultField::Completion);
     byte(b'\n');
 }
 
-fn named(rec: &[u8], field: ResultField) {
-    part(component::result_field(Delimiters::standard(), rec, field));
+fn named(d: Delimiters, rec: &[u8], field: ResultField) {
+    part(component::result_field(d, rec, field));
 }
 
 // The memory of a text that is read into places for two records and three owners.
@@ -243,17 +242,17 @@ fn memory(types: [u8; MOST], offsets: [u16; MOST], lengths: [u16; MOST], owners:
 }
 
 // A text escaped into memory of 16 bytes.
-pub fn escaped(text: &[u8]) {
+pub fn escaped(d: Delimiters, text: &[u8]) {
     let mut out = [b'.'; 16];
-    put(escaping::escape(Delimiters::standard(), text, &mut out));
+    put(escaping::escape(d, text, &mut out));
     part(&out);
     byte(b'\n');
 }
 
 // A component unescaped into memory of 8 bytes.
-pub fn unescaped(text: &[u8]) {
+pub fn unescaped(d: Delimiters, text: &[u8]) {
     let mut out = [b'.'; 8];
-    put(escaping::unescape(Delimiters::standard(), text, &mut out));
+    put(escaping::unescape(d, text, &mut out));
     part(&out);
     byte(b'\n');
 }
@@ -263,12 +262,12 @@ fn put(r: Put) {
         Put::Done(n) => number(n),
         Put::Malformed => number(46),
         Put::NotFitting => number(47),
+        Put::BadDelimiters => number(55),
     }
 }
 
 // Where each component of a text ends.
-pub fn components(text: &[u8]) {
-    let d = Delimiters::standard();
+pub fn components(d: Delimiters, text: &[u8]) {
     let mut at: usize = 0;
     while at < text.len() {
         let end = component::component_end(d, text, at);

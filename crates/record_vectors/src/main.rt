@@ -1,6 +1,7 @@
 // Runs the cases on standard input and writes what each gets. A line is a kind, a space, a name, a space and bytes in hex:
 //   m  a text: its first fault or none, whether its last record begins with L, and for a message each record with its owner, R's fields
 //   s  a text that is read into memory with room for two records
+// The bytes of the other kinds begin with H and the delimiters, as a message does. Behind these five is
 //   e  a text that is escaped        u  a component that is unescaped        c  a text whose components are looked for
 use kinds::Delimiters;
 
@@ -51,13 +52,27 @@ fn show(kind: u8, hex: &[u8]) {
     }
 }
 
-fn shown(kind: u8, text: &[u8]) {
+fn shown(kind: u8, bytes: &[u8]) {
     match kind {
-        b'm' => listing::message(text),
-        b's' => listing::reading(text, 2, 3),
-        b'e' => listing::escaped(text),
-        b'u' => listing::unescaped(text),
-        b'c' => listing::components(text),
+        b'm' => listing::message(bytes),
+        b's' => listing::reading(bytes, 2, 3),
+        _ => delimited(kind, kinds::delimiters_of(bytes), behind(bytes)),
+    }
+}
+
+// What comes behind H and the delimiters.
+fn behind<'a>(bytes: &'a [u8]) -> &'a [u8] {
+    if bytes.len() < 5 {
+        return &bytes[0..0];
+    }
+    &bytes[5..]
+}
+
+fn delimited(kind: u8, d: Delimiters, text: &[u8]) {
+    match kind {
+        b'e' => listing::escaped(d, text),
+        b'u' => listing::unescaped(d, text),
+        b'c' => listing::components(d, text),
         _ => listing::byte(b'\n'),
     }
 }

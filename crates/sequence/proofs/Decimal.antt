@@ -8,22 +8,13 @@ use native.Mathlib.Nat.{pow-suc, pow-le-pow-right}
 use native.Mathlib.Numerals.{add-one}
 use native.Mathlib.Omega.{arith}
 use native.Mathlib.Decide.{decLt}
-use lib.Dec.{eqb, leb}
+use lib.Dec.{eqb}
 use lib.ListN.{length, getD, drop, drop-of-length-le}
 use lib.Seq.{drop-cons}
-use borrow.Author.Tests.{le-leb, lt-leb, ne-eqb}
+use borrow.Author.Tests.{ne-eqb}
 use Rattle.memory.specs.Tests.{between, all}
-use Rattle.memory.proofs.Tests.{and-not-right, all-stop, all-next, all-done}
+use Rattle.memory.proofs.Tests.{between-yes, between-low, between-high, all-stop, all-next, all-done}
 use Rattle.sequence.specs.Numbers.{isDigit, decimal, numberOf}
-
-pub between-yes : (a e x : ℕ) → a ≤ x → x ≤ e → between a e x ≡ true
-between-yes a e x h k = rw (le-leb a x h, le-leb x e k)
-
-pub between-low : (a e x : ℕ) → x < a → between a e x ≡ false
-between-low a e x h = rw (lt-leb a x h)
-
-pub between-high : (a e x : ℕ) → e < x → between a e x ≡ false
-between-high a e x h = and-not-right (leb a x) (leb x e) (lt-leb x e h)
 
 pub not-digit : (b : ℕ) → ((0x30 ≤ b) × (b ≤ 0x39) → ⊥) → isDigit b ≡ false
 not-digit b h =

@@ -2,7 +2,7 @@
 -- Assumes nothing.
 use borrow.Author.Needs.{needs}
 use mathlib.Core.Path.{_≡_, sym, ap, _∙_}
-use mathlib.Core.Bool.{true, false}
+use mathlib.Core.Bool.{true, false, _&&_}
 use mathlib.Core.List.{List}
 use Prim.Native.Nat.{ℕ, _+_, _<_}
 use native.Mathlib.Omega.{arith}
@@ -10,13 +10,14 @@ use lib.ListN.{length, getD, take, drop, length-drop}
 use lib.Seq.{length-take-le}
 use borrow.Author.Tests.{eq-eqb, ne-eqb, not-true, not-false}
 use Rattle.memory.specs.Tests.{is, find, all}
-use Rattle.memory.proofs.Tests.{is-false, never-both}
+use Rattle.memory.proofs.Tests.{and-left, is-false, never-both}
 use Rattle.characters.specs.Control.{cr}
 use Rattle.characters.specs.Allowed.{allowed}
 use Rattle.records.specs.Fields.{before}
 use Rattle.records.specs.Records.{endsWithCr}
 use Rattle.sequence.specs.Numbers.{started}
 use Rattle.kinds.specs.Header.{isHeader}
+use Rattle.kinds.specs.Delimiters.{areDelimiters}
 use Rattle.faults.specs.Message.{isMessageBy}
 use Rattle.kinds.specs.declared.Delimiters.{Delimiters}
 use Rattle.message.specs.Inner.Rest.{breaks, rightRest}
@@ -37,7 +38,7 @@ closed c = c .before .before .before
 abbrev broken-off : tie.Else4 → tie.After-end-of
 broken-off c = c .before .before
 
-abbrev ended-by-cr : tie.After-is-header → tie.Else4
+abbrev ended-by-cr : tie.After-is-proper → tie.Else4
 ended-by-cr c = c .before .before
 
 -- the text, behind each of them
@@ -103,18 +104,18 @@ returns-4 c =
     let bad = broken-by-other (text e) (break-within (text e) (ended (closed e))) other in
     sym (is-false (isMessageBy (marks e) (text e)) (λ t. never-both (all allowed (text e)) (sound (marks e) (text e) t .clean) bad))
 
-slice-aggregate-is-header : tie.Need-slice-aggregate-is-header
-slice-aggregate-is-header c = let e = broken-off (c .before) in sym (length-take-le (e .end-of .result) (text e) (omega (arith, within e)))
+slice-aggregate-is-proper : tie.Need-slice-aggregate-is-proper
+slice-aggregate-is-proper c = let e = broken-off (c .before) in sym (length-take-le (e .end-of .result) (text e) (omega (arith, within e)))
 
-is-header-requires : tie.Need-is-header-requires
-is-header-requires c κs = search needs
+is-proper-requires : tie.Need-is-proper-requires
+is-proper-requires c κs = search needs
 
 -- the header that the code lends is the first record
-header-is : (c : tie.After-is-header) → let e = broken-off (ended-by-cr c) in c .is-header .result ≡ isHeader (marks e) (before cr (text e))
+header-is : (c : tie.After-is-proper) → let e = broken-off (ended-by-cr c) in c .is-proper .result ≡ isHeader (marks e) (before cr (text e)) && areDelimiters (marks e)
 header-is c =
     let f = ended-by-cr c in
     let e = broken-off f in
-    c .is-header .ensures ∙ ap (λ (n : ℕ). isHeader (marks e) (take n (text e))) (first f .0)
+    c .is-proper .ensures ∙ ap (λ (n : ℕ). isHeader (marks e) (take n (text e)) && areDelimiters (marks e)) (first f .0)
 
 returns-5 : tie.Need-returns-5
 returns-5 c =
@@ -122,7 +123,7 @@ returns-5 c =
     let ends = ended (closed e) in
     sym (headless (marks e) (text e) (omega arith) (cr-some (text e) ends) ends (sym (header-is (c .before)) ∙ not-true _ (c .if5 .taken)))
 
-proper : (c : tie.Else5) → let e = broken-off (ended-by-cr (c .before)) in isHeader (marks e) (before cr (text e)) ≡ true
+proper : (c : tie.Else5) → let e = broken-off (ended-by-cr (c .before)) in isHeader (marks e) (before cr (text e)) && areDelimiters (marks e) ≡ true
 proper c = sym (header-is (c .before)) ∙ not-false _ (c .if5 .left)
 
 add-is-right : tie.Need-add-is-right
@@ -143,7 +144,7 @@ is-right-requires c κs =
     let f = ended-by-cr (h .before) in
     let e = broken-off f in
     let at = e .end-of .result + 1 in (
-      header-ordinary (marks e) (text e) (proper h) (sym (e .end-of .ensures) ∙ first f .0),
+      header-ordinary (marks e) (text e) (and-left _ (areDelimiters (marks e)) (proper h)) (sym (e .end-of .ensures) ∙ first f .0),
       e .before .before .classes .ensures,
       λ some.
           let left : 0 < length (drop at (text e)) = rw (rest-part (text e) at) at some in
@@ -174,8 +175,8 @@ is-message-by-spec =
     end-of-requires
     shared-slice-read-if4
     returns-4
-    slice-aggregate-is-header
-    is-header-requires
+    slice-aggregate-is-proper
+    is-proper-requires
     returns-5
     add-is-right
     sub-is-right

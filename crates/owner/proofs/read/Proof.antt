@@ -9,7 +9,7 @@ use lib.Seq.{length-take-le}
 use borrow.Author.Tests.{not-true, not-false}
 use Rattle.memory.specs.Sizes.{messageLimit}
 use Rattle.records.specs.Records.{records}
-use Rattle.faults.specs.Message.{isMessageBy}
+use Rattle.faults.specs.Message.{isMessage}
 use Rattle.faults.proofs.Messages.{message-short}
 use Rattle.owner.specs.Reading.{roomFor}
 use Rattle.owner.proofs.Answers.{records-few, room-all, read-none, read-short, read-done}
@@ -18,7 +18,7 @@ use Rattle.owner.proofs.read.Statement.{statement}
 use Rattle.owner.proofs.read.Tie as tie
 
 -- the places, each from one behind it: the function's start, the text found a message, room found, the rows filled
-abbrev start : tie.After-is-message-by → tie.Start
+abbrev start : tie.After-is-message → tie.Start
 start c = let types = c .before .before .before in types .before .before .before
 
 abbrev a-message : tie.Else2 → tie.Else1
@@ -34,12 +34,12 @@ abbrev filled : tie.After-slice-known7 → tie.After-fill-rows
 filled c = let lent = c .before .before .before in lent .before .before .before
 
 -- past the first test the text is a message
-is-message : (c : tie.Else1) → let a = start (c .before) .args in isMessageBy (a .d) (a .text .now) ≡ true
-is-message c = sym (c .before .is-message-by .ensures) ∙ not-false _ (c .if1 .left)
+is-message : (c : tie.Else1) → let a = start (c .before) .args in isMessage (a .text .now) ≡ true
+is-message c = sym (c .before .is-message .ensures) ∙ not-false _ (c .if1 .left)
 
 -- and short
 short : (c : tie.Else1) → length (start (c .before) .args .text .now) ≤ messageLimit
-short c = let a = start (c .before) .args in message-short (a .d) (a .text .now) (is-message c)
+short c = let a = start (c .before) .args in message-short _ (a .text .now) (is-message c)
 
 -- past the second each memory has a place for each record
 has-places : (c : tie.Else2)
@@ -61,13 +61,13 @@ returns : tie.Need-returns
 returns c =
     let t = c .before in
     let a = start (t .before) .args in
-    read-none (a .d) (a .text .now) (a .types .now) (a .offsets .now) (a .lengths .now) (a .owners .now) _ (c .refused .ensures) (sym (t .before .is-message-by .ensures) ∙ not-true _ (t .if1 .taken))
+    read-none (a .text .now) (a .types .now) (a .offsets .now) (a .lengths .now) (a .owners .now) _ (c .refused .ensures) (sym (t .before .is-message .ensures) ∙ not-true _ (t .if1 .taken))
 
 returns-2 : tie.Need-returns-2
 returns-2 c =
     let n = c .before .before in
     let a = start (n .before .before) .args in
-    read-short (a .d) (a .text .now) (a .types .now) (a .offsets .now) (a .lengths .now) (a .owners .now) (is-message (n .before))
+    read-short (a .text .now) (a .types .now) (a .offsets .now) (a .lengths .now) (a .owners .now) (is-message (n .before))
     (rw (← n .count-records .ensures) (sym (c .before .has-room .ensures) ∙ not-true _ (c .if2 .taken)))
 
 fill-rows-requires : tie.Need-fill-rows-requires
@@ -99,7 +99,7 @@ returns-3 c =
     let a = entry e .args in
     let n = e .before .before .count-records in
     let (types, offsets, lengths) = f .fill-rows .ensures in
-    read-done (a .d) (a .text .now) (a .types .now) (a .offsets .now) (a .lengths .now) (a .owners .now)
+    read-done (a .text .now) (a .types .now) (a .offsets .now) (a .lengths .now) (a .owners .now)
     (f .fill-rows .last .1 .0) (f .fill-rows .last .1 .1 .0) (f .fill-rows .last .1 .1 .1 .0) (o .fill-owners .last .1 .0)
     (take (n .result) (f .fill-rows .last .1 .0)) (n .result) (n .ensures) (is-message (a-message e)) (has-places e) types offsets lengths refl (o .fill-owners .ensures)
 

@@ -7,9 +7,9 @@ use mathlib.Core.List.{List}
 use native.Mathlib.Omega.{arith}
 use lib.ListN.{length, drop, getD, drop-of-length-le}
 use Rattle.memory.specs.Tests.{all}
-use Rattle.memory.proofs.Tests.{all-stop, all-next, all-done}
+use Rattle.memory.proofs.Tests.{between-yes, between-low, between-high, all-stop, all-next, all-done}
 use Rattle.sequence.specs.Numbers.{isDigit, decimal}
-use Rattle.sequence.proofs.Decimal.{decimal-more, tenfold, six-digits, between-yes, between-low, between-high, number-none, number-long, number-zero, number-bad, number-is}
+use Rattle.sequence.proofs.Decimal.{decimal-more, tenfold, six-digits, number-none, number-long, number-zero, number-bad, number-is}
 use Rattle.sequence.proofs.number.Statement.{statement}
 use Rattle.sequence.proofs.number.Tie as tie
 

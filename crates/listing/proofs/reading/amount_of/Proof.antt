@@ -8,9 +8,9 @@ use borrow.Author.Needs.{needs}
 use lib.ListN.{length, drop, getD, drop-of-length-le}
 use denote.Ref.{now}
 use Rattle.memory.specs.Tests.{all}
-use Rattle.memory.proofs.Tests.{all-stop, all-next, all-done}
+use Rattle.memory.proofs.Tests.{between-yes, between-low, between-high, all-stop, all-next, all-done}
 use Rattle.sequence.specs.Numbers.{isDigit, decimal}
-use Rattle.sequence.proofs.Decimal.{decimal-more, between-yes, between-low, between-high}
+use Rattle.sequence.proofs.Decimal.{decimal-more}
 use Rattle.listing.specs.Items.{operandAt}
 use Rattle.listing.specs.declared.reading.Amount.the-variants.{Is}
 use Rattle.listing.proofs.Operands.{amount-bad, amount-large, amount-is, decimal-grows}

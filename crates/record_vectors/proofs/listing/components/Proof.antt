@@ -11,21 +11,18 @@ use Rattle.record_vectors.proofs.listing.components.Statement.{statemen
 use Rattle.record_vectors.proofs.listing.components.Tie as tie
 
 abbrev Inv-loop : tie.InvT-loop
-Inv-loop text d at₀ at = at ≤ length text + 1
+Inv-loop d text at₀ at = at ≤ length text + 1
 
 abbrev μ-loop : tie.MeasureT-loop
-μ-loop text d at₀ at = length text + 1 - at
+μ-loop d text at₀ at = length text + 1 - at
 
 -- the end that was found
-within : (c : tie.After-number Inv-loop μ-loop) → c .before .component-end .result ≤ length (c .before .before .before .before .before .before .args .text .now)
+within : (c : tie.After-number Inv-loop μ-loop) → c .before .component-end .result ≤ length (c .before .before .before .before .before .args .text .now)
 within c =
     let l = c .before .before .before in
-    let s = l .before .before .before .args .text .now in
-    let d = l .before .standard .result in
+    let s = l .before .before .args .text .now in
+    let d = l .before .before .args .d in
     omega (arith, find-le (isOneOf (stopsOf d)) (drop (l .loop .at) s), length-drop (l .loop .at) s, c .before .component-end .ensures)
-
-standard-requires : tie.Need-standard-requires Inv-loop μ-loop
-standard-requires c κs = search needs
 
 loop-holds : tie.Need-loop-holds Inv-loop μ-loop
 loop-holds c = omega arith
@@ -57,7 +54,6 @@ components-spec =
     (tie.spec
     Inv-loop
     μ-loop
-    standard-requires
     loop-holds
     component-end-requires
     number-requires

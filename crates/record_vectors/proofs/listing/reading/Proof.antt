@@ -22,7 +22,6 @@ pub reading-spec : {M : Type 1} → statement M
 reading-spec =
     tie.close
     (tie.spec
-    (λ c κs. search needs)
     (λ c. search needs)
     slice-aggregate-read
     (λ c. search needs)
