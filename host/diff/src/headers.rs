@@ -12,7 +12,7 @@ use ngachodui_model::{Delimiters, UNFINISHED_PART};
 const EVERY_TYPE: &[u8] =
     b"H|\\^&|a^b\\c&F&!~$%\rC|1|&\rP|1||^\\\rO|1|~!\rR|1|^^^GLU|5.2\rM|1\rQ|1\rL|1|N\r";
 
-/// Which lines the texts come on.
+/// Which line the texts come on.
 const LINE: u8 = 3;
 
 /// Each byte at each place, and each pair the same.
@@ -44,13 +44,7 @@ fn of_its_own(four: Delimiters) -> Vec<u8> {
 
 /// Texts that are decided on a line.
 pub fn decided() -> Vec<Vec<u8>> {
-    let mut texts = Vec::new();
-    for four in fours() {
-        texts.push(of_its_own(four));
-        // The other records have the standard delimiters; one has a fault.
-        texts.push([&head(four)[..], b"\rP|1\rL|1\r"].concat());
-        texts.push([&head(four)[..], b"\rX|1\rL|1\r"].concat());
-    }
+    let mut texts: Vec<Vec<u8>> = fours().into_iter().map(of_its_own).collect();
     // Each possible byte in each part, with its neighbours in the others.
     for start in 0..POSSIBLE.len() {
         for step in [1, 5, 31] {
@@ -70,11 +64,13 @@ pub fn decided() -> Vec<Vec<u8>> {
     texts
 }
 
-/// Texts that are cut and read alone: without CR at the end, with a byte that is not allowed behind it, and a
-/// header with nothing behind it.
+/// Texts that are only cut and read: other records with the standard delimiters, one of them with a fault; no
+/// CR at the end, a byte that is not allowed behind it; a header with nothing behind it.
 pub fn others() -> Vec<Vec<u8>> {
     let mut texts = Vec::new();
     for four in fours() {
+        texts.push([&head(four)[..], b"\rP|1\rL|1\r"].concat());
+        texts.push([&head(four)[..], b"\rX|1\rL|1\r"].concat());
         let own = of_its_own(four);
         texts.push(own[..own.len() - 1].to_vec());
         texts.push([&own[..], b"\n\r"].concat());
