@@ -39,7 +39,7 @@
  *     have passed: no transfer then goes on with bytes missing, and the messages that wait stay.
  *
  * Link with libngachodui.a, which is for x86-64 Linux. An object that was compiled for another layout
- * of state and memories does not link with it: see NGACHODUI_VERSION. */
+ * of state and memories, or for other arguments, does not link with it: see NGACHODUI_VERSION. */
 #ifndef NGACHODUI_H
 #define NGACHODUI_H
 
@@ -63,12 +63,18 @@ extern "C" {
 #define NGACHODUI_NAMED(name, version) NGACHODUI_JOINED(name, version)
 #define ngachodui_fresh NGACHODUI_NAMED(ngachodui_fresh, NGACHODUI_VERSION)
 
+/* These two took no delimiters once, under their names without a number: an object that still calls them
+ * so does not link. What a host saves is as it was, and the version too. */
+#define ngachodui_escape ngachodui_escape_2
+#define ngachodui_unescape ngachodui_unescape_2
+
 /* ---- Sizes ---- */
 
 enum {
     NGACHODUI_LINES = 8,                         /* the lines are numbered 0 to 7 */
     NGACHODUI_NUMBERS = 8 * NGACHODUI_LINES,     /* the numbers of all lines, of 16 bits */
     NGACHODUI_COUNTS = NGACHODUI_LINES + 1,      /* the counts: one for each line, one of them all */
+    NGACHODUI_DELIMITERS = 4,                    /* the delimiters of a message */
 
     /* What is never exceeded: memory for so many is never too short. */
     NGACHODUI_TEXT_LIMIT = 4000,                 /* bytes of a message, for a taking */
@@ -92,8 +98,8 @@ enum {
 /* ---- Answers ---- */
 
 /* What an event or a taking is answered, by number: 22 is rule A22 of docs/RULES.md. With 1 to 4 the
- * byte to send back is ACK (06), with 20 to 31 and 50 to 53 it is NAK (15), and with the others there is
- * none. 50 to 53 are those of enum ngachodui_fault. */
+ * byte to send back is ACK (06), with 20 to 31 and with a fault it is NAK (15), and with the others there
+ * is none. Faults are those of enum ngachodui_fault but for 54, which comes on no line. */
 enum ngachodui_number {
     NGACHODUI_NOTHING = 0,          /* the byte was ignored or collected, or the seconds were counted */
     NGACHODUI_OPENED = 1,           /* ENQ: a transfer is open */
@@ -111,7 +117,7 @@ enum ngachodui_number {
     NGACHODUI_WRONG_CHECK = 23,     /* the check digits are not those of the frame's bytes */
     NGACHODUI_BAD_TEXT = 24,        /* a byte that may not stand in a text */
     NGACHODUI_BAD_NUMBER = 25,      /* the frame's number is not 0 to 7 */
-    NGACHODUI_REFUSING = 26,        /* after 30, 31 or 50 to 53: all else of this transfer is refused */
+    NGACHODUI_REFUSING = 26,        /* after 30, 31 or a fault: all else of this transfer is refused */
     NGACHODUI_OUT_OF_TURN = 27,     /* the frame's number is neither the last nor the next */
     NGACHODUI_TOO_LONG = 28,        /* with this frame the text has over 4,000 bytes */
     NGACHODUI_NO_CR = 29,           /* ETX, and the text is empty or does not end with CR */
@@ -137,15 +143,20 @@ enum ngachodui_outcome {
 };
 
 /* Why a text is no message: what is wrong with a record, answered with the place of that record, counted
- * from 1. A text is walked up to its first wrong record, and there 51 goes before 52 and 52 before 53. An
- * event gets 50 to 53 where it completes the text, cutting and reading also 54. */
+ * from 1. A text is walked up to its first wrong record; of the first, 50 goes before 55 and 55 before 52,
+ * and of those behind it 51 before 52 and 52 before 53. An event gets these but for 54 where it completes
+ * the text, cutting and reading get all. Escaping and unescaping are given the delimiters, and so 55 has
+ * no place there. */
 enum ngachodui_fault {
-    NGACHODUI_NO_HEADER = 50,       /* the first record does not begin with H|\^&, or the text is empty */
+    NGACHODUI_NO_HEADER = 50,       /* the first record does not begin with H, or has fewer than five bytes
+                                     * before its CR, or the text is empty */
     NGACHODUI_UNKNOWN_TYPE = 51,    /* its type is none of H P O R Q L C M */
     NGACHODUI_MISPLACED = 52,       /* its type may not stand there, or it is the last record and no L */
     NGACHODUI_MISNUMBERED = 53,     /* its sequence number is not the one that is due */
-    NGACHODUI_NO_FINAL_CR = 54      /* the text's last byte is no CR, which is looked at before the records: its
+    NGACHODUI_NO_FINAL_CR = 54,     /* the text's last byte is no CR, which is looked at before the records: its
                                      * place is that of the last one */
+    NGACHODUI_BAD_DELIMITERS = 55   /* two of the four delimiters are the same, or one is no byte from 21 to
+                                     * 7E, or is a digit or a letter */
 };
 
 /* The answer to an event or a taking. */
@@ -153,7 +164,7 @@ typedef struct ngachodui_answered {
     uint8_t number;    /* enum ngachodui_number, or enum ngachodui_fault */
     uint8_t reply;     /* the byte to send to the analyzer: 0x06, 0x15, or 0 for none */
     uint16_t serial;   /* with answer 8 the message's serial, else 0 */
-    uint16_t place;    /* with answers 50 to 53 the wrong record's place, from 1; else 0 */
+    uint16_t place;    /* with a fault the wrong record's place, from 1; else 0 */
     uint16_t digits;   /* 0 in this version */
     size_t length;     /* with answer 8 the message's length, else 0 */
 } ngachodui_answered;
@@ -162,7 +173,7 @@ typedef struct ngachodui_answered {
 typedef struct ngachodui_made {
     uint8_t number;    /* enum ngachodui_outcome, or enum ngachodui_fault */
     uint8_t spare;     /* 0 in this version */
-    uint16_t place;    /* with answers 50 to 54 the wrong record's place, from 1; else 0 */
+    uint16_t place;    /* of a text that is cut or read and has a fault, the wrong record's place, from 1; else 0 */
     uint32_t value;    /* 0 in this version */
     size_t length;     /* when done: how much was written, from the start of the output; else 0 */
 } ngachodui_made;
@@ -251,8 +262,8 @@ void ngachodui_fresh(ngachodui_numbers *numbers, ngachodui_counts *counts);
 
 /* A byte has come in on a line.
  *
- * Answers 0 to 6, 20 to 31, 40 to 43 and 50 to 53, tested in this order: 40, 41, 42, then the byte's
- * work. `reply` goes back to the analyzer, once what the call has left is saved.
+ * Answers 0 to 6, 20 to 31, 40 to 43, 50 to 53 and 55, tested in this order: 40, 41, 42, then the
+ * byte's work. `reply` goes back to the analyzer, once what the call has left is saved.
  *
  * Changes, by the answer:
  *   0        at most this line's record, and its frame's next byte
@@ -260,11 +271,11 @@ void ngachodui_fresh(ngachodui_numbers *numbers, ngachodui_counts *counts);
  *   2        the record; the frame's last byte; the text behind the line's unfinished text
  *   4        as 2, and the entry at the journal's end, the line's used count, the bytes in use, the
  *            line's serial; the line has no unfinished text any more
- *   30, 31, 50 to 53  as 2, but the number is not advanced, the line has no unfinished text any more
+ *   30, 31, a fault   as 2, but the number is not advanced, the line has no unfinished text any more
  *            and refuses frames until the transfer ends
  *   3, 21 to 29   the frame's last byte; the line waits, its collected and second counts 0
  *   20, 40 to 43  nothing
- * A complete text is tested for 30, then 50 to 53, 43 and 31. 43 leaves the line inside its frame; 30
+ * A complete text is tested for 30, then its faults, 43 and 31. 43 leaves the line inside its frame; 30
  * seconds free it. [E5, E6, E7, O3, O4] */
 ngachodui_answered ngachodui_byte(uint8_t line, uint8_t byte,
                                   ngachodui_numbers *numbers, ngachodui_counts *counts,
@@ -345,21 +356,29 @@ static inline ngachodui_answered ngachodui_on_take(ngachodui_gateway *gateway, u
 /* ---- Texts ---- */
 
 /* These need no gateway. When done, the output holds what is made, from its start, and keeps its rest;
- * refused, it keeps all its bytes. 46 comes first, then 50 to 54 where a text is cut or read, then 47. */
+ * refused, it keeps all its bytes. A text that is cut or read is tested for 46, then its faults, then 47;
+ * escaping and unescaping test 55, then 46, then 47.
+ *
+ * The delimiters in force for a message are the four bytes behind its first one: the field, the repeat,
+ * the component and the escape delimiter. Most analyzers name | \ ^ and & there. Who escapes or unescapes
+ * for a message that it has hands over `text + 1`. Allowed are four different bytes, each of them from 21
+ * to 7E and neither digit nor letter; all other bytes stand for themselves, | too where it is not named.
+ * [R2, R3] */
 
 /* Whether a text is a message: 1 to 4,000 allowed bytes, records ended by CR from H to L, in an order
- * and with sequence numbers by the rules R1 to R11 (docs/RULES.md). [R1, R11] */
+ * and with sequence numbers by the rules R1 to R11 (docs/RULES.md), read with its own delimiters.
+ * [R1, R11] */
 bool ngachodui_is_message(const uint8_t *text, size_t text_length);
 
 /* Cuts a message into the frames that send it: for each record pieces of 240 bytes, the last with
  * ETX, those before it with ETB, numbered from 1. To send it: ENQ, then these bytes, then EOT, with
- * an ACK from the other side after ENQ and after each frame. 46, 50 to 54: the text is no message. The
+ * an ACK from the other side after ENQ and after each frame. 46, 50 to 55: the text is no message. The
  * length is the text's and 7 for each frame: at most NGACHODUI_CUT_LIMIT. [C2, C3, C4, C6] */
 ngachodui_made ngachodui_cut(const uint8_t *text, size_t text_length, uint8_t *out, size_t out_length);
 
 /* Reads a message: each record's type letter, where it starts in the text, its length without CR, and
  * its owner, by number from 1, or 0 where it has none (H and L). `length` is the number of records.
- * 46, 50 to 54: the text is no message. 47: one of the four has fewer slots than the message has
+ * 46, 50 to 55: the text is no message. 47: one of the four has fewer slots than the message has
  * records; NGACHODUI_RECORDS_LIMIT are always enough. The lengths count slots, not bytes. [R13, R14] */
 ngachodui_made ngachodui_read(const uint8_t *text, size_t text_length,
                               uint8_t *types, size_t types_length,
@@ -367,12 +386,18 @@ ngachodui_made ngachodui_read(const uint8_t *text, size_t text_length,
                               uint16_t *lengths, size_t lengths_length,
                               uint16_t *owners, size_t owners_length);
 
-/* Writes a text so that it can stand in a field: | as &F&, ^ as &S&, \ as &R&, & as &E&. Never 46. At
- * most three times the text's length. [R19] */
-ngachodui_made ngachodui_escape(const uint8_t *text, size_t text_length, uint8_t *out, size_t out_length);
+/* Writes a text so that it can stand in a field of a message with these delimiters: of each that stands in
+ * the text, its letter between two escape delimiters, F for the field's, S for the component's, R for the
+ * repeat's and E for the escape's. With | \ ^ & that is | as &F&, ^ as &S&, \ as &R& and & as &E&. 55: the
+ * delimiters are not allowed. Never 46. At most three times the text's length. [R17, R19] */
+ngachodui_made ngachodui_escape(const uint8_t delimiters[NGACHODUI_DELIMITERS],
+                                const uint8_t *text, size_t text_length,
+                                uint8_t *out, size_t out_length);
 
-/* The way back. 46: a | \ or ^ stands there, or an & that begins none of the four escapes. [R18] */
-ngachodui_made ngachodui_unescape(const uint8_t *component, size_t component_length,
+/* The way back, with the same delimiters. 55: they are not allowed. 46: a field, repeat or component
+ * delimiter stands there, or an escape delimiter that begins none of the four escapes. [R17, R18] */
+ngachodui_made ngachodui_unescape(const uint8_t delimiters[NGACHODUI_DELIMITERS],
+                                  const uint8_t *component, size_t component_length,
                                   uint8_t *out, size_t out_length);
 
 #ifdef __cplusplus

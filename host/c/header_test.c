@@ -222,6 +222,11 @@ static void test_faults(void)
 {
     check_not_allowed();
     check_faulty("L|1|N\r", NGACHODUI_NO_HEADER, 1);
+    check_faulty("H|\\^\rL|1\r", NGACHODUI_NO_HEADER, 1);
+    check_faulty("H|\\\r^&\rL|1\r", NGACHODUI_NO_HEADER, 1);
+    check_faulty("H|\\||\rX|1\rL|1\r", NGACHODUI_BAD_DELIMITERS, 1);
+    check_faulty("HA~$%\rLA1\r", NGACHODUI_BAD_DELIMITERS, 1);
+    check_faulty("H!~$%\rP|1\rL!1\r", NGACHODUI_UNKNOWN_TYPE, 2);
     check_faulty("H|\\^&\rP|1\rX|1\rL|2\r", NGACHODUI_UNKNOWN_TYPE, 3);
     check_faulty("H|\\^&\rP|1\rL|1\rL|1\r", NGACHODUI_MISPLACED, 4);
     check_faulty("H|\\^&\rP|1\rO|2\rX|1\rL|1\r", NGACHODUI_MISNUMBERED, 3);
@@ -230,6 +235,11 @@ static void test_faults(void)
     check_refused("H|\\^&\rX|1\rL|1", NGACHODUI_NO_FINAL_CR, 3);
     check_refused("H|\\^&\rX|1\n", NGACHODUI_MALFORMED, 0);
     check_refused("H|\\^&\rL|1\r", NGACHODUI_NOT_FITTING, 0);
+    check_refused("H|\\||\r", NGACHODUI_BAD_DELIMITERS, 1);
+    check_refused("H!~$%\r", NGACHODUI_MISPLACED, 1);
+    check_refused("H|\\||\rL|1", NGACHODUI_NO_FINAL_CR, 2);
+    check_refused("H|\\||\n\rL|1\r", NGACHODUI_MALFORMED, 0);
+    check_refused("H!~$%\rL!1\r", NGACHODUI_NOT_FITTING, 0);
 }
 
 /* A gateway saved when a message was stored, and loaded: the last frame again is a repeat, 30 seconds end the
@@ -324,26 +334,98 @@ static void test_refusals(void)
     check_number(lines[7].collected, 0, "none collected");
 }
 
+/* Delimiters that are not allowed: 55 first, without a place, and nothing is written. */
+static void check_bad(const char *four)
+{
+    const uint8_t *const delimiters = (const uint8_t *)four;
+    uint8_t out[2] = {0xaa, 0xaa};
+    const ngachodui_made made[] = {
+        ngachodui_escape(delimiters, BYTES("a"), out, sizeof out),
+        ngachodui_escape(delimiters, BYTES("a||b"), out, sizeof out),    /* too long for the output */
+        ngachodui_unescape(delimiters, BYTES("a"), out, sizeof out),
+        ngachodui_unescape(delimiters, BYTES("abcd"), out, sizeof out),  /* too long for the output */
+        ngachodui_unescape(delimiters, BYTES("|&X"), out, sizeof out),   /* a wrong escape */
+    };
+    for (size_t i = 0; i < sizeof made / sizeof made[0]; i++) {
+        check_number(made[i].number, NGACHODUI_BAD_DELIMITERS, "delimiters that are not allowed");
+        check_number(made[i].place, 0, "no place with them");
+        check_number((unsigned)made[i].length, 0, "no length with them");
+    }
+    check(out[0] == 0xaa && out[1] == 0xaa, "the output after 55");
+}
+
+/* A message with other delimiters: it is stored, its records are those of the same message with the standard ones, and
+ * what is escaped for it comes back. */
+static void test_delimiters(void)
+{
+    static const uint8_t text[] = "H!~$%\rP!1\rO!1\rR!1!$$$GLU!5.1 | 92\rL!1!N\r";
+    const size_t length = sizeof text - 1;
+    uint8_t frame[64];
+    start();
+    check_number(byte_on(1, 0x05).number, NGACHODUI_OPENED, "ENQ on line 1");
+    const ngachodui_answered a = send(1, frame, framed((const char *)text, frame), "other delimiters");
+    check_number(a.number, NGACHODUI_STORED, "a message with other delimiters");
+    check_number((unsigned)take_from(1, sizeof buffer).length, (unsigned)length, "its length");
+    check(memcmp(buffer, text, length) == 0, "its text");
+    check(ngachodui_is_message(text, length), "other delimiters are allowed");
+
+    uint8_t types[5];
+    uint16_t offsets[5], lengths[5], owners[5];
+    ngachodui_made m = ngachodui_read(text, length, types, 5, offsets, 5, lengths, 5, owners, 5);
+    check_number(m.number, 0, "a reading with other delimiters");
+    check_number((unsigned)m.length, 5, "its records");
+    static const uint16_t above[] = {0, 1, 2, 3, 0};
+    check(memcmp(types, "HPORL", 5) == 0, "their types");
+    check(memcmp(owners, above, sizeof above) == 0, "their owners");
+
+    uint8_t out[16], plain[16];
+    m = ngachodui_escape(text + 1, BYTES("!~$%|"), out, sizeof out);
+    check_number(m.number, 0, "an escaping with a message's own delimiters");
+    check_number((unsigned)m.length, 13, "its length");
+    check(memcmp(out, "%F%%R%%S%%E%|", 13) == 0, "its text");
+    m = ngachodui_unescape(text + 1, out, m.length, plain, sizeof plain);
+    check_number(m.number, 0, "an unescaping with them");
+    check_number((unsigned)m.length, 5, "its length");
+    check(memcmp(plain, "!~$%|", 5) == 0, "its text");
+    check_number(ngachodui_unescape(text + 1, BYTES("&F&|"), plain, sizeof plain).number, 0, "the standard ones are text there");
+    check_number(ngachodui_unescape(text + 1, BYTES("a!"), plain, sizeof plain).number, NGACHODUI_MALFORMED, "one that is in force");
+
+    check_bad("||^&");
+    check_bad("|\\|&");
+    check_bad("|\\^|");
+    check_bad("|^^&");
+    check_bad("|&^&");
+    check_bad("|\\^^");
+    check_bad("A\\^&");
+    check_bad("|z^&");
+    check_bad("|\\0&");
+    check_bad("|\\^ ");
+    check_bad("\x7f\\^&");
+    check_bad("|\x80^&");
+    check_bad("\r\\^&");
+}
+
 static void test_texts(void)
 {
     check(ngachodui_is_message(MESSAGE), "a message");
     check(!ngachodui_is_message(BYTES("L|1|N\r")), "no message");
+    const uint8_t *const standard = message + 1;
 
     uint8_t out[8];
     memset(out, 0xaa, sizeof out);
-    ngachodui_made m = ngachodui_escape(BYTES("a^b"), out, 4);
+    ngachodui_made m = ngachodui_escape(standard, BYTES("a^b"), out, 4);
     check_number(m.number, NGACHODUI_NOT_FITTING, "4 bytes for 5");
-    m = ngachodui_escape(BYTES("a^b"), out, sizeof out);
+    m = ngachodui_escape(standard, BYTES("a^b"), out, sizeof out);
     check_number(m.number, 0, "an escaping");
     check_number((unsigned)m.length, 5, "its length");
     check(memcmp(out, "a&S&b\xaa", 6) == 0, "its text and the output's rest");
     uint8_t plain[8];
-    m = ngachodui_unescape(out, 5, plain, sizeof plain);
+    m = ngachodui_unescape(standard, out, 5, plain, sizeof plain);
     check_number(m.number, 0, "an unescaping");
     check_number((unsigned)m.length, 3, "its length");
     check(memcmp(plain, "a^b", 3) == 0, "its text");
-    check_number(ngachodui_unescape(BYTES("a&X&b"), plain, sizeof plain).number, NGACHODUI_MALFORMED, "a wrong escape");
-    check_number(ngachodui_unescape(out, 5, plain, 2).number, NGACHODUI_NOT_FITTING, "2 bytes for 3");
+    check_number(ngachodui_unescape(standard, BYTES("a&X&b"), plain, sizeof plain).number, NGACHODUI_MALFORMED, "a wrong escape");
+    check_number(ngachodui_unescape(standard, out, 5, plain, 2).number, NGACHODUI_NOT_FITTING, "2 bytes for 3");
 
     static const uint8_t results[] = "H|\\^&\rP|1\rO|1\rR|1|^^^GLU|5.1\rC|1|x\rL|1|N\r";
     uint8_t types[7];
@@ -371,6 +453,7 @@ static void work(void)
     test_dialogue();
     test_cut_and_sent();
     test_faults();
+    test_delimiters();
     test_texts();
 }
 
@@ -405,6 +488,7 @@ int main(void)
     test_seconds();
     test_sizes();
     test_refusals();
+    test_delimiters();
     test_texts();
     test_stack();
     printf("%u checks, %u wrong\n", checks, wrong);

@@ -1,13 +1,16 @@
 //! Faults put into what the library did, to see that the comparison finds them. Each is one that an
 //! implementation might have; `--faults` tries all.
 
-use crate::boundary::{Answered, Made};
+use crate::boundary::{self, Answered, Made};
 use crate::layout::{
     COLLECTED, FIELDS, FRAME_PART, IN_USE, LINES, NEXT, NUMBERS, REFUSING, SECONDS, SERIAL, STATE,
     TEXT_LIMIT,
 };
 use crate::library::{Book, Library};
+use crate::texts::Function;
+use ngachodui_model::delimiters::exchanged;
 use ngachodui_model::world::Op;
+use ngachodui_model::Delimiters;
 
 #[derive(Clone, Copy, PartialEq, Eq, Debug)]
 pub enum Fault {
@@ -38,10 +41,24 @@ pub enum Fault {
     LongMessageRefused,
     OwnerOfOIsAlwaysH,
     PlaceForgottenByReading,
+    BadDelimitersToldAs50,
+    BadDelimitersNotRefused,
+    BadDelimitersToldAs50ByCutting,
+    PlaceOfBadDelimitersForgotten,
+    OnlyRecordBeforeItsDelimiters,
+    LetterTakenAsDelimiter,
+    ShortBeforeBadDelimiters,
+    MalformedBeforeBadDelimiters,
+    BadDelimitersWritten,
+    PlaceInventedByEscaping,
+    StandardTakenForGiven,
+    RepeatTakenForComponent,
+    ShortHeaderToldAs55,
+    BarStillEndsAField,
 }
 
 impl Fault {
-    pub const ALL: [Fault; 27] = [
+    pub const ALL: [Fault; 41] = [
         Fault::RepeatToldAsAccepted,
         Fault::NoRoomAcknowledged,
         Fault::SerialNotAdvanced,
@@ -69,6 +86,20 @@ impl Fault {
         Fault::LongMessageRefused,
         Fault::OwnerOfOIsAlwaysH,
         Fault::PlaceForgottenByReading,
+        Fault::BadDelimitersToldAs50,
+        Fault::BadDelimitersNotRefused,
+        Fault::BadDelimitersToldAs50ByCutting,
+        Fault::PlaceOfBadDelimitersForgotten,
+        Fault::OnlyRecordBeforeItsDelimiters,
+        Fault::LetterTakenAsDelimiter,
+        Fault::ShortBeforeBadDelimiters,
+        Fault::MalformedBeforeBadDelimiters,
+        Fault::BadDelimitersWritten,
+        Fault::PlaceInventedByEscaping,
+        Fault::StandardTakenForGiven,
+        Fault::RepeatTakenForComponent,
+        Fault::ShortHeaderToldAs55,
+        Fault::BarStillEndsAField,
     ];
 
     /// An operation's answer, numbers and memories, as the fault leaves them; `before` are the numbers
@@ -104,6 +135,8 @@ impl Fault {
             (Fault::SerialInvented, 8) => answer.serial = book.numbers[at + SERIAL],
             (Fault::PlaceInvented, 30) => answer.place = 1,
             (Fault::PlaceOneFurther, 50..=53) => answer.place += 1,
+            (Fault::BadDelimitersToldAs50, 55) => answer.number = 50,
+            (Fault::BadDelimitersNotRefused, 55) => book.numbers[at + REFUSING] = 0,
             (Fault::WrongRecordToldAs30, 53) => {
                 answer.number = 30;
                 answer.place = 0;
@@ -133,32 +166,82 @@ impl Fault {
     }
 
     /// What a text function wrote, as the fault leaves it.
-    pub fn spoil_output(self, function: &str, made: &mut Made, out: &mut [u8]) {
+    pub fn spoil_output(self, function: Function, text: &[u8], made: &mut Made, out: &mut [u8]) {
         match (self, made.number) {
-            (Fault::OutputWrittenThoughShort, 47) => {
+            (Fault::OutputWrittenThoughShort, 47) | (Fault::BadDelimitersWritten, 55) => {
                 if let Some(byte) = out.first_mut() {
                     *byte = b'?';
                 }
-            }
-            (Fault::ShortBeforeMalformed, 46) if function == "unescape" && out.is_empty() => {
-                made.number = 47
             }
             (Fault::WrongRecordToldAs46, 52) => {
                 made.number = 46;
                 made.place = 0;
             }
-            (Fault::LastByteOfOutputWrong, 0) if function == "cut" => out[made.length - 1] ^= 1,
+            _ => {}
+        }
+        match function {
+            Function::Cut => self.spoil_cut(text, made, out),
+            Function::Escape(four) => self.spoil_escape(four, text, made, out),
+            Function::Unescape(four) => self.spoil_unescape(four, text, made, out),
+        }
+    }
+
+    fn spoil_cut(self, text: &[u8], made: &mut Made, out: &mut [u8]) {
+        match (self, made.number) {
+            (Fault::LastByteOfOutputWrong, 0) => out[made.length - 1] ^= 1,
+            (Fault::BadDelimitersToldAs50ByCutting, 55) => made.number = 50,
+            // Four bytes are there, but not in the first record.
+            (Fault::ShortHeaderToldAs55, 50) if text.len() >= 5 && text[0] == b'H' => {
+                made.number = 55
+            }
+            (Fault::OnlyRecordBeforeItsDelimiters, 55) if is_one_record(text) => made.number = 52,
+            _ => {}
+        }
+    }
+
+    fn spoil_escape(self, four: Delimiters, text: &[u8], made: &mut Made, out: &mut [u8]) {
+        match (self, made.number) {
+            (Fault::ShortBeforeBadDelimiters, 55) if out.len() < text.len() => made.number = 47,
+            (Fault::PlaceInventedByEscaping, 55) => made.place = 1,
+            (Fault::StandardTakenForGiven, 0) => {
+                *made = Function::Escape(Delimiters::STANDARD).library(text, out)
+            }
+            // A component that is right, as far as itself can tell.
+            (Fault::RepeatTakenForComponent, 0) => {
+                let around = four.escape;
+                for start in 0..made.length.saturating_sub(2) {
+                    match &mut out[start..start + 3] {
+                        [before, letter @ b'R', behind] if [*before, *behind] == [around; 2] => {
+                            *letter = b'S'
+                        }
+                        _ => {}
+                    }
+                }
+            }
+            _ => {}
+        }
+    }
+
+    fn spoil_unescape(self, four: Delimiters, text: &[u8], made: &mut Made, out: &[u8]) {
+        match (self, made.number) {
+            (Fault::ShortBeforeMalformed, 46) if out.is_empty() => made.number = 47,
+            (Fault::MalformedBeforeBadDelimiters, 55) if text.contains(&four.field) => {
+                made.number = 46
+            }
             _ => {}
         }
     }
 
     pub fn spoil_is_message(self, text: &[u8], found: &mut bool) {
-        if self == Fault::LongMessageRefused && text.len() == TEXT_LIMIT {
-            *found = false;
+        match self {
+            Fault::LongMessageRefused if text.len() == TEXT_LIMIT => *found = false,
+            Fault::LetterTakenAsDelimiter => *found |= is_message_but_for_letters(text),
+            Fault::BarStillEndsAField => *found |= is_message_but_for_bars(text),
+            _ => {}
         }
     }
 
-    pub fn spoil_read(self, made: &mut Made, types: &[u8], owners: &mut [u16]) {
+    pub fn spoil_read(self, text: &[u8], made: &mut Made, types: &[u8], owners: &mut [u16]) {
         match (self, made.number) {
             (Fault::OwnerOfOIsAlwaysH, 0) => {
                 for (kind, owner) in types.iter().zip(owners) {
@@ -168,7 +251,44 @@ impl Fault {
                 }
             }
             (Fault::PlaceForgottenByReading, 54) => made.place = 0,
+            (Fault::PlaceOfBadDelimitersForgotten, 55) => made.place = 0,
+            (Fault::OnlyRecordBeforeItsDelimiters, 55) if is_one_record(text) => made.number = 52,
             _ => {}
         }
     }
+}
+
+fn is_one_record(text: &[u8]) -> bool {
+    text.iter().filter(|&&byte| byte == b'\r').count() == 1
+}
+
+/// Whether a text is a message where `|` ends a field behind the header, whatever that names.
+fn is_message_but_for_bars(text: &[u8]) -> bool {
+    let mut text = text.to_vec();
+    if text.len() >= 5 {
+        let field = text[1];
+        for byte in text[5..].iter_mut().filter(|byte| **byte == b'|') {
+            *byte = field;
+        }
+    }
+    boundary::is_message(&text)
+}
+
+/// Whether a text with a letter among its delimiters is a message once another byte, which it has not, stands
+/// for that letter.
+fn is_message_but_for_letters(text: &[u8]) -> bool {
+    let four = match Delimiters::of(text) {
+        Some(four) => four,
+        None => return false,
+    };
+    let mut others = four.bytes();
+    let mut unused = (0x21..=0x2F).filter(|byte| !text.contains(byte));
+    for byte in others.iter_mut().filter(|byte| byte.is_ascii_alphabetic()) {
+        match unused.next() {
+            Some(other) => *byte = other,
+            None => return false,
+        }
+    }
+    // The letters of the types are exchanged too where one of them is a delimiter: then it is none.
+    boundary::is_message(&exchanged(text, four, Delimiters::in_order(others)))
 }

@@ -17,6 +17,7 @@ mod counts;
 mod edges;
 mod faults;
 mod fenced;
+mod headers;
 #[path = "../../rust/src/layout.rs"]
 mod layout;
 mod library;
@@ -34,6 +35,7 @@ use ngachodui_model::world::{Memory, Op, World};
 use ngachodui_model::Answer;
 use std::process::exit;
 use std::time::{Duration, Instant};
+use texts::Function;
 
 /// Operations from one fresh start to the next.
 const RUN: u64 = 50_000;
@@ -234,7 +236,30 @@ fn run(seed: u64, fault: Option<Fault>, limit: Limit, counts: &mut Counts) -> Re
     Ok(())
 }
 
-/// Runs until the limit; each run has its own seed.
+/// Every header: its text told, cut, read and on a line, and its delimiters to escape and unescape with.
+fn compare_headers(seed: u64, fault: Option<Fault>, counts: &mut Counts) -> Result<(), String> {
+    let mut pair = Pair::fresh(Random::new(seed), fault);
+    for text in headers::others() {
+        texts::compare_text(&text, &mut pair.random, fault, counts)?;
+    }
+    for text in headers::decided() {
+        texts::compare_text(&text, &mut pair.random, fault, counts)?;
+        for op in headers::on_a_line(&text) {
+            pair.step(op, counts)
+                .map_err(|difference| pair.tell(counts, &difference))?;
+        }
+    }
+    for four in headers::fours() {
+        for text in headers::components(four) {
+            for function in [Function::Escape(four), Function::Unescape(four)] {
+                texts::compare_output(function, &text, &mut pair.random, fault, counts)?;
+            }
+        }
+    }
+    Ok(())
+}
+
+/// Runs until the limit, each with its own seed; then every header.
 fn compare(
     seed: u64,
     fault: Option<Fault>,
@@ -246,9 +271,10 @@ fn compare(
     loop {
         run(seeds.number(), fault, limit, counts)?;
         if limit.is_reached(counts) {
-            return Ok(());
+            break;
         }
     }
+    compare_headers(seeds.number(), fault, counts)
 }
 
 /// Every fault must be found.

@@ -10,7 +10,7 @@ use crate::layout::{CUT_LIMIT, RECORDS_LIMIT, TEXT_LIMIT};
 use ngachodui_model::records::Record;
 use ngachodui_model::traffic::random::Random;
 use ngachodui_model::traffic::Traffic;
-use ngachodui_model::{cut, escape, is_message, read_into, unescape, Refusal};
+use ngachodui_model::{cut, escape, is_message, read_into, unescape, Delimiters, Refusal};
 
 const FENCE: u8 = 0x5A;
 const WIDE_FENCE: u16 = 0x5A5A;
@@ -20,8 +20,47 @@ const WIDE_BLANK: u16 = 0xB5B5;
 /// More than any text here needs, cut or escaped.
 const ROOM: usize = 16_384;
 
-type Model = fn(&[u8], &mut [u8]) -> Result<usize, Refusal>;
-type Library = fn(&[u8], &mut [u8]) -> Made;
+/// A function that writes bytes, by its name.
+#[derive(Clone, Copy, Debug)]
+pub enum Function {
+    Cut,
+    Escape(Delimiters),
+    Unescape(Delimiters),
+}
+
+impl Function {
+    fn name(self) -> &'static str {
+        match self {
+            Function::Cut => "cut",
+            Function::Escape(_) => "escape",
+            Function::Unescape(_) => "unescape",
+        }
+    }
+
+    fn model(self, text: &[u8], out: &mut [u8]) -> Result<usize, Refusal> {
+        match self {
+            Function::Cut => cut(text, out),
+            Function::Escape(four) => escape(four, text, out).map_err(Refusal::plain),
+            Function::Unescape(four) => unescape(four, text, out).map_err(Refusal::plain),
+        }
+    }
+
+    pub fn library(self, text: &[u8], out: &mut [u8]) -> Made {
+        match self {
+            Function::Cut => boundary::cut(text, out),
+            Function::Escape(four) => with(four, |four| boundary::escape(four, text, out)),
+            Function::Unescape(four) => with(four, |four| boundary::unescape(four, text, out)),
+        }
+    }
+}
+
+/// A call with delimiters that stand at an odd address between others, and are only read.
+fn with(four: Delimiters, call: impl FnOnce(&boundary::Delimiters) -> Made) -> Made {
+    let lent = Fenced::copy(&four.bytes(), 1, FENCE);
+    let made = call(lent.inside().try_into().expect("four"));
+    assert!(lent.inside() == four.bytes() && lent.stands());
+    made
+}
 
 /// A part of each record, by name: what the library wrote, and the model's.
 type Column<'a> = (&'a str, &'a Fenced<u16>, fn(Record) -> usize);
@@ -34,29 +73,32 @@ pub fn compare(
     counts: &mut Counts,
 ) -> Result<(), String> {
     let text = a_text(traffic, random);
-    compare_is_message(&text, random, fault, counts)?;
-    compare_output("cut", &text, cut, boundary::cut, random, fault, counts)?;
-    compare_read(&text, random, fault, counts)?;
+    compare_text(&text, random, fault, counts)?;
 
-    let text = a_component(traffic, random);
-    compare_output(
-        "escape",
-        &text,
-        |text, out| escape(text, out).map_err(Refusal::plain),
-        boundary::escape,
-        random,
-        fault,
-        counts,
-    )?;
-    compare_output(
-        "unescape",
-        &text,
-        |text, out| unescape(text, out).map_err(Refusal::plain),
-        boundary::unescape,
-        random,
-        fault,
-        counts,
-    )
+    // The text with the four behind its own first byte, or a component with any.
+    let (four, text) = match Delimiters::of(&text) {
+        Some(four) if random.once_in(8) => (four, text),
+        _ => {
+            let four = traffic.delimiters();
+            (four, a_component(four, traffic, random))
+        }
+    };
+    for function in [Function::Escape(four), Function::Unescape(four)] {
+        compare_output(function, &text, random, fault, counts)?;
+    }
+    Ok(())
+}
+
+/// One text told from messages, cut and read.
+pub fn compare_text(
+    text: &[u8],
+    random: &mut Random,
+    fault: Option<Fault>,
+    counts: &mut Counts,
+) -> Result<(), String> {
+    compare_is_message(text, random, fault, counts)?;
+    compare_output(Function::Cut, text, random, fault, counts)?;
+    compare_read(text, random, fault, counts)
 }
 
 /// Messages, nearly messages, and anything.
@@ -64,7 +106,10 @@ fn a_text(traffic: &mut Traffic, random: &mut Random) -> Vec<u8> {
     let mut text = match random.below(10) {
         0 => (0..random.below(40)).map(|_| random.byte()).collect(),
         1 => most_records(),
-        2 => traffic.component(),
+        2 => {
+            let four = traffic.delimiters();
+            traffic.component(four)
+        }
         3 => empty_records(random),
         _ => traffic.text(),
     };
@@ -91,21 +136,25 @@ fn empty_records(random: &mut Random) -> Vec<u8> {
     text
 }
 
-/// Components, whole texts, and what escaping made of either.
-fn a_component(traffic: &mut Traffic, random: &mut Random) -> Vec<u8> {
+/// Components, whole texts, and what escaping made of either, where these delimiters let it.
+fn a_component(four: Delimiters, traffic: &mut Traffic, random: &mut Random) -> Vec<u8> {
     let mut text = match random.below(4) {
         0 => a_text(traffic, random),
-        _ => traffic.component(),
+        _ => traffic.component(four),
     };
     if random.once_in(2) {
         let mut out = vec![0; ROOM];
-        let length = escape(&text, &mut out).expect("room");
-        out.truncate(length);
-        text = out;
+        if let Ok(length) = escape(four, &text, &mut out) {
+            out.truncate(length);
+            text = out;
+        }
     }
     if random.once_in(8) && !text.is_empty() {
         let place = random.below(text.len());
-        text[place] = random.pick(b"&|\\^FSRE");
+        text[place] = match random.below(2) {
+            0 => random.pick(&four.bytes()),
+            _ => random.pick(b"&|\\^FSRE"),
+        };
     }
     text
 }
@@ -162,30 +211,28 @@ fn made(outcome: Result<usize, Refusal>) -> Made {
 }
 
 /// A function that writes bytes: its outcome, every byte of the output, and the text left alone.
-fn compare_output(
-    function: &'static str,
+pub fn compare_output(
+    function: Function,
     text: &[u8],
-    model: Model,
-    library: Library,
     random: &mut Random,
     fault: Option<Fault>,
     counts: &mut Counts,
 ) -> Result<(), String> {
-    let needed = model(text, &mut vec![0; ROOM]).unwrap_or(8);
+    let needed = function.model(text, &mut vec![0; ROOM]).unwrap_or(8);
     let length = a_length(needed, random);
     let mut expected = vec![BLANK; length];
-    let outcome = made(model(text, &mut expected));
+    let outcome = made(function.model(text, &mut expected));
 
     let front = random.between(1, 9);
     let lent = Fenced::copy(text, front, FENCE);
     let mut out = Fenced::new(length, BLANK, front, FENCE);
-    let mut found = library(lent.inside(), out.inside_mut());
+    let mut found = function.library(lent.inside(), out.inside_mut());
     if let Some(fault) = fault {
-        fault.spoil_output(function, &mut found, out.inside_mut());
+        fault.spoil_output(function, text, &mut found, out.inside_mut());
     }
-    counts.text(function, found.number);
+    counts.text(function.name(), found.number);
 
-    let about = || format!("{} into {} bytes of \"{}\"", function, length, show(text));
+    let about = || format!("{:?} into {} bytes of \"{}\"", function, length, show(text));
     if outcome != found {
         return Err(format!(
             "{}: {}",
@@ -262,7 +309,7 @@ fn compare_read(
         owners.inside_mut(),
     );
     if let Some(fault) = fault {
-        fault.spoil_read(&mut found, types.inside(), owners.inside_mut());
+        fault.spoil_read(text, &mut found, types.inside(), owners.inside_mut());
     }
     counts.text("read", found.number);
 

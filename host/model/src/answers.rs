@@ -5,7 +5,7 @@
 use crate::texts::{ACK, NAK};
 
 /// What an event or a taking gives. Length and serial are those of the entry taken with answer 8;
-/// place is that of the wrong record with 50 to 53, counted from 1. They are 0 with every other number.
+/// place is that of the wrong record with a fault, counted from 1. They are 0 with every other number.
 #[derive(Clone, Copy, PartialEq, Eq, Debug)]
 pub struct Answer {
     pub number: u8,
@@ -34,7 +34,7 @@ impl Answer {
         }
     }
 
-    /// Answers 50 to 53.
+    /// Answers 50 to 53 and 55.
     pub fn faulty(number: u8, place: usize) -> Answer {
         Answer {
             place,
@@ -43,7 +43,7 @@ impl Answer {
     }
 }
 
-/// Why a text was not cut or read: 46, 47, or 50 to 54 with the place of the wrong record, counted
+/// Why a text was not cut or read: 46, 47, or 50 to 55 with the place of the wrong record, counted
 /// from 1, which is 0 with the other two.
 #[derive(Clone, Copy, PartialEq, Eq, Debug)]
 pub struct Refusal {
@@ -57,7 +57,7 @@ impl Refusal {
         Refusal { number, place: 0 }
     }
 
-    /// 50 to 54.
+    /// 50 to 55.
     pub fn faulty(number: u8, place: usize) -> Refusal {
         Refusal { number, place }
     }
@@ -67,7 +67,7 @@ impl Refusal {
 pub fn reply(number: u8) -> Option<u8> {
     match number {
         1..=4 => Some(ACK),
-        20..=31 | 50..=54 => Some(NAK),
+        20..=31 | 50..=55 => Some(NAK),
         _ => None,
     }
 }
@@ -80,7 +80,7 @@ mod tests {
     fn ack_nak_or_none() {
         let ack = [1, 2, 3, 4];
         let nak = [
-            20, 21, 22, 23, 24, 25, 26, 27, 28, 29, 30, 31, 50, 51, 52, 53, 54,
+            20, 21, 22, 23, 24, 25, 26, 27, 28, 29, 30, 31, 50, 51, 52, 53, 54, 55,
         ];
         for number in 0..=255 {
             let expected = if ack.contains(&number) {

@@ -4,7 +4,7 @@
 use crate::records::{field, result_fields};
 use crate::texts::{ENQ, EOT, LF};
 use crate::world::World;
-use crate::{cut, is_message, read, Refusal};
+use crate::{cut, is_message, read, Delimiters, Refusal};
 
 fn bytes(hex: &str) -> Vec<u8> {
     assert_eq!(hex.len() % 2, 0);
@@ -212,12 +212,13 @@ fn modular_result_records() {
     ];
     for (record, five, twelfth) in cases {
         let record = record.as_bytes();
-        let read = result_fields(record);
+        let standard = Delimiters::STANDARD;
+        let read = result_fields(standard, record);
         let seen = [read.test, read.value, read.units, read.flag, read.status].join(&b' ');
         assert_eq!(seen, five.as_bytes());
         assert_eq!(read.completion, b"");
-        assert_eq!(field(record, 12), twelfth.as_bytes());
-        assert_eq!(field(record, 14), b"E11");
+        assert_eq!(field(standard, record, 12), twelfth.as_bytes());
+        assert_eq!(field(standard, record, 14), b"E11");
     }
 }
 

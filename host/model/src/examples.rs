@@ -223,6 +223,49 @@ fn answer_30_is_for_a_byte_that_no_frame_brings() {
 }
 
 #[test]
+fn delimiters_on_a_line() {
+    let cases: [(&[u8], u8, usize); 12] = [
+        (b"H!~$%\rL!1\r", 4, 0),
+        (b"H|^\\&\rL|1\r", 4, 0),
+        (b"H!~$%\rP!1!|\\^&\rL!1\r", 4, 0),
+        (b"H!~$%\rP|1\rL!1\r", 51, 2),
+        (b"H!~$%\rL|1\r", 51, 2),
+        (b"H|\\\r^&\rL|1\r", 50, 1),
+        (b"H|\\^\rL|1\r", 50, 1),
+        (b"H|\\||\rL|1\r", 55, 1),
+        (b"H|\\^ \rX\rL|2\r", 55, 1),
+        (b"HLLLL\rL\r", 55, 1),
+        (b"H|\\^\xFE\rL|1\r", 55, 1),
+        // No last record that begins with L: not decided.
+        (b"H|\\||\r", 2, 0),
+    ];
+    for (text, number, place) in cases {
+        let mut world = opened();
+        // Neither a broken journal nor one without room is looked at.
+        if number != 4 {
+            world.model.ledger.used[7] = 1;
+        }
+        let answer = world.answer(2, &write(1, text, ETX));
+        assert_eq!((answer.number, answer.place), (number, place), "{:?}", text);
+        let record = world.model.lines[2];
+        assert_eq!(record.refusing, number >= 50);
+        if number >= 50 {
+            assert_eq!((record.joined, record.next, record.last), (0, 1, None));
+            assert_eq!(world.unfinished[8_000..][..text.len()], *text);
+            assert_eq!(world.send(2, &write(1, MESSAGE, ETX)), 26);
+            assert_eq!(world.send(2, &[EOT]), 5);
+        }
+    }
+    // A byte that is not allowed goes before them, though it is one of the four.
+    for place in 1..5 {
+        let mut world = opened();
+        assert_eq!(world.send(2, &write(1, b"H|\\^&", ETB)), 2);
+        world.unfinished[8_000 + place] = 0x0A;
+        assert_eq!(world.send(2, &write(2, b"\rL|1\r", ETX)), 30);
+    }
+}
+
+#[test]
 fn answer_31_and_the_guaranteed_share() {
     let mut world = World::fresh(0);
     for _ in 0..4 {

@@ -11,6 +11,7 @@
 
 pub mod answers;
 pub mod cutting;
+pub mod delimiters;
 pub mod escapes;
 pub mod frames;
 pub mod journal;
@@ -24,6 +25,7 @@ pub mod world;
 
 pub use answers::{reply, Answer, Refusal};
 pub use cutting::cut;
+pub use delimiters::Delimiters;
 pub use escapes::{escape, unescape};
 pub use journal::Ledger;
 pub use lines::{Kind, Line, State};

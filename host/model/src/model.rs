@@ -96,7 +96,7 @@ impl Model {
         left.state = State::Waiting;
 
         let frame = match frame {
-            Ok(frame) if matches!(number, 2 | 4 | 30 | 31 | 50..=53) => frame,
+            Ok(frame) if matches!(number, 2 | 4 | 30 | 31 | 50..=53 | 55) => frame,
             _ => return answer,
         };
         // What is left of the text: it is written even where the message is refused, and counted only
@@ -160,7 +160,7 @@ impl Model {
         match read(text) {
             // 30: a byte that is not allowed. No frame brings one, but lent memory may hold it.
             Err(refusal) if refusal.number == 46 => return Answer::plain(30),
-            // 50 to 53: a record that is wrong.
+            // 50 to 53, 55: a record that is wrong.
             Err(refusal) => return Answer::faulty(refusal.number, refusal.place),
             Ok(_) => {}
         }

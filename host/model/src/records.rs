@@ -1,6 +1,7 @@
 //! Messages and their records (docs/RULES.md, R).
 
 use crate::answers::Refusal;
+use crate::delimiters::Delimiters;
 use crate::texts::{is_allowed, CR};
 
 /// One record of a message that was read.
@@ -18,9 +19,6 @@ pub struct Record {
 
 /// The longest message. [R1]
 pub const MESSAGE_LIMIT: usize = 4_000;
-
-/// How a message begins: the letter of its header, and the delimiters that it names. [R3]
-pub const HEAD: &[u8] = b"H|\\^&";
 
 /// The types that there are. [R5]
 const TYPES: &[u8] = b"HPORQLCM";
@@ -127,6 +125,8 @@ impl Owners {
 /// of its records. [R13, R14, R22]
 pub fn read(text: &[u8]) -> Result<Vec<Record>, Refusal> {
     let records = split(text)?;
+    let header = first(records[0], records.len() == 1);
+    let in_force = header.map_err(|number| Refusal::faulty(number, 1))?;
     let mut found: Vec<Record> = Vec::new();
     let mut counts = Counts::default();
     let mut owners = Owners::default();
@@ -138,11 +138,11 @@ pub fn read(text: &[u8]) -> Result<Vec<Record>, Refusal> {
         let place = index + 1;
         let is_last = place == records.len();
         let kind = if place == 1 {
-            first(record, is_last)
+            b'H'
         } else {
-            following(record, is_last, before, &mut counts)
+            following(in_force, record, is_last, before, &mut counts)
+                .map_err(|number| Refusal::faulty(number, place))?
         };
-        let kind = kind.map_err(|number| Refusal::faulty(number, place))?;
         found.push(Record {
             kind,
             offset,
@@ -178,23 +178,35 @@ fn split(text: &[u8]) -> Result<Vec<&[u8]>, Refusal> {
     Ok(records)
 }
 
-/// The type of the first record, or what is wrong with it. [A50, A52]
-fn first(record: &[u8], is_last: bool) -> Result<u8, u8> {
+/// The delimiters that the first record names, which are in force for all that follow; or what is wrong
+/// with it first. [R3, A50, A52, A55]
+fn first(record: &[u8], is_last: bool) -> Result<Delimiters, u8> {
     // 50: a header. Nothing is said of what follows the delimiters there.
-    if !record.starts_with(HEAD) {
-        return Err(50);
+    let in_force = match Delimiters::of(record) {
+        Some(delimiters) if record[0] == b'H' => delimiters,
+        _ => return Err(50),
+    };
+    // 55: delimiters by which the others can be read.
+    if !in_force.are_allowed() {
+        return Err(55);
     }
     // 52: the last record is an L.
     if is_last {
         return Err(52);
     }
-    Ok(b'H')
+    Ok(in_force)
 }
 
 /// The type of a record behind the first, or what is wrong with it first. [A51, A52, A53]
-fn following(record: &[u8], is_last: bool, before: u8, counts: &mut Counts) -> Result<u8, u8> {
+fn following(
+    in_force: Delimiters,
+    record: &[u8],
+    is_last: bool,
+    before: u8,
+    counts: &mut Counts,
+) -> Result<u8, u8> {
     // 51: its type, one letter and nothing more.
-    let kind = match field(record, 1) {
+    let kind = match field(in_force, record, 1) {
         [letter] if TYPES.contains(letter) => *letter,
         _ => return Err(51),
     };
@@ -203,7 +215,7 @@ fn following(record: &[u8], is_last: bool, before: u8, counts: &mut Counts) -> R
         return Err(52);
     }
     // 53: its number, the one that is due.
-    if sequence(field(record, 2)) != Some(counts.advance(kind)) {
+    if sequence(field(in_force, record, 2)) != Some(counts.advance(kind)) {
         return Err(53);
     }
     Ok(kind)
@@ -248,11 +260,11 @@ pub fn last_record_begins_with(text: &[u8]) -> Option<u8> {
 }
 
 /// A field, from 1; what a record does not have is empty. [R4]
-pub fn field(record: &[u8], number: usize) -> &[u8] {
+pub fn field(in_force: Delimiters, record: &[u8], number: usize) -> &[u8] {
     if number == 0 {
         return b"";
     }
-    let mut fields = record.split(|&byte| byte == b'|');
+    let mut fields = record.split(|&byte| byte == in_force.field);
     fields.nth(number - 1).unwrap_or(b"")
 }
 
@@ -268,23 +280,25 @@ pub struct ResultFields<'a> {
 }
 
 /// The six fields of an R record. [R15]
-pub fn result_fields(record: &[u8]) -> ResultFields<'_> {
+pub fn result_fields(in_force: Delimiters, record: &[u8]) -> ResultFields<'_> {
+    let field = |number| field(in_force, record, number);
     ResultFields {
-        test: field(record, 3),
-        value: field(record, 4),
-        units: field(record, 5),
-        flag: field(record, 7),
-        status: field(record, 9),
-        completion: field(record, 13),
+        test: field(3),
+        value: field(4),
+        units: field(5),
+        flag: field(7),
+        status: field(9),
+        completion: field(13),
     }
 }
 
-/// The end of a component: the next delimiter or CR, but not &, which is part of an escape. With
-/// none, the end is the text's; a start past it is left there. [R16]
-pub fn component_end(text: &[u8], start: usize) -> usize {
+/// The end of a component: the next delimiter or CR, but not the escape delimiter, which is part of an
+/// escape. With none, the end is the text's; a start past it is left there. [R16]
+pub fn component_end(in_force: Delimiters, text: &[u8], start: usize) -> usize {
+    let ends = [in_force.field, in_force.repeat, in_force.component, CR];
     let mut place = start;
     while place < text.len() {
-        if matches!(text[place], b'|' | b'\\' | b'^' | CR) {
+        if ends.contains(&text[place]) {
             return place;
         }
         place += 1;
@@ -295,6 +309,9 @@ pub fn component_end(text: &[u8], start: usize) -> usize {
 #[cfg(test)]
 mod tests {
     use super::*;
+    use crate::delimiters::{exchanged, POSSIBLE};
+
+    const STANDARD: Delimiters = Delimiters::STANDARD;
 
     /// A text from its records, with a `/` for each CR.
     fn text(written: &str) -> Vec<u8> {
@@ -318,11 +335,20 @@ mod tests {
 
     #[test]
     fn h_is_its_five_first_bytes() {
-        for head in ["H|\\^&xyz", "H|\\^&&", "H|\\^&|||x", "H|\\^& "] {
+        let good = [
+            "H|\\^&xyz",
+            "H|\\^&&",
+            "H|\\^&|||x",
+            "H|\\^& ",
+            "H|^\\&",
+            "H|\\&^",
+            "H|~$%",
+        ];
+        for head in good {
             assert!(is_message(&text(&format!("{}/L|1/", head))), "{}", head);
         }
         let bad = [
-            "H", "H|", "H|\\^", "H|^\\&", "h|\\^&", " H|\\^&", "H|\\&^", "", "P|1",
+            "H", "H|", "H|\\^", "h|\\^&", " H|\\^&", "", "P|1", "H|\\^|", "H|\\^1", "H!~$%",
         ];
         for head in bad {
             assert!(!is_message(&text(&format!("{}/L|1/", head))), "{}", head);
@@ -412,9 +438,15 @@ mod tests {
             ("/", 50, 1),
             ("L|1|N/", 50, 1),
             ("/H|\\^&/L|1/", 50, 1),
-            ("H|^\\&/L|1/", 50, 1),
             ("h|\\^&/X/", 50, 1),
+            ("h|\\||/L|1/", 50, 1),
+            ("H|\\/L|1/", 50, 1),
+            ("H|\\^/L|1/", 50, 1),
+            ("H|\\^/&/L|1/", 50, 1),
+            ("H|\\/^&/L|1/", 50, 1),
+            ("H|\\||/L|1/", 55, 1),
             ("H|\\^&/", 52, 1),
+            ("H!~$%/", 52, 1),
             // Types.
             ("H|\\^&//L|1/", 51, 2),
             ("H|\\^&/p|1/L|1/", 51, 2),
@@ -483,6 +515,120 @@ mod tests {
         ];
         for (written, number, place) in cases {
             assert_eq!(wrong(&text(written)), (number, place), "{}", written);
+        }
+    }
+
+    /// The shortest message that has these four as its delimiters.
+    fn shortest(four: [u8; 4]) -> Vec<u8> {
+        [b"H", &four[..], b"\rL", &four[..1], b"1\r"].concat()
+    }
+
+    #[test]
+    fn each_byte_at_each_place_of_a_header() {
+        for place in 0..4 {
+            let others: Vec<u8> = (0..4)
+                .filter(|&p| p != place)
+                .map(|p| b"|\\^&"[p])
+                .collect();
+            for byte in 0..=255 {
+                let mut four = *b"|\\^&";
+                four[place] = byte;
+                let expected = match byte {
+                    0x00..=0x06 | 0x08 | 0x0A | 0x0E..=0x1F | 0x7F | 0xFF => Err((46, 0)),
+                    CR => Err((50, 1)),
+                    _ if POSSIBLE.contains(&byte) && !others.contains(&byte) => Ok(2),
+                    _ => Err((55, 1)),
+                };
+                let found = read(&shortest(four)).map(|records| records.len());
+                let found = found.map_err(|refusal| (refusal.number, refusal.place));
+                assert_eq!(found, expected, "{:02X} at {}", byte, place);
+            }
+        }
+    }
+
+    #[test]
+    fn two_delimiters_that_are_the_same() {
+        for four in [b"!!$%", b"!~!%", b"!~$!", b"!~~%", b"!~$~", b"!~$$"] {
+            assert_eq!(wrong(&shortest(*four)), (55, 1), "{:?}", four);
+        }
+        assert!(is_message(&shortest(*b"!~$%")));
+    }
+
+    #[test]
+    fn delimiters_stand_behind_50_and_before_all_other_records() {
+        let cases = [
+            // As the only record; good ones as the only record are 52.
+            ("H|\\||/", 55, 1),
+            ("H!~!%/", 55, 1),
+            ("H|\\^&/", 52, 1),
+            // With a later fault of each kind.
+            ("H|\\||/X|1/L|1/", 55, 1),
+            ("H|\\||//L|1/", 55, 1),
+            ("H|\\||/R|1/L|1/", 55, 1),
+            ("H|\\||/P|2/L|1/", 55, 1),
+            ("H|\\||/P|1/", 55, 1),
+            ("HHHHH/", 55, 1),
+            // Without a CR at the end.
+            ("H|\\||", 54, 1),
+            ("H|\\||/L|1", 54, 2),
+            ("H|\\^", 54, 1),
+            // Too short a header, and what it would name is bad.
+            ("H||/L|1/", 50, 1),
+            ("H|||/|/L|1/", 50, 1),
+            ("P||||/L|1/", 50, 1),
+        ];
+        for (written, number, place) in cases {
+            assert_eq!(wrong(&text(written)), (number, place), "{}", written);
+        }
+        assert_eq!(wrong(b"H|\\||\n\rL|1\r"), (46, 0));
+        assert_eq!(wrong(b"H|\\|\n\rL|1\r"), (46, 0));
+        let long = [&b"H|\\||"[..], &[CR; 3_996]].concat();
+        assert_eq!(wrong(&long), (46, 0));
+        assert_eq!(wrong(&long[..4_000]), (55, 1));
+    }
+
+    #[test]
+    fn records_are_read_with_the_delimiters_in_force() {
+        assert!(is_message(&text("H!~$%/P!1/O!1/R!1/L!1/")));
+        // One record that has the standard ones.
+        assert_eq!(wrong(&text("H!~$%/P!1/O|1/R!1/L!1/")), (51, 3));
+        assert_eq!(wrong(&text("H!~$%/P!1/L|1/")), (51, 3));
+        assert_eq!(wrong(&text("H|\\^&/P!1/L|1/")), (51, 2));
+        // What ends a field, or does not.
+        assert_eq!(wrong(&text("H!~$%/P!1|2/L!1/")), (53, 2));
+        assert!(is_message(&text("H!~$%/P!1!|/L!1/")));
+        assert_eq!(wrong(&text("H^|!&/P^1!/L^1/")), (53, 2));
+        // | \ ^ & are text like any other, and so are the others with these four.
+        assert!(is_message(&text("H!~$%|\\^&/P!1!|\\^&|/C!1!&F&&X&/L!1/")));
+        assert!(is_message(&text("H|\\^&!~$%/P|1|!~$%!/L|1/")));
+        // The last record is still an L.
+        assert_eq!(wrong(&text("H!~$%/P!1/")), (52, 2));
+        assert_eq!(wrong(&text("H!~$%/L!2/")), (53, 2));
+    }
+
+    #[test]
+    fn other_delimiters_change_nothing_else() {
+        let texts = [
+            "H|\\^&/L|1/",
+            "H|\\^&|x^y\\z/P|1|&F&|!~$%/L|1|N/",
+            "H|\\^&/C|1/O|1/R|1|^^^GLU|5.2/C|1/M|1/O|2/P|1/M|1/O|1/R|1/R|2/C|1/P|2/Q|1/C|1/L|1/",
+            // Wrong in each way.
+            "H|\\^/L|1/",
+            "H|\\^^/L|1/",
+            "H|\\^&/PX|1/L|1/",
+            "H|\\^&/P|1/R|1/L|1/",
+            "H|\\^&/P|1/O|01/L|1/",
+            "H|\\^&/P|1/L|1",
+        ];
+        let fours = [b"!~$%", b"&^\\|", b"^|!&", b"`{}_", b"\"'()", b",-./"];
+        for written in texts {
+            let whole = text(written);
+            for four in fours {
+                let to = Delimiters::in_order(*four);
+                let other = exchanged(&whole, STANDARD, to);
+                assert_eq!(read(&other), read(&whole), "{} {:?}", written, four);
+                assert_eq!(exchanged(&other, to, STANDARD), whole);
+            }
         }
     }
 
@@ -616,29 +762,48 @@ mod tests {
     #[test]
     fn fields_split_at_bars_alone() {
         let record = b"R|1|^^^64/1/not|46.22|IU/L||H||F||BMSERV|||E1";
-        let fields = result_fields(record);
+        let fields = result_fields(STANDARD, record);
         assert_eq!(fields.test, b"^^^64/1/not");
         assert_eq!(fields.value, b"46.22");
         assert_eq!(fields.units, b"IU/L");
         assert_eq!(fields.flag, b"H");
         assert_eq!(fields.status, b"F");
         assert_eq!(fields.completion, b"");
-        assert_eq!(field(record, 14), b"E1");
-        assert_eq!(field(record, 15), b"");
-        assert_eq!(field(record, 0), b"");
-        assert_eq!(field(b"", 1), b"");
-        assert_eq!(field(b"H|\\^&", 2), b"\\^&");
+        let field_14 = |in_force| field(in_force, record, 14);
+        assert_eq!(field_14(STANDARD), b"E1");
+        assert_eq!(field(STANDARD, record, 15), b"");
+        assert_eq!(field(STANDARD, record, 0), b"");
+        assert_eq!(field(STANDARD, b"", 1), b"");
+        assert_eq!(field(STANDARD, b"H|\\^&", 2), b"\\^&");
+        // With others, the bar is text.
+        let other = Delimiters::in_order(*b"!~$%");
+        assert_eq!(field_14(other), b"");
+        assert_eq!(field(other, record, 1), record);
+        let record = exchanged(record, STANDARD, other);
+        assert_eq!(result_fields(other, &record).test, b"$$$64/1/not");
+        assert_eq!(result_fields(other, &record).units, b"IU/L");
     }
 
     #[test]
     fn a_component_ends_at_any_delimiter_but_the_escape() {
         let whole = b"ab&F&c^d\\e|f\rg";
-        assert_eq!(component_end(whole, 0), 6);
-        assert_eq!(component_end(whole, 6), 6);
-        assert_eq!(component_end(whole, 7), 8);
-        assert_eq!(component_end(whole, 9), 10);
-        assert_eq!(component_end(whole, 11), 12);
-        assert_eq!(component_end(whole, 13), 14);
-        assert_eq!(component_end(whole, 99), 99);
+        let ends = [
+            (0, 6),
+            (6, 6),
+            (7, 8),
+            (9, 10),
+            (11, 12),
+            (13, 14),
+            (99, 99),
+        ];
+        let other = Delimiters::in_order(*b"!~$%");
+        let exchanged = exchanged(whole, STANDARD, other);
+        for (start, end) in ends {
+            assert_eq!(component_end(STANDARD, whole, start), end);
+            assert_eq!(component_end(other, &exchanged, start), end);
+            // With others, only the CR and the end are left.
+            let far = if start <= 12 { 12 } else { end };
+            assert_eq!(component_end(other, whole, start), far);
+        }
     }
 }

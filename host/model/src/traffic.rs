@@ -13,6 +13,7 @@ pub mod line_mixes;
 pub mod messages;
 pub mod random;
 
+use crate::delimiters::Delimiters;
 use crate::lines::Kind;
 use crate::world::{Op, World};
 use crate::LINES;
@@ -31,10 +32,10 @@ pub enum Mix {
     /// Frames with one fault each, and the right frame after it: 21 to 25, 27, and that nothing is
     /// advanced.
     Damaged,
-    /// Messages rich in records, half of them with a fault or two: 4, 50 to 53, then 26.
+    /// Messages rich in records, half of them with a fault or two: 4, 50 to 53 and 55, then 26.
     Records,
     /// Unfinished text set by hand with a byte that is not allowed, then the rest of a message, right
-    /// or wrong: 30, before 50 to 53.
+    /// or wrong: 30, before any fault.
     NotAllowed,
     /// Joined texts of 3,985 to 4,001 bytes, frames of 238 to 241 text bytes, empty frames, ETX
     /// with and without CR: 28, 29 and both sides of each limit.
@@ -188,9 +189,18 @@ impl Traffic {
         }
     }
 
-    /// A text for escaping and unescaping.
-    pub fn component(&mut self) -> Vec<u8> {
-        messages::component(&mut self.random)
+    /// Delimiters for escaping and unescaping: most are allowed, and of these most are the standard ones.
+    pub fn delimiters(&mut self) -> Delimiters {
+        if self.random.once_in(4) {
+            messages::bad_delimiters(&mut self.random, true)
+        } else {
+            messages::delimiters(&mut self.random)
+        }
+    }
+
+    /// A text for escaping and unescaping with these.
+    pub fn component(&mut self, delimiters: Delimiters) -> Vec<u8> {
+        messages::component(&mut self.random, delimiters)
     }
 }
 
@@ -275,7 +285,7 @@ mod tests {
         let mut world = World::fresh(0x6B);
         let counts = counts(&mut Traffic::new(1), &mut world, 200_000);
         for (number, count) in counts.iter().enumerate() {
-            let known = matches!(number, 0..=8 | 20..=31 | 40..=45 | 50..=53);
+            let known = matches!(number, 0..=8 | 20..=31 | 40..=45 | 50..=53 | 55);
             assert_eq!(*count > 0, known, "answer {}: {} times", number, count);
         }
     }
@@ -303,17 +313,17 @@ mod tests {
             (Mix::Noise, &[0, 1, 5, 20, 22]),
             (Mix::Polite, &[0, 1, 2, 3, 4, 5, 20]),
             (Mix::Damaged, &[21, 22, 23, 24, 25, 27, 2]),
-            (Mix::Records, &[4, 50, 51, 52, 53, 26]),
-            (Mix::NotAllowed, &[4, 30, 51, 52, 53]),
+            (Mix::Records, &[4, 50, 51, 52, 53, 55, 26]),
+            (Mix::NotAllowed, &[4, 30, 51, 52, 53, 55]),
             (Mix::Long, &[2, 4, 21, 28, 29, 30, 50]),
             (Mix::Clock, &[0, 7]),
             (Mix::Flood, &[4, 31, 26]),
             (Mix::Takings, &[44]),
-            (Mix::BrokenJournal, &[43, 8, 52]),
+            (Mix::BrokenJournal, &[43, 8, 52, 55]),
             (Mix::BeyondLimits, &[42, 3, 6]),
             (Mix::WrongSizes, &[40, 41, 44]),
             (Mix::WrongLines, &[40]),
-            (Mix::FullJournal, &[4, 31, 8, 52]),
+            (Mix::FullJournal, &[4, 31, 8, 52, 55]),
             (Mix::Renewal, &[]),
         ];
         for (mix, aimed) in aims {
@@ -352,8 +362,9 @@ mod tests {
             trace += &written;
         }
         expected += "60000 events\n";
-        for row_end in [" 4 06\n", " 50 15\n", " 51 15\n", " 52 15\n", " 53 15\n"] {
-            assert!(expected.contains(row_end), "{}", row_end);
+        for row_end in ["4 06", "50 15", "51 15", "52 15", "53 15", "55 15"] {
+            let row_end = format!(" {}\n", row_end);
+            assert!(expected.contains(&row_end), "{}", row_end);
         }
         assert!(crate::listing(trace.as_bytes()) == expected);
     }

@@ -45,7 +45,7 @@ pub enum Answer {
     BadText,
     /// 25: the frame's number is not 0 to 7.
     BadNumber,
-    /// 26: a message of this transfer was refused (30, 31, 50 to 53), and so is all else of it.
+    /// 26: a message of this transfer was refused (30, 31, a fault), and so is all else of it.
     Refusing,
     /// 27: the frame's number is neither the last nor the next.
     OutOfTurn,
@@ -70,7 +70,7 @@ pub enum Answer {
     NothingWaiting,
     /// 45: the buffer is shorter than the message.
     BufferShort,
-    /// 50 to 53: the text is complete and is not a message.
+    /// 50 to 53 and 55: the text is complete and is not a message.
     Faulty {
         /// What is wrong with it first; never [`Fault::NoFinalCr`].
         fault: Fault,
@@ -114,12 +114,12 @@ impl Answer {
         }
     }
 
-    /// The byte to send back to the analyzer: ACK (06) with 1 to 4, NAK (15) with 20 to 31 and 50 to 53,
-    /// else none.
+    /// The byte to send back to the analyzer: ACK (06) with 1 to 4, NAK (15) with 20 to 31 and with a
+    /// fault, else none.
     pub fn reply(self) -> Option<u8> {
         match self.number() {
             1..=4 => Some(0x06),
-            20..=31 | 50..=54 => Some(0x15),
+            20..=31 | 50..=55 => Some(0x15),
             _ => None,
         }
     }
@@ -172,10 +172,12 @@ impl Answer {
 }
 
 /// What is wrong with a record. A text is walked up to its first wrong record; there the type goes
-/// before what the record follows, and that before its sequence number.
+/// before what the record follows, and that before its sequence number. Of the first record, that it is
+/// no header goes before its delimiters.
 #[derive(Clone, Copy, PartialEq, Eq, Debug)]
 pub enum Fault {
-    /// 50: the first record does not begin with H and the four delimiters, or the text is empty.
+    /// 50: the first record does not begin with H or has fewer than five bytes before its CR, or the text
+    /// is empty.
     NoHeader,
     /// 51: the record's type is none of the eight.
     UnknownType,
@@ -186,6 +188,8 @@ pub enum Fault {
     /// 54: the text's last byte is no CR. It is looked at before the records, and its place is that of
     /// the last one.
     NoFinalCr,
+    /// 55: the four bytes behind H are no [`Delimiters`](crate::Delimiters) that are allowed.
+    BadDelimiters,
 }
 
 impl Fault {
@@ -197,6 +201,7 @@ impl Fault {
             Fault::Misplaced => 52,
             Fault::Misnumbered => 53,
             Fault::NoFinalCr => 54,
+            Fault::BadDelimiters => 55,
         }
     }
 
@@ -208,6 +213,7 @@ impl Fault {
             52 => Some(Fault::Misplaced),
             53 => Some(Fault::Misnumbered),
             54 => Some(Fault::NoFinalCr),
+            55 => Some(Fault::BadDelimiters),
             _ => None,
         }
     }
@@ -221,6 +227,7 @@ impl fmt::Display for Fault {
             Fault::Misplaced => "a type that may not stand there",
             Fault::Misnumbered => "a wrong sequence number",
             Fault::NoFinalCr => "no CR at its end",
+            Fault::BadDelimiters => "delimiters that are not allowed",
         })
     }
 }
@@ -233,7 +240,9 @@ pub enum Refusal {
     Malformed,
     /// 47: the output is longer than its memory.
     NotFitting,
-    /// 50 to 54: the text to cut or read is not a message.
+    /// 55: the delimiters to escape or unescape with are not allowed.
+    BadDelimiters,
+    /// 50 to 55: the text to cut or read is not a message.
     Faulty {
         /// What is wrong with it first.
         fault: Fault,
@@ -248,6 +257,7 @@ impl Refusal {
         match self {
             Refusal::Malformed => 46,
             Refusal::NotFitting => 47,
+            Refusal::BadDelimiters => Fault::BadDelimiters.number(),
             Refusal::Faulty { fault, .. } => fault.number(),
         }
     }
@@ -258,6 +268,7 @@ impl fmt::Display for Refusal {
         match self {
             Refusal::Malformed => f.write_str("the text is malformed"),
             Refusal::NotFitting => f.write_str("the output does not fit"),
+            Refusal::BadDelimiters => write!(f, "{}", Fault::BadDelimiters),
             Refusal::Faulty { fault, place } => write!(f, "record {}: {}", place, fault),
         }
     }
@@ -271,10 +282,10 @@ mod tests {
 
     #[test]
     fn each_answer_has_the_librarys_number_and_reply() {
-        for number in (0..=8).chain(20..=31).chain(40..=45).chain(50..=54) {
+        for number in (0..=8).chain(20..=31).chain(40..=45).chain(50..=55) {
             let reply = match number {
                 1..=4 => 0x06,
-                20..=31 | 50..=54 => 0x15,
+                20..=31 | 50..=55 => 0x15,
                 _ => 0,
             };
             let answer = Answer::of(Answered {
@@ -305,20 +316,24 @@ mod tests {
             Fault::Misplaced,
             Fault::Misnumbered,
             Fault::NoFinalCr,
+            Fault::BadDelimiters,
         ];
         for (fault, number) in faults.into_iter().zip(50..) {
             assert_eq!(fault.number(), number);
             assert_eq!(Fault::of(number), Some(fault));
             assert_eq!(Refusal::Faulty { fault, place: 1 }.number(), number);
         }
-        assert_eq!((Fault::of(49), Fault::of(55)), (None, None));
+        assert_eq!((Fault::of(49), Fault::of(56)), (None, None));
     }
 
     #[test]
     fn refusals_by_number() {
         assert_eq!(Refusal::Malformed.number(), 46);
         assert_eq!(Refusal::NotFitting.number(), 47);
+        assert_eq!(Refusal::BadDelimiters.number(), 55);
         assert_eq!(Refusal::NotFitting.to_string(), "the output does not fit");
+        let bad = Refusal::BadDelimiters.to_string();
+        assert_eq!(bad, "delimiters that are not allowed");
         let faulty = Refusal::Faulty {
             fault: Fault::Misnumbered,
             place: 9,

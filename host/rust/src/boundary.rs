@@ -3,13 +3,16 @@
 //! What the header asks of a host in C holds by the types here: references are never null, are
 //! valid for their lengths, and two `&mut` never overlap. All `unsafe` of the crate is in this file.
 
-use crate::layout::{self, COUNTS, NUMBERS};
+use crate::layout::{self, COUNTS, DELIMITERS, NUMBERS};
 
 /// Each line's numbers, in the order of [`layout`].
 pub type Numbers = [u16; NUMBERS];
 
 /// Each line's used count, then the bytes of the journal in use.
 pub type Counts = [u32; COUNTS];
+
+/// The four delimiters, in the order of a header: field, repeat, component, escape.
+pub type Delimiters = [u8; DELIMITERS];
 
 /// `ngachodui_answered`.
 #[repr(C)]
@@ -86,15 +89,20 @@ extern "C" {
     ) -> Answered;
     fn ngachodui_is_message(text: *const u8, text_length: usize) -> bool;
     fn ngachodui_cut(text: *const u8, text_length: usize, out: *mut u8, out_length: usize) -> Made;
+    // Under their names alone these two took no delimiters: what was compiled for that does not link.
+    #[link_name = "ngachodui_escape_2"]
     fn ngachodui_escape(
+        delimiters: *const u8,
         text: *const u8,
         text_length: usize,
         out: *mut u8,
         out_length: usize,
     ) -> Made;
+    #[link_name = "ngachodui_unescape_2"]
     fn ngachodui_unescape(
-        text: *const u8,
-        text_length: usize,
+        delimiters: *const u8,
+        component: *const u8,
+        component_length: usize,
         out: *mut u8,
         out_length: usize,
     ) -> Made;
@@ -211,12 +219,28 @@ pub fn cut(text: &[u8], out: &mut [u8]) -> Made {
     unsafe { ngachodui_cut(text.as_ptr(), text.len(), out.as_mut_ptr(), out.len()) }
 }
 
-pub fn escape(text: &[u8], out: &mut [u8]) -> Made {
-    unsafe { ngachodui_escape(text.as_ptr(), text.len(), out.as_mut_ptr(), out.len()) }
+pub fn escape(delimiters: &Delimiters, text: &[u8], out: &mut [u8]) -> Made {
+    unsafe {
+        ngachodui_escape(
+            delimiters.as_ptr(),
+            text.as_ptr(),
+            text.len(),
+            out.as_mut_ptr(),
+            out.len(),
+        )
+    }
 }
 
-pub fn unescape(text: &[u8], out: &mut [u8]) -> Made {
-    unsafe { ngachodui_unescape(text.as_ptr(), text.len(), out.as_mut_ptr(), out.len()) }
+pub fn unescape(delimiters: &Delimiters, component: &[u8], out: &mut [u8]) -> Made {
+    unsafe {
+        ngachodui_unescape(
+            delimiters.as_ptr(),
+            component.as_ptr(),
+            component.len(),
+            out.as_mut_ptr(),
+            out.len(),
+        )
+    }
 }
 
 pub fn read(

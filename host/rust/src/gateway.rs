@@ -182,6 +182,24 @@ mod tests {
         assert_eq!(gateway.used(7), 0);
     }
 
+    #[test]
+    fn a_message_with_other_delimiters() {
+        let text = b"H!~$%\rP!1\rO!1\rR!1!$$$GLU!5.2 | 94!mmol/L\rL!1!N\r";
+        let mut gateway = Gateway::fresh();
+        gateway.byte(7, 0x05);
+        let sent = frame(text);
+        let mut answers = sent.into_iter().map(|byte| gateway.byte(7, byte));
+        assert_eq!(
+            answers.find(|a| *a != Answer::Nothing),
+            Some(Answer::Stored)
+        );
+        let mut buffer = [0; 100];
+        let length = text.len();
+        let taken = Answer::Taken { length, serial: 0 };
+        assert_eq!(gateway.take(7, &mut buffer), taken);
+        assert_eq!(&buffer[..length], text);
+    }
+
     /// A text in one frame of number 1 that ends with ETX.
     fn frame(text: &[u8]) -> Vec<u8> {
         let counted = [b"1", text, b"\x03"].concat();
@@ -194,8 +212,11 @@ mod tests {
 
     #[test]
     fn the_record_that_is_wrong_is_told() {
-        let cases: [(&[u8], Fault, u16); 5] = [
+        let cases: [(&[u8], Fault, u16); 8] = [
             (b"L|1|N\r", Fault::NoHeader, 1),
+            (b"H|\\^\rL|1\r", Fault::NoHeader, 1),
+            (b"H|\\^^\rL|1\r", Fault::BadDelimiters, 1),
+            (b"H!~$%\rP!1\rP|2\rL!1\r", Fault::UnknownType, 3),
             (b"H|\\^&\rP|1\rp|2\rL|1\r", Fault::UnknownType, 3),
             (b"H|\\^&\rP|1\rO|1\rL|1\rL|1\r", Fault::Misplaced, 5),
             (b"H|\\^&\rP|1\rO|1\rR|2\rL|1\r", Fault::Misnumbered, 4),

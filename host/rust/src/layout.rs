@@ -35,6 +35,9 @@ pub const NUMBERS: usize = LINES * FIELDS;
 pub const IN_USE: usize = LINES;
 pub const COUNTS: usize = LINES + 1;
 
+/// How many delimiters a message has.
+pub const DELIMITERS: usize = 4;
+
 /// The longest message, in bytes: a buffer of this length is never too short for a taking.
 pub const TEXT_LIMIT: usize = 4_000;
 

@@ -2,7 +2,8 @@
 //!
 //! Analyzers send frames (ASTM E1381) with records (E1394) down eight serial lines. A [`Gateway`]
 //! takes the bytes as they come, says which byte to send back, and keeps each whole message until the
-//! host takes it. [`cut`], [`read`], [`escape`], [`unescape`] and [`is_message`] work on texts alone.
+//! host takes it. [`cut`], [`read`], [`escape`], [`unescape`] and [`is_message`] work on texts alone; each
+//! message names its own [`Delimiters`].
 //!
 //! The work is done by a library whose every function is proved to do what its contract says. This
 //! crate adds the memory and the names, and nothing of it is `unsafe` to use.
@@ -20,4 +21,4 @@ mod texts;
 pub use answers::{Answer, Fault, Refusal};
 pub use gateway::Gateway;
 pub use layout::{CUT_LIMIT, LINES, SHARE, TEXT_LIMIT, VERSION};
-pub use texts::{cut, escape, is_message, read, unescape, Record};
+pub use texts::{cut, escape, is_message, read, unescape, Delimiters, Record};

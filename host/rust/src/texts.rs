@@ -16,26 +16,81 @@ pub struct Record {
     pub owner: usize,
 }
 
-fn outcome(made: Made) -> Result<usize, Refusal> {
-    match made.number {
-        0 => Ok(made.length),
-        46 => Err(Refusal::Malformed),
-        47 => Err(Refusal::NotFitting),
-        number => match Fault::of(number) {
-            Some(fault) => Err(Refusal::Faulty {
-                fault,
-                place: made.place,
+/// The delimiters of a message. Allowed are four different bytes, each from 21 to 7E and neither digit nor
+/// letter.
+#[derive(Clone, Copy, PartialEq, Eq, Debug)]
+pub struct Delimiters {
+    /// Between fields.
+    pub field: u8,
+    /// Between repeats of a field.
+    pub repeat: u8,
+    /// Between the components of a field.
+    pub component: u8,
+    /// Around escapes.
+    pub escape: u8,
+}
+
+impl Delimiters {
+    /// `|`, `\`, `^` and `&`, which most analyzers name.
+    pub const STANDARD: Delimiters = Delimiters {
+        field: b'|',
+        repeat: b'\\',
+        component: b'^',
+        escape: b'&',
+    };
+
+    /// The four that a message names behind its H, whether they are allowed or not; none where the text
+    /// has fewer than five bytes.
+    ///
+    /// ```
+    /// use ngachodui::Delimiters;
+    ///
+    /// let delimiters = Delimiters::of(b"H!~$%\rL!1!N\r").expect("five bytes");
+    /// assert_eq!((delimiters.field, delimiters.repeat), (b'!', b'~'));
+    /// assert_eq!((delimiters.component, delimiters.escape), (b'$', b'%'));
+    /// assert_eq!(Delimiters::of(b"H|\\^&\rL|1|N\r"), Some(Delimiters::STANDARD));
+    /// assert_eq!(Delimiters::of(b"H|\\^"), None);
+    /// ```
+    pub fn of(text: &[u8]) -> Option<Delimiters> {
+        match *text {
+            [_, field, repeat, component, escape, ..] => Some(Delimiters {
+                field,
+                repeat,
+                component,
+                escape,
             }),
+            _ => None,
+        }
+    }
+
+    /// As they stand in a header.
+    fn in_order(self) -> boundary::Delimiters {
+        [self.field, self.repeat, self.component, self.escape]
+    }
+}
+
+fn outcome(made: Made) -> Result<usize, Refusal> {
+    match (made.number, made.place) {
+        (0, _) => Ok(made.length),
+        (46, _) => Err(Refusal::Malformed),
+        (47, _) => Err(Refusal::NotFitting),
+        // Delimiters that were given and not read: there is no record to name.
+        (55, 0) => Err(Refusal::BadDelimiters),
+        (number, place) => match Fault::of(number) {
+            Some(fault) => Err(Refusal::Faulty { fault, place }),
             None => unreachable!("no text is answered {}", number),
         },
     }
 }
 
 /// Whether a text is a message: 1 to 4,000 allowed bytes, records ended by CR from H to L, in an order
-/// and with sequence numbers by the rules R1 to R11 of `docs/RULES.md`.
+/// and with sequence numbers by the rules R1 to R11 of `docs/RULES.md`. It is read with the
+/// [`Delimiters`] that it names.
 ///
 /// ```
 /// assert!(ngachodui::is_message(b"H|\\^&\rL|1|N\r"));
+/// assert!(ngachodui::is_message(b"H!~$%\rL!1!N\r"));
+/// assert!(!ngachodui::is_message(b"H!~$%\rL|1|N\r"));
 /// assert!(!ngachodui::is_message(b"L|1|N\r"));
 /// ```
 pub fn is_message(text: &[u8]) -> bool {
@@ -81,6 +136,9 @@ pub fn cut(text: &[u8], out: &mut [u8]) -> Result<usize, Refusal> {
 /// let refusal = ngachodui::read(b"H|\\^&\rP|1\rR|1\rL|1\r").unwrap_err();
 /// assert_eq!(refusal, Refusal::Faulty { fault: Fault::Misplaced, place: 3 });
 /// assert_eq!(refusal.to_string(), "record 3: a type that may not stand there");
+///
+/// let refusal = ngachodui::read(b"H|\\||\rL|1\r").unwrap_err();
+/// assert_eq!(refusal, Refusal::Faulty { fault: Fault::BadDelimiters, place: 1 });
 /// ```
 pub fn read(text: &[u8]) -> Result<Vec<Record>, Refusal> {
     // Each record ends with a CR, so this many slots are enough.
@@ -105,39 +163,66 @@ pub fn read(text: &[u8]) -> Result<Vec<Record>, Refusal> {
     Ok((0..count).map(record).collect())
 }
 
-/// Writes a text so that it can stand in a field, `|` as `&F&`, `^` as `&S&`, `\` as `&R&` and `&` as
-/// `&E&`, and says how long it is: at most three times the text. The rest of `out` keeps its bytes.
+/// Writes a text so that it can stand in a field of a message with these delimiters: of each that stands
+/// in it, its letter between two escape delimiters, F for the field's, S for the component's, R for the
+/// repeat's and E for the escape's. Says how long it is: at most three times the text. The rest of `out`
+/// keeps its bytes.
 ///
 /// ```
+/// use ngachodui::Delimiters;
+///
 /// let mut out = [0; 9];
-/// assert_eq!(ngachodui::escape(b"1|2&3", &mut out), Ok(9));
+/// assert_eq!(ngachodui::escape(Delimiters::STANDARD, b"1|2&3", &mut out), Ok(9));
 /// assert_eq!(&out, b"1&F&2&E&3");
+///
+/// // For a message that names others, those: `|` and `&` are then bytes like any other.
+/// let message = b"H!~$%\rL!1!N\r";
+/// let delimiters = Delimiters::of(message).expect("five bytes");
+/// assert_eq!(ngachodui::escape(delimiters, b"1|2&3!", &mut out), Ok(8));
+/// assert_eq!(&out[..8], b"1|2&3%F%");
 /// ```
 ///
 /// # Errors
 ///
-/// [`Refusal::NotFitting`]: `out` is too short.
-pub fn escape(text: &[u8], out: &mut [u8]) -> Result<usize, Refusal> {
-    outcome(boundary::escape(text, out))
+/// [`Refusal::BadDelimiters`]: they are not allowed, which is told first. [`Refusal::NotFitting`]: `out` is
+/// too short.
+pub fn escape(delimiters: Delimiters, text: &[u8], out: &mut [u8]) -> Result<usize, Refusal> {
+    outcome(boundary::escape(&delimiters.in_order(), text, out))
 }
 
-/// The way back from [`escape`].
+/// The way back from [`escape`], with the same delimiters.
 ///
 /// ```
-/// use ngachodui::Refusal;
+/// use ngachodui::{Delimiters, Refusal};
 ///
 /// let mut out = [0; 5];
-/// assert_eq!(ngachodui::unescape(b"1&F&2&E&3", &mut out), Ok(5));
+/// assert_eq!(ngachodui::unescape(Delimiters::STANDARD, b"1&F&2&E&3", &mut out), Ok(5));
 /// assert_eq!(&out, b"1|2&3");
-/// assert_eq!(ngachodui::unescape(b"1|2", &mut out), Err(Refusal::Malformed));
+/// let refusal = ngachodui::unescape(Delimiters::STANDARD, b"1|2", &mut out);
+/// assert_eq!(refusal, Err(Refusal::Malformed));
+///
+/// // The value of a result that came with other delimiters.
+/// let message = b"H!~$%\rO!1\rR!1!GLU!5%F%2|\rL!1\r";
+/// let delimiters = Delimiters::of(message).expect("five bytes");
+/// let result = ngachodui::read(message)?[2];
+/// let result = &message[result.offset..][..result.length];
+/// let value = result.split(|&byte| byte == delimiters.field).nth(3).expect("four fields");
+/// assert_eq!(ngachodui::unescape(delimiters, value, &mut out), Ok(4));
+/// assert_eq!(&out[..4], b"5!2|");
+/// # Ok::<(), Refusal>(())
 /// ```
 ///
 /// # Errors
 ///
-/// [`Refusal::Malformed`]: a `|`, `\` or `^` stands there, or an `&` that begins none of the four
+/// [`Refusal::BadDelimiters`]: they are not allowed, which is told first. [`Refusal::Malformed`]: a field,
+/// repeat or component delimiter stands there, or an escape delimiter that begins none of the four
 /// escapes. [`Refusal::NotFitting`]: `out` is too short.
-pub fn unescape(component: &[u8], out: &mut [u8]) -> Result<usize, Refusal> {
-    outcome(boundary::unescape(component, out))
+pub fn unescape(
+    delimiters: Delimiters,
+    component: &[u8],
+    out: &mut [u8],
+) -> Result<usize, Refusal> {
+    outcome(boundary::unescape(&delimiters.in_order(), component, out))
 }
 
 #[cfg(test)]
@@ -166,8 +251,14 @@ mod tests {
 
     #[test]
     fn what_is_no_message_is_not_read() {
-        let cases: [(&[u8], Fault, u16); 8] = [
+        let cases: [(&[u8], Fault, u16); 14] = [
             (b"", Fault::NoHeader, 1),
+            (b"H|\\^\rL|1\r", Fault::NoHeader, 1),
+            (b"H|\\\r^&\rL|1\r", Fault::NoHeader, 1),
+            (b"H|\\||\rL|1\r", Fault::BadDelimiters, 1),
+            (b"H|A^&\rX\r", Fault::BadDelimiters, 1),
+            (b"H|\\^1\r", Fault::BadDelimiters, 1),
+            (b"H!~$%\rP|1\rL!1\r", Fault::UnknownType, 2),
             (b"\r\r\r", Fault::NoHeader, 1),
             (b"L|1\r", Fault::NoHeader, 1),
             (b"H|\\^&\r\rL|1\r", Fault::UnknownType, 2),
@@ -193,12 +284,82 @@ mod tests {
         }
     }
 
+    /// The same text with the standard delimiters exchanged for `!~$%`.
+    fn exchanged(text: &[u8]) -> Vec<u8> {
+        let pairs = Delimiters::STANDARD.in_order().into_iter().zip(*b"!~$%");
+        let mut bytes = text.to_vec();
+        for (from, to) in pairs {
+            for byte in &mut bytes {
+                if *byte == from {
+                    *byte = to;
+                }
+            }
+        }
+        bytes
+    }
+
+    #[test]
+    fn other_delimiters_make_the_same_records() {
+        let text = exchanged(TEXT);
+        assert!(text.starts_with(b"H!~$%\rP!1\r"));
+        assert!(is_message(&text));
+        assert_eq!(read(&text), read(TEXT));
+    }
+
+    #[test]
+    fn round_trips_with_other_delimiters() {
+        let other = Delimiters::of(b"H!~$%").expect("five bytes");
+        for delimiters in [Delimiters::STANDARD, other] {
+            let text: Vec<u8> = (0..=255).collect();
+            let mut escaped = [0; 264];
+            assert_eq!(escape(delimiters, &text, &mut escaped), Ok(264));
+            let mut back = [0; 256];
+            assert_eq!(unescape(delimiters, &escaped, &mut back), Ok(256));
+            assert_eq!(&back[..], &text[..]);
+        }
+    }
+
+    #[test]
+    fn delimiters_that_are_not_allowed_are_told_first() {
+        // The component has a wrong escape, and nothing has room.
+        let standard = Delimiters::STANDARD;
+        let bad = [
+            Delimiters {
+                field: b'F',
+                ..standard
+            },
+            Delimiters {
+                repeat: b' ',
+                ..standard
+            },
+            Delimiters {
+                component: b'0',
+                ..standard
+            },
+            Delimiters {
+                escape: b'|',
+                ..standard
+            },
+        ];
+        for delimiters in bad {
+            let mut out = [0xEE; 1];
+            let refusal = Err(Refusal::BadDelimiters);
+            assert_eq!(escape(delimiters, b"a|b", &mut out), refusal);
+            assert_eq!(unescape(delimiters, b"a|&", &mut out), refusal);
+            assert_eq!(unescape(delimiters, b"", &mut out), refusal);
+            assert_eq!(out, [0xEE]);
+        }
+    }
+
     #[test]
     fn outputs_one_byte_short_are_left_alone() {
+        let standard = Delimiters::STANDARD;
         let mut out = [0xEE; 25];
         assert_eq!(cut(b"H|\\^&\rL|1|N\r", &mut out), Err(Refusal::NotFitting));
-        assert_eq!(escape(b"&&&&&&&&&", &mut out), Err(Refusal::NotFitting));
-        assert_eq!(unescape(&[b'x'; 26], &mut out), Err(Refusal::NotFitting));
+        let escaped = escape(standard, b"&&&&&&&&&", &mut out);
+        assert_eq!(escaped, Err(Refusal::NotFitting));
+        let plain = unescape(standard, &[b'x'; 26], &mut out);
+        assert_eq!(plain, Err(Refusal::NotFitting));
         assert_eq!(out, [0xEE; 25]);
     }
 }

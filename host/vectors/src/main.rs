@@ -1,17 +1,19 @@
-//! Runs a script of bytes, seconds, takings, cuttings and readings through the library, and shows what
-//! each step comes to.
+//! Runs a script of bytes, seconds, takings, cuttings, readings and escapings through the library, and shows
+//! what each step comes to.
 //!
 //!     vectors gateway < SCRIPT       steps one by one, with every record and memory they leave
 //!     vectors cutting < SCRIPT       messages cut into frames, sent and taken again, and read
+//!     vectors delimiters < SCRIPT    texts escaped and unescaped, and every byte where a delimiter stands
 //!     vectors stretches < SCRIPT     whole traces, run and told again stretch by stretch
 //!
 //! Status 1: a trace was told by the rule and came to something else, or wrongly and was not found.
 //! Status 2: the script asks for what is no step.
 
 #[path = "../../rust/src/boundary.rs"]
-#[allow(dead_code)] // No script escapes or unescapes.
+#[allow(dead_code)] // No script asks for the sizes.
 mod boundary;
 mod cutting;
+mod delimiters;
 mod frames;
 mod gateway;
 #[path = "../../rust/src/layout.rs"]
@@ -30,8 +32,9 @@ fn main() {
         match (arguments.next().as_deref(), arguments.next()) {
             (Some("gateway"), None) => gateway::run,
             (Some("cutting"), None) => cutting::run,
+            (Some("delimiters"), None) => delimiters::run,
             (Some("stretches"), None) => stretches::run,
-            _ => refuse("usage: vectors gateway|cutting|stretches < SCRIPT"),
+            _ => refuse("usage: vectors gateway|cutting|delimiters|stretches < SCRIPT"),
         };
     let mut script = String::new();
     if let Err(error) = stdin().read_to_string(&mut script) {

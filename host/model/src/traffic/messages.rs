@@ -4,8 +4,40 @@
 //! reader in `records` and this writer check each other.
 
 use super::random::Random;
+use crate::delimiters::{Delimiters, POSSIBLE};
 
 const CR: u8 = 0x0D;
+
+/// The delimiters of a message: most often the standard ones, else any that are allowed, and now and then
+/// the standard ones in another order.
+pub fn delimiters(random: &mut Random) -> Delimiters {
+    match random.below(9) {
+        0 | 1 => different(random, POSSIBLE),
+        2 => different(random, b"|\\^&"),
+        _ => Delimiters::STANDARD,
+    }
+}
+
+/// Four of these bytes, no two the same.
+fn different(random: &mut Random, from: &[u8]) -> Delimiters {
+    let mut left = from.to_vec();
+    Delimiters::in_order([(); 4].map(|()| left.swap_remove(random.below(left.len()))))
+}
+
+/// Four bytes that no message may name, by one of them: a letter, a digit, a space, a byte beyond those that
+/// may, one of the others. `not_text` lets it be a byte that is in no text at all.
+pub fn bad_delimiters(random: &mut Random, not_text: bool) -> Delimiters {
+    let mut four = delimiters(random).bytes();
+    let place = random.below(4);
+    four[place] = match random.below(6) {
+        0 => random.pick(b"AZHLFSREazhlx"),
+        1 => random.pick(b"0123456789"),
+        2 => random.pick(&[0x20, 0x07, 0x09, 0x80, 0xA6, 0xFE]),
+        3 if not_text => random.pick(&[0x00, 0x0A, 0x1F, 0x7F, 0xFF]),
+        _ => four[(place + random.between(1, 3)) % 4],
+    };
+    Delimiters::in_order(four)
+}
 
 /// Where the writing of a message stands: the last record that is neither C nor M, and the numbers
 /// given so far.
@@ -67,33 +99,44 @@ impl Walk {
     }
 }
 
-/// Fields behind the second one: at most `room` bytes, none of them CR, with delimiters, escapes,
-/// stray & and the rarer allowed bytes among them.
-fn fields(random: &mut Random, room: usize) -> Vec<u8> {
+/// Fields behind the second one: at most `room` bytes, none of them CR, with delimiters, escapes, stray
+/// escape delimiters, bytes that are delimiters elsewhere and the rarer allowed bytes among them.
+fn fields(random: &mut Random, four: Delimiters, room: usize) -> Vec<u8> {
     let mut text = Vec::new();
     let most = room.min(random.pick(&[0, 3, 8, 30, 90]));
     while text.len() < most {
-        text.push(match random.below(12) {
-            0..=3 => b'|',
-            4 => b'^',
-            5 => b'\\',
-            6 => b'&',
+        text.push(match random.below(13) {
+            0..=3 => four.field,
+            4 => four.component,
+            5 => four.repeat,
+            6 => four.escape,
+            12 => random.pick(POSSIBLE),
             7 => random.pick(&[0x07, 0x09, 0x0B, 0x0C, 0x20, 0x7E, 0x80, 0xFE]),
             8 => random.pick(b"HPORQLCM"),
             _ => random.pick(b"0123456789FSREabc.+- "),
         });
     }
-    // The bar that ends field 2 comes first.
+    // The delimiter that ends field 2 comes first.
     if let Some(first) = text.first_mut() {
-        *first = b'|';
+        *first = four.field;
     }
     text
 }
 
-/// The records of a message, each without its CR, the whole no longer than `longest`, which is at
-/// least 11. It is right unless there is a stray: at that place a record of a type that may not
+/// The first two fields of a record.
+fn begun(four: Delimiters, kind: u8, number: usize) -> Vec<u8> {
+    [&[kind, four.field], number.to_string().as_bytes()].concat()
+}
+
+/// The records of a message with these delimiters, each without its CR, the whole no longer than `longest`,
+/// which is at least 11. It is right unless there is a stray: at that place a record of a type that may not
 /// stand there, with the number that type would have, so that only the order of types tells.
-fn records(random: &mut Random, longest: usize, stray: Option<usize>) -> Vec<Vec<u8>> {
+fn records(
+    random: &mut Random,
+    four: Delimiters,
+    longest: usize,
+    stray: Option<usize>,
+) -> Vec<Vec<u8>> {
     let mut walk = Walk {
         before: b'H',
         patients: 0,
@@ -107,8 +150,8 @@ fn records(random: &mut Random, longest: usize, stray: Option<usize>) -> Vec<Vec
     // quarter of the rest, so that short messages too have several.
     let mut room = longest - 5;
     let mut all = Vec::new();
-    let mut record = b"H|\\^&".to_vec();
-    let tail = fields(random, (room - record.len() - 1) / 4);
+    let mut record = [b"H", &four.bytes()[..]].concat();
+    let tail = fields(random, four, (room - record.len() - 1) / 4);
     record.extend_from_slice(&tail);
     while record.len() < room {
         room -= record.len() + 1;
@@ -118,11 +161,15 @@ fn records(random: &mut Random, longest: usize, stray: Option<usize>) -> Vec<Vec
         } else {
             random.pick(walk.choices())
         };
-        record = format!("{}|{}", kind as char, walk.number(kind)).into_bytes();
-        let tail = fields(random, room.saturating_sub(record.len() + 1) / 4);
+        record = begun(four, kind, walk.number(kind));
+        let tail = fields(random, four, room.saturating_sub(record.len() + 1) / 4);
         record.extend_from_slice(&tail);
     }
-    all.push(random.pick(&[&b"L|1"[..], b"L|1|"]).to_vec());
+    let mut record = begun(four, b'L', 1);
+    if random.once_in(2) {
+        record.push(four.field);
+    }
+    all.push(record);
     all
 }
 
@@ -137,16 +184,19 @@ fn joined(records: &[Vec<u8>]) -> Vec<u8> {
 
 /// A right message, no longer than `longest`.
 pub fn right(random: &mut Random, longest: usize) -> Vec<u8> {
-    joined(&records(random, longest, None))
+    let four = delimiters(random);
+    joined(&records(random, four, longest, None))
 }
 
 /// A right message but for its length, which is exactly this: over 4,000 it is none. At least 11.
 pub fn exact(random: &mut Random, length: usize) -> Vec<u8> {
     let mut text = right(random, length);
     // What is missing goes into the L record.
+    let field = text[1];
     while text.len() < length {
         text.pop();
-        text.push(if text.ends_with(b"L|1") { b'|' } else { b'x' });
+        let is_second = text.ends_with(&[b'L', field, b'1']);
+        text.push(if is_second { field } else { b'x' });
         text.push(CR);
     }
     text
@@ -155,73 +205,115 @@ pub fn exact(random: &mut Random, length: usize) -> Vec<u8> {
 /// A message with a fault of the kind a sender makes, or with two; now and then the fault is none. The
 /// text is never empty.
 pub fn wrong(random: &mut Random, longest: usize) -> Vec<u8> {
+    let four = delimiters(random);
     if random.once_in(3) {
         // Short, so that the stray is the only fault.
         let longest = random.between(30, 60);
         let stray = random.between(1, 4);
-        return joined(&records(random, longest, Some(stray)));
+        return joined(&records(random, four, longest, Some(stray)));
     }
-    let mut all = records(random, longest, None);
+    if random.once_in(8) {
+        // Delimiters that are not allowed, used throughout: no record behind the first tells.
+        let bad = bad_delimiters(random, false);
+        return joined(&records(random, bad, longest, None));
+    }
+    let mut all = records(random, four, longest, None);
     let place = random.below(all.len());
     match random.below(4) {
         // Two faults in one record: only their order tells which is answered.
         0 => {
-            spoil_number(random, &mut all[place]);
-            spoil_type(random, &mut all[place]);
+            spoil_number(random, four, &mut all[place]);
+            spoil_type(random, four, &mut all[place]);
         }
         // Two that may lie apart, the second before the first or behind it.
         1 => {
-            spoil(random, &mut all, place);
+            spoil(random, four, &mut all, place);
             let other = random.below(all.len());
-            spoil(random, &mut all, other);
+            spoil(random, four, &mut all, other);
         }
-        _ => spoil(random, &mut all, place),
+        _ => spoil(random, four, &mut all, place),
     }
     joined(&all)
 }
 
 /// One fault, in the record at this place or near it.
-fn spoil(random: &mut Random, all: &mut Vec<Vec<u8>>, place: usize) {
-    match random.below(4) {
-        0 => spoil_number(random, &mut all[place]),
-        1 => spoil_type(random, &mut all[place]),
+fn spoil(random: &mut Random, four: Delimiters, all: &mut Vec<Vec<u8>>, place: usize) {
+    match random.below(5) {
+        0 => spoil_number(random, four, &mut all[place]),
+        1 => spoil_type(random, four, &mut all[place]),
         2 => spoil_order(random, all, place),
-        _ => spoil_ends(random, all, place),
+        3 => spoil_delimiters(random, four, all, place),
+        _ => spoil_ends(random, four, all, place),
     }
 }
 
 /// A sequence number: another one, a leading zero, something behind it, none.
-fn spoil_number(random: &mut Random, record: &mut Vec<u8>) {
+fn spoil_number(random: &mut Random, four: Delimiters, record: &mut Vec<u8>) {
     match random.below(5) {
         0 => {
             let number = random.pick(&[&b"0"[..], b"2", b"3", b"10", b"999999", b"1000000"]);
-            renumber(record, number);
+            renumber(four, record, number);
         }
         1 => {
-            if let Some(bar) = record.iter().position(|&byte| byte == b'|') {
-                record.insert(bar + 1, b'0');
+            if let Some(end) = record.iter().position(|&byte| byte == four.field) {
+                record.insert(end + 1, b'0');
             }
         }
         2 => {
-            let behind = random.pick(b" ^\\&1x");
-            let end = second_bar(record);
-            record.insert(end, behind);
+            let behind = [b' ', b'1', b'x', four.component, four.repeat, four.escape];
+            let end = second_end(four, record);
+            record.insert(end, random.pick(&behind));
         }
-        3 => renumber(record, b""),
+        3 => renumber(four, record, b""),
         _ => record.truncate(1),
     }
 }
 
 /// A type: another, a small one, an unknown one, one letter too many. An empty record has none.
-fn spoil_type(random: &mut Random, record: &mut Vec<u8>) {
+fn spoil_type(random: &mut Random, four: Delimiters, record: &mut Vec<u8>) {
     if record.is_empty() {
         return;
     }
     match random.below(4) {
         0 => record[0] = random.pick(b"HPORQLCM"),
         1 => record[0] = record[0].to_ascii_lowercase(),
-        2 => record[0] = random.pick(b"SXA |1"),
-        _ => record.insert(1, random.pick(b" 1^L")),
+        2 => record[0] = random.pick(&[b'S', b'X', b'A', b' ', b'1', four.field]),
+        _ => record.insert(1, random.pick(&[b' ', b'1', b'L', four.component])),
+    }
+}
+
+/// The delimiters: bad ones named, now and then with no record behind them, other good ones named, too few
+/// of them, or another byte in one record where a field ends.
+fn spoil_delimiters(random: &mut Random, four: Delimiters, all: &mut Vec<Vec<u8>>, place: usize) {
+    match random.below(4) {
+        0 => {
+            let bad = bad_delimiters(random, false).bytes();
+            name(&mut all[0], bad);
+            if random.once_in(6) {
+                all.truncate(1);
+            }
+        }
+        1 => {
+            let other = different(random, POSSIBLE).bytes();
+            name(&mut all[0], other);
+        }
+        2 => all[0].truncate(random.between(1, 5)),
+        _ => {
+            let other = match random.below(2) {
+                0 => b'|',
+                _ => random.pick(POSSIBLE),
+            };
+            for byte in all[place].iter_mut().filter(|byte| **byte == four.field) {
+                *byte = other;
+            }
+        }
+    }
+}
+
+/// Has the first record name these, where it is long enough.
+fn name(record: &mut [u8], four: [u8; 4]) {
+    for (byte, delimiter) in record.iter_mut().skip(1).zip(four) {
+        *byte = delimiter;
     }
 }
 
@@ -242,8 +334,9 @@ fn spoil_order(random: &mut Random, all: &mut Vec<Vec<u8>>, place: usize) {
 }
 
 /// The head, the end, a record that is none, a CR inside a record.
-fn spoil_ends(random: &mut Random, all: &mut Vec<Vec<u8>>, place: usize) {
+fn spoil_ends(random: &mut Random, four: Delimiters, all: &mut Vec<Vec<u8>>, place: usize) {
     let last = all.len() - 1;
+    let field = four.field;
     match random.below(5) {
         0 => {
             let index = random.below(5);
@@ -252,12 +345,21 @@ fn spoil_ends(random: &mut Random, all: &mut Vec<Vec<u8>>, place: usize) {
             }
         }
         1 => {
-            let ends = [&b"L"[..], b"L|2", b"LX", b"L|", b"L |1"];
+            let ends = [
+                &b"L"[..],
+                &[b'L', field, b'2'],
+                b"LX",
+                &[b'L', field],
+                &[b'L', b' ', field, b'1'],
+            ];
             all[last] = random.pick(&ends).to_vec();
         }
         2 => {
-            let behind = [&b"C|1"[..], b"M|1", b"L|1", b"P|1", b""];
-            all.push(random.pick(&behind).to_vec());
+            let kind = random.pick(b"CMLP ");
+            all.push(match kind {
+                b' ' => Vec::new(),
+                _ => begun(four, kind, 1),
+            });
         }
         3 => all.insert(place, Vec::new()),
         _ => {
@@ -268,31 +370,33 @@ fn spoil_ends(random: &mut Random, all: &mut Vec<Vec<u8>>, place: usize) {
 }
 
 /// Where field 2 of a record ends.
-fn second_bar(record: &[u8]) -> usize {
-    let mut bars = record
+fn second_end(four: Delimiters, record: &[u8]) -> usize {
+    let mut ends = record
         .iter()
         .enumerate()
-        .filter(|(_, &byte)| byte == b'|')
+        .filter(|(_, &byte)| byte == four.field)
         .map(|(place, _)| place);
-    bars.nth(1).unwrap_or(record.len())
+    ends.nth(1).unwrap_or(record.len())
 }
 
-fn renumber(record: &mut Vec<u8>, number: &[u8]) {
-    let end = second_bar(record);
+fn renumber(four: Delimiters, record: &mut Vec<u8>, number: &[u8]) {
+    let end = second_end(four, record);
     if end >= 2 {
         record.splice(2..end, number.iter().copied());
     }
 }
 
-/// Text for escaping and unescaping: many delimiters, whole and half escapes.
-pub fn component(random: &mut Random) -> Vec<u8> {
+/// Text for escaping and unescaping with these delimiters: many of them, whole and half escapes, and bytes
+/// that are delimiters elsewhere.
+pub fn component(random: &mut Random, four: Delimiters) -> Vec<u8> {
     let mut text = Vec::new();
     for _ in 0..random.below(12) {
-        match random.below(6) {
-            0 => text.extend_from_slice(random.pick(&[b"&F&", b"&S&", b"&R&", b"&E&"])),
+        match random.below(7) {
+            0 => text.extend_from_slice(&[four.escape, random.pick(b"FSRE"), four.escape]),
             1 => text.push(random.pick(b"FSREfx")),
-            2 if random.once_in(4) => text.push(random.pick(b"|\\^&")),
+            2 if random.once_in(4) => text.push(random.pick(&four.bytes())),
             3 if random.once_in(4) => text.push(random.byte()),
+            4 if random.once_in(4) => text.push(random.pick(POSSIBLE)),
             _ => text.push(random.pick(b"abc 123")),
         }
     }
@@ -302,7 +406,58 @@ pub fn component(random: &mut Random) -> Vec<u8> {
 #[cfg(test)]
 mod tests {
     use super::*;
-    use crate::{escape, field, is_message, unescape};
+    use crate::delimiters::exchanged;
+    use crate::{escape, field, is_message, read, unescape};
+
+    #[test]
+    fn delimiters_of_both_sorts() {
+        let mut random = Random::new(7);
+        let mut standard = 0;
+        let mut seen = [[0; 256]; 4];
+        let mut reasons = [0; 5];
+        for _ in 0..4_000 {
+            let good = delimiters(&mut random);
+            assert!(good.are_allowed(), "{:?}", good);
+            standard += usize::from(good == Delimiters::STANDARD);
+            for (counts, byte) in seen.iter_mut().zip(good.bytes()) {
+                counts[usize::from(byte)] += 1;
+            }
+            let bad = bad_delimiters(&mut random, true);
+            assert!(!bad.are_allowed(), "{:?}", bad);
+            let has = |sort: fn(u8) -> bool| bad.bytes().iter().any(|byte| sort(*byte));
+            let sorts = [
+                has(|byte| byte.is_ascii_alphabetic()),
+                has(|byte| byte.is_ascii_digit()),
+                has(|byte| crate::texts::is_allowed(byte) && !(0x21..=0x7E).contains(&byte)),
+                has(|byte| !crate::texts::is_allowed(byte)),
+                !has(|byte| !POSSIBLE.contains(&byte)),
+            ];
+            for (count, is_so) in reasons.iter_mut().zip(sorts) {
+                *count += usize::from(is_so);
+            }
+        }
+        assert!((2_000..3_500).contains(&standard), "{}", standard);
+        for counts in seen {
+            assert!(POSSIBLE.iter().all(|byte| counts[usize::from(*byte)] > 0));
+        }
+        assert!(reasons.iter().all(|&count| count > 300), "{:?}", reasons);
+    }
+
+    #[test]
+    fn any_text_reads_the_same_with_its_delimiters_exchanged() {
+        let mut random = Random::new(8);
+        for round in 0..4_000 {
+            let text = match round % 2 {
+                0 => right(&mut random, 120),
+                _ => wrong(&mut random, 120),
+            };
+            let from = different(&mut random, POSSIBLE);
+            let to = different(&mut random, POSSIBLE);
+            let other = exchanged(&text, from, to);
+            assert_eq!(read(&other), read(&text), "{:?} {:?}", text, other);
+            assert_eq!(exchanged(&other, to, from), text);
+        }
+    }
 
     #[test]
     fn right_messages_are_messages_of_every_type() {
@@ -312,7 +467,7 @@ mod tests {
             let longest = random.pick(&[11, 12, 40, 400, 4_000]);
             let text = right(&mut random, longest);
             assert!(text.len() <= longest);
-            for record in crate::read(&text).unwrap() {
+            for record in read(&text).unwrap() {
                 types.push(record.kind);
             }
         }
@@ -346,7 +501,7 @@ mod tests {
         let mut places = vec![Vec::new(); 256];
         for _ in 0..4_000 {
             let text = wrong(&mut random, 200);
-            if let Err(refusal) = crate::read(&text) {
+            if let Err(refusal) = read(&text) {
                 places[usize::from(refusal.number)].push(refusal.place);
             }
         }
@@ -354,27 +509,60 @@ mod tests {
             places.sort_unstable();
             places.dedup();
             match number {
-                50 => assert_eq!(*places, [1]),
+                50 | 55 => assert_eq!(*places, [1]),
                 51..=53 => assert!(places.len() > 10, "{}: {:?}", number, places),
                 _ => assert!(places.is_empty(), "{}", number),
             }
         }
     }
 
-    fn has_no_type(record: &[u8]) -> bool {
-        !matches!(field(record, 1), [letter] if b"HPORQLCM".contains(letter))
+    fn has_no_type(four: Delimiters, record: &[u8]) -> bool {
+        !matches!(field(four, record, 1), [letter] if b"HPORQLCM".contains(letter))
     }
 
-    fn has_no_number(record: &[u8]) -> bool {
-        let number = field(record, 2);
+    fn has_no_number(four: Delimiters, record: &[u8]) -> bool {
+        let number = field(four, record, 2);
         number.is_empty() || number.iter().any(|byte| !byte.is_ascii_digit())
     }
 
-    /// The places of the records behind the first that have this fault, whatever else is wrong.
-    fn places(text: &[u8], has_fault: fn(&[u8]) -> bool) -> Vec<usize> {
-        let records = text[..text.len() - 1].split(|&byte| byte == CR).enumerate();
-        let wrong = records.skip(1).filter(|(_, record)| has_fault(record));
-        wrong.map(|(index, _)| index + 1).collect()
+    /// The places of the records behind the first that have this fault, whatever else is wrong. Without a
+    /// header that names delimiters no record can be looked at.
+    fn places(text: &[u8], has_fault: fn(Delimiters, &[u8]) -> bool) -> Vec<usize> {
+        let records: Vec<&[u8]> = text[..text.len() - 1].split(|&byte| byte == CR).collect();
+        let four = match Delimiters::of(records[0]) {
+            Some(four) if four.are_allowed() => four,
+            _ => return Vec::new(),
+        };
+        let wrong = (1..records.len()).filter(|&index| has_fault(four, records[index]));
+        wrong.map(|index| index + 1).collect()
+    }
+
+    #[test]
+    fn bad_delimiters_with_and_without_a_later_fault() {
+        let mut random = Random::new(9);
+        let (mut alone, mut with_more, mut only_record) = (0, 0, 0);
+        for _ in 0..8_000 {
+            let text = wrong(&mut random, 100);
+            if read(&text).map_err(|refusal| refusal.number) != Err(55) {
+                continue;
+            }
+            if text.iter().filter(|&&byte| byte == CR).count() == 1 {
+                only_record += 1;
+            }
+            // The same records behind a header whose delimiters are allowed.
+            let mut four = text[1..5].to_vec();
+            if !POSSIBLE.contains(&four[0]) {
+                continue;
+            }
+            let others = POSSIBLE.iter().filter(|byte| **byte != text[1]);
+            four.splice(1.., others.copied().take(3));
+            match read(&[b"H", &four[..], &text[5..]].concat()) {
+                Ok(_) => alone += 1,
+                Err(_) => with_more += 1,
+            }
+        }
+        let seen = [alone, with_more, only_record];
+        assert!(seen.iter().all(|&count| count > 5), "{:?}", seen);
     }
 
     #[test]
@@ -399,13 +587,14 @@ mod tests {
         let mut random = Random::new(4);
         let mut accepted = 0;
         for _ in 0..2_000 {
-            let text = component(&mut random);
+            let four = delimiters(&mut random);
+            let text = component(&mut random, four);
             let mut out = [0; 200];
-            let length = escape(&text, &mut out).unwrap();
+            let length = escape(four, &text, &mut out).unwrap();
             let mut back = [0; 200];
-            let again = unescape(&out[..length], &mut back).unwrap();
+            let again = unescape(four, &out[..length], &mut back).unwrap();
             assert_eq!(back[..again], text[..]);
-            if unescape(&text, &mut out).is_ok() {
+            if unescape(four, &text, &mut out).is_ok() {
                 accepted += 1;
             }
         }

@@ -26,7 +26,7 @@ pub fn answers(order: &[usize], was: &[Outcome], is: &[Outcome]) -> bool {
     true
 }
 
-/// An answer's number, for 50 to 53 its place, and for 8 its length and serial.
+/// An answer's number, for a fault its place, and for 8 its length and serial.
 fn shown(answer: Answered) -> String {
     match answer.number {
         8 => format!("8 {} {}", answer.length, answer.serial),

@@ -16,7 +16,7 @@ pub struct Outcome {
 impl Outcome {
     /// Whether a message is decided by it: stored or finally refused.
     pub fn decides(&self) -> bool {
-        matches!(self.answer.number, 4 | 30 | 31 | 50..=53)
+        matches!(self.answer.number, 4 | 30 | 31 | 50..=53 | 55)
     }
 }
 
