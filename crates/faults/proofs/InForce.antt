@@ -31,7 +31,7 @@ use Rattle.faults.proofs.Messages.{Headed, sound, header, headed}
 first-bytes : (text : List ℕ) (k : ℕ) → 5 ≤ length (before cr text) → k < 5 → getD (before cr text) k 0 ≡ getD text k 0
 first-bytes text k long lt = getD-take (find (is cr) text) text k 0 (omega (arith, before-length cr text))
 
-names : (text : List ℕ) → 5 ≤ length (before cr text) → delimitersOf (before cr text) ≡ delimitersOf text
+pub names : (text : List ℕ) → 5 ≤ length (before cr text) → delimitersOf (before cr text) ≡ delimitersOf text
 unfolding delimitersOf
 names text long = λ i. record {
   field = first-bytes text 1 long (omega arith) i;
@@ -40,13 +40,22 @@ names text long = λ i. record {
   escape = first-bytes text 4 long (omega arith) i;
 }
 
+-- by the four that the text names its first record is a header exactly if it is one by those that it names itself
+pub own-first : (text : List ℕ) → isHeader (delimitersOf text) (before cr text) ≡ isHeader (delimitersOf (before cr text)) (before cr text)
+unfolding isHeader
+own-first text =
+    elim (decLt 4 (length (before cr text))) [
+      | yes long ↦ ap (λ (d : Delimiters). isHeader d (before cr text)) (sym (names text long))
+      | no short ↦ rw (lt-leb 5 (length (before cr text)) (omega arith))
+    ]
+
 -- 50 by the delimiters in force: the first record has fewer than five bytes before its CR, or does not begin with H
 pub header-short : (text : List ℕ) → isHeader (delimitersOf text) (before cr text) ≡ leb 5 (length (before cr text)) && is (letterOf Header) (getD text 0 0)
 unfolding isHeader
 header-short text =
     elim (decLt 4 (length (before cr text))) [
       | yes long ↦
-          ap (λ (d : Delimiters). isHeader d (before cr text)) (sym (names text long)) ∙ own-header (before cr text)
+          own-first text ∙ own-header (before cr text)
           ∙ ap (λ (b : ℕ). leb 5 (length (before cr text)) && is (letterOf Header) b) (first-bytes text 0 long (omega arith))
       | no short ↦ rw (lt-leb 5 (length (before cr text)) (omega arith))
     ]

@@ -1,6 +1,7 @@
 pub mod Messages
 pub mod NoFault
 pub mod InForce
+pub mod Examples
 pub mod Chain
 pub mod Head
 pub mod Walked

@@ -42,3 +42,7 @@ follow-once other k a b = a ∙ sym b
 -- `is_header`
 pub header-once : (d : Delimiters) (r : List ℕ) {a b : Bool} → a ≡ isHeader d r → b ≡ isHeader d r → a ≡ b
 header-once d r x y = x ∙ sym y
+
+-- `names_four`
+pub names-once : (r : List ℕ) {a b : Bool} → a ≡ isHeader (delimitersOf r) r → b ≡ isHeader (delimitersOf r) r → a ≡ b
+names-once r x y = x ∙ sym y

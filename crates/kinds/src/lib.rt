@@ -207,3 +207,13 @@ pub fn is_header(d: Delimiters, rec: &[u8]) -> bool
     }
     rec[4] == d.escape
 }
+
+// Whether the record is a header by the delimiters that it names itself: five bytes, and the first is H.
+pub fn names_four(rec: &[u8]) -> bool
+    ensures { λ r. ⌜ r ≡ isHeader (delimitersOf (now (rec .entry))) (now (rec .entry)) ⌝ }
+{
+    if rec.len() < 5 {
+        return false;
+    }
+    rec[0] == b'H'
+}

@@ -71,12 +71,20 @@ module _ (d : Delimiters) (text : List ℕ) (short : length text ≤ messageLimi
       by-clean true b = refl
       by-clean false b = refl
 
-  pub headless : isHeader d (before cr text) && areDelimiters d ≡ false → isMessageBy d text ≡ false
+  pub headless : isHeader d (before cr text) ≡ false → isMessageBy d text ≡ false
   headless h = whole ∙ rw h (and-not-right (all allowed text) false refl)
 
-  pub header-passed : isHeader d (before cr text) && areDelimiters d ≡ true → all allowed (before cr text) ≡ true → rightRest d started (behind cr text) ≡ isMessageBy d text
+  pub lawless : areDelimiters d ≡ false → isMessageBy d text ≡ false
+  lawless h = whole ∙ rw h (by-tests (all allowed text) (isHeader d (before cr text)))
+    where
+      by-tests : (a b : Bool) → a && (b && false && areNext d started (records (behind cr text))) ≡ false
+      by-tests true true = refl
+      by-tests true false = refl
+      by-tests false b = refl
+
+  pub header-passed : isHeader d (before cr text) ≡ true → areDelimiters d ≡ true → all allowed (before cr text) ≡ true → rightRest d started (behind cr text) ≡ isMessageBy d text
   unfolding rightRest
-  header-passed h a = sym (whole ∙ rw (h, all-parts text, a))
+  header-passed h f a = sym (whole ∙ rw (h, f, all-parts text, a))
 
 -- the first of the records that are left
 module _ (d : Delimiters) (s : Counts) (text : List ℕ) (some : 0 < length text) where

@@ -7,6 +7,7 @@ use Rattle.characters.specs.Allowed.{allowed}
 use Rattle.digits.specs.Check.{total, checkOf, hexDigit, digitsOf}
 use Rattle.digits.specs.Number.{nextNumber}
 use Rattle.framing.specs.Writing.{bodyOf, tailOf, collectedOf, frameOf}
+use Rattle.kinds.specs.Delimiters.{delimitersOf, isDelimiter, different, areDelimiters}
 use Rattle.kinds.specs.Header.{isHeader}
 use Rattle.faults.specs.Message.{isMessageBy}
 use Rattle.kinds.specs.Kinds.{kindOf, typeOf, mayFollow}
@@ -22,5 +23,5 @@ pub thirteen : length examples ≡ 13
 thirteen = refl
 
 pub shown : map (λ (x : Example). x .gives) examples ≡ map (λ (x : Example). x .says) examples
-unfolding allowed total checkOf hexDigit digitsOf nextNumber bodyOf tailOf collectedOf frameOf isMessageBy isHeader kindOf typeOf mayFollow numberOf cutOf piecesOf headSize claims grown
+unfolding allowed total checkOf hexDigit digitsOf nextNumber bodyOf tailOf collectedOf frameOf isMessageBy delimitersOf isDelimiter different areDelimiters isHeader kindOf typeOf mayFollow numberOf cutOf piecesOf headSize claims grown
 shown = refl
