@@ -3,3 +3,4 @@ pub mod Unescapes
 pub mod RoundTrips
 pub mod Examples
 pub mod OneOutcome
+pub mod Tables

@@ -35,12 +35,13 @@ pub fn escape(d: Delimiters, text: &[u8], out: &mut [u8]) -> Put
     ensures { λ r. ⌜ Escaping d (now (text .entry)) (now (out .entry)) r (now (out .exit)) ⌝ }
 {
     if !kinds::are_delimiters(d) {
-        return Put::BadDelimiters;
+        return Put::BadDelimiters; // 55 before 47
     }
-    if !with_escapes::fits(d, text, out.len()) {
+    let letters = with_escapes::letters_for(d);
+    if !with_escapes::fits(&letters, text, out.len()) {
         return Put::NotFitting;
     }
-    let n = with_escapes::write(d, text, out);
+    let n = with_escapes::write(d, &letters, text, out);
     Put::Done(n)
 }
 
@@ -49,9 +50,10 @@ pub fn unescape(d: Delimiters, text: &[u8], out: &mut [u8]) -> Put
     ensures { λ r. ⌜ Unescaping d (now (text .entry)) (now (out .entry)) r (now (out .exit)) ⌝ }
 {
     if !kinds::are_delimiters(d) {
-        return Put::BadDelimiters;
+        return Put::BadDelimiters; // 55 before 46 and 47
     }
-    let m = without_escapes::measure(d, text);
+    let letters = with_escapes::letters_for(d);
+    let m = without_escapes::measure(d, &letters, text);
     match m {
         Measured::Of(n) => {
             if out.len() < n {

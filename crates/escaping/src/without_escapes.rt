@@ -8,6 +8,7 @@ ghost use lib.Seq.{sets};
 ghost use Rattle.memory.specs.Tests.{isOneOf};
 ghost use Rattle.escaping.specs.declared.Measured.the-variants.{Of};
 ghost use Rattle.escaping.specs.Letters.{meant};
+ghost use Rattle.escaping.specs.Inner.Table.{Lettering};
 ghost use Rattle.escaping.specs.Inner.Passes.{letters, measured, plain};
 use crate::Measured;
 use kinds::Delimiters;
@@ -49,7 +50,8 @@ fn meant(d: Delimiters, letter: u8) -> u8
 }
 
 // The length of the plain text, if the escapes are right.
-pub fn measure(d: Delimiters, text: &[u8]) -> Measured
+pub fn measure(d: Delimiters, letters: &[u8; 256], text: &[u8]) -> Measured
+    requires { ⌜ Lettering d (now letters) ⌝ }
     ensures { λ r. ⌜ r ≡ measured d (now (text .entry)) ⌝ }
 {
     // Counted at the escapes alone: each is two bytes longer than what it stands for.
@@ -70,7 +72,7 @@ pub fn measure(d: Delimiters, text: &[u8]) -> Measured
             i += 3;
             less += 2;
         } else {
-            if crate::with_escapes::letter_for(d, b) != 0 {
+            if crate::with_escapes::letter_of(letters, b) != 0 {
                 return Measured::Wrong;
             }
             i += 1;

@@ -15,31 +15,37 @@ use Rattle.escaping.proofs.escape.Tie as tie
 abbrev start : tie.After-are-delimiters → tie.Start
 start c = c .before .before .before
 
+-- the table laid, and the function's start from behind the second test
+abbrev laid : tie.Else2 → tie.After-letters-for
+laid c = c .before .before .before
+
 abbrev entry : tie.Else2 → tie.Start
-entry c = start (c .before .before .before)
+entry c = start (laid c .before .before)
 
 -- past each test
 four : (c : tie.Else1) → areDelimiters (start (c .before) .args .d) ≡ true
 four c = sym (c .before .are-delimiters .ensures) ∙ not-false _ (c .if1 .left)
 
 room : (c : tie.Else2) → let a = entry c .args in leb (length (escaped (a .d) (a .text .now))) (length (a .out .now)) ≡ true
-room c = sym (c .before .fits2 .ensures) ∙ not-false _ (c .if2 .left)
+room c = sym (c .before .fits2 .ensures _ (laid c .letters-for .ensures)) ∙ not-false _ (c .if2 .left)
 
 returns : tie.Need-returns
 returns c = escape-bad _ _ _ (sym (c .before .are-delimiters .ensures) ∙ not-true _ (c .if1 .taken))
 
 returns-2 : tie.Need-returns-2
-returns-2 c = let f = c .before in let a = start (f .before .before) .args in
-    escape-short (a .d) (a .text .now) (a .out .now) (four (f .before)) (sym (f .fits2 .ensures) ∙ not-true _ (c .if2 .taken))
+returns-2 c = let f = c .before in
+    let t = f .before .before in
+    let a = start (t .before .before) .args in
+    escape-short (a .d) (a .text .now) (a .out .now) (four (t .before)) (sym (f .fits2 .ensures _ (t .letters-for .ensures)) ∙ not-true _ (c .if2 .taken))
 
 write-requires : tie.Need-write-requires
-write-requires c κs = leb-true _ _ (room (c .before))
+write-requires c κs = let e = c .before .before in (laid e .letters-for .ensures, leb-true _ _ (room e))
 
 returns-3 : tie.Need-returns-3
 returns-3 c = let w = c .before .before in
-    let e = w .before .before in
+    let e = w .before .before .before in
     let a = entry e .args in
-    escape-done (a .d) (a .text .now) (a .out .now) (four (e .before .before)) (room e) (w .write .ensures .0) (w .write .ensures .1)
+    escape-done (a .d) (a .text .now) (a .out .now) (four (laid e .before)) (room e) (w .write .ensures .0) (w .write .ensures .1)
 
 pub escape-spec : {M : Type 1} → statement M
 escape-spec =
@@ -47,6 +53,7 @@ escape-spec =
     (tie.spec
     (λ c κs. search needs)
     returns
+    (λ c κs. search needs)
     (λ c κs. search needs)
     returns-2
     write-requires

@@ -20,9 +20,13 @@ use Rattle.escaping.proofs.unescape.Tie as tie
 abbrev start : tie.Else1 → tie.Start
 start c = c .before .before .before .before
 
+-- where a text is measured: past the first test, the table laid
+abbrev allowed : tie.After-measure → tie.Else1
+allowed c = c .before .before .before
+
 -- behind the measure: the place in front of it
 abbrev entry : tie.After-m → tie.Start
-entry c = start (c .before .before .before)
+entry c = start (allowed (c .before .before))
 
 -- past the first test
 four : (c : tie.Else1) → areDelimiters (start c .args .d) ≡ true
@@ -43,7 +47,7 @@ returns-2 : tie.Need-returns-2
 returns-2 c = let m = c .before .before in
     let a = entry m .args in
     let (t, e, k) = told m in
-    unescape-short (a .d) (a .text .now) (a .out .now) (four (m .before .before .before)) t _ e k (c .if2 .taken)
+    unescape-short (a .d) (a .text .now) (a .out .now) (four (allowed (m .before .before))) t _ e k (c .if2 .taken)
 
 write-requires : tie.Need-write-requires
 write-requires c κs = let room = c .before in (of (room .before .before), room .if2 .left)
@@ -55,13 +59,13 @@ returns-3 c = let w = c .before .before in
     let a = entry m .args in
     let (t, e, k) = told m in
     let written : plain (a .d) (a .text .now) ≡ t = rw e in
-    unescape-done (a .d) (a .text .now) (a .out .now) (four (m .before .before .before)) t _ e k (f .if2 .left) (w .write .ensures ∙ ap (sets (a .out .now) 0) written)
+    unescape-done (a .d) (a .text .now) (a .out .now) (four (allowed (m .before .before))) t _ e k (f .if2 .left) (w .write .ensures ∙ ap (sets (a .out .now) 0) written)
 
 returns-4 : tie.Need-returns-4
 unfolding measured
 returns-4 c = let m = c .before .before in
-    let a = start (m .before) .args in
-    unescape-malformed (a .d) (a .text .now) (a .out .now) (four (m .before)) (size-none (unescaped (a .d) (a .text .now)) (sym (m .measure .ensures) ∙ c .enum-told .given .1))
+    let a = start (allowed m) .args in
+    unescape-malformed (a .d) (a .text .now) (a .out .now) (four (allowed m)) (size-none (unescaped (a .d) (a .text .now)) (sym (m .measure .ensures) ∙ c .enum-told .given .1))
 
 pub unescape-spec : {M : Type 1} → statement M
 unescape-spec =
@@ -70,6 +74,7 @@ unescape-spec =
     (λ c κs. search needs)
     returns
     (λ c κs. search needs)
+    (λ c κs. c .before .letters-for .ensures)
     (λ c. search needs)
     returns-2
     write-requires

@@ -23,10 +23,10 @@ record Measuring (d : Delimiters) (text : List ℕ) (less i : ℕ) : Type 0 wher
   counted : sizeFrom (i - less) (unescaped d (drop i text)) ≡ measured d text
 
 abbrev Inv-loop : tie.InvT-loop
-Inv-loop d text less₀ i₀ less i = Measuring d text less i
+Inv-loop d letters text less₀ i₀ less i = Measuring d text less i
 
 abbrev μ-loop : tie.MeasureT-loop
-μ-loop d text less₀ i₀ less i = length text - i
+μ-loop d letters text less₀ i₀ less i = length text - i
 
 -- the places: the function's start; a turn's start, from where its byte is found the escape character, and from where it is found another;
 -- that byte, from behind the tests of its escape
@@ -88,7 +88,7 @@ returns-4 c =
     let l = other-turn o .loop in
     let a = start (other-turn o) .args in
     let lt : l .i < length (a .text .now) = omega arith in
-    let wrong = bare-refused (a .d) (a .text .now) (l .i) lt (o .if1 .left) (λ e. c .if5 .taken (c .before .letter-for .ensures ∙ e)) in
+    let wrong = bare-refused (a .d) (a .text .now) (l .i) lt (o .if1 .left) (λ e. c .if5 .taken (c .before .letter-of .ensures _ (start (other-turn o) .pre) ∙ e)) in
     size-wrong (a .d) (a .text .now) (l .i) (l .i - l .less) (l .inv .counted) wrong
 
 loop-again-2 : tie.Need-loop-again-2 Inv-loop μ-loop
@@ -97,7 +97,7 @@ loop-again-2 c =
     let l = other-turn o .loop in
     let a = start (other-turn o) .args in
     let lt : l .i < length (a .text .now) = omega arith in
-    let r = itself-gives (a .d) (a .text .now) (l .i) lt (o .if1 .left) (sym (c .before .letter-for .ensures) ∙ c .if5 .left) in
+    let r = itself-gives (a .d) (a .text .now) (l .i) lt (o .if1 .left) (sym (c .before .letter-of .ensures _ (start (other-turn o) .pre)) ∙ c .if5 .left) in
     record {
       i-within = omega arith;
       less-within = omega arith;
