@@ -4,10 +4,11 @@ use mathlib.Core.Path.{_≡_, refl, sym, ap, _∙_}
 use mathlib.Core.Bool.{true, not}
 use mathlib.Core.List.{List, [], _∷_, _++_}
 use mathlib.Core.Option.{some}
-use Prim.Native.Nat.{ℕ}
+use Prim.Native.Nat.{ℕ, _*_, _≤_}
 use native.Mathlib.Omega.{arith}
 use native.Mathlib.Decide.{ℕ-discrete}
 use lib.Dec.{eqb}
+use lib.ListN.{length, length-append}
 use borrow.Author.Tests.{eq-eqb, ne-eqb, not-true}
 use Rattle.memory.proofs.Tests.{clash, never-both, six}
 use Rattle.kinds.specs.Delimiters.{different, areDelimiters}
@@ -105,6 +106,18 @@ module _ (d : Delimiters) (good : different d ≡ true) where
   -- an accepted component, unescaped and escaped again, is the component
   pub plain-escaped : (c t : List ℕ) → unescaped d c ≡ some t → escaped d t ≡ c
   plain-escaped c t e = back (reads d c t e)
+
+-- an escaped text is at most three times as long
+escape-most : (d : Delimiters) (x : ℕ) → length (escapeOf d x) ≤ 3
+escape-most d x =
+    elim (ℕ-discrete (letterFor d x) 0) [
+      | yes p ↦ omega (arith, ap length (escape-one d x p))
+      | no p ↦ omega (arith, ap length (escape-three d x p))
+    ]
+
+pub escaped-most : (d : Delimiters) (t : List ℕ) → length (escaped d t) ≤ 3 * length t
+escaped-most d [] = omega arith
+escaped-most d (x ∷ t) = omega (arith, length-append (escapeOf d x) (escaped d t), escape-most d x, escaped-most d t)
 
 -- both for every allowed four
 module _ (d : Delimiters) (four : areDelimiters d ≡ true) where
