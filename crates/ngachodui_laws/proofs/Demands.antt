@@ -1,5 +1,6 @@
 -- All that is claimed is kept: each field by the theorem behind it.
 -- Assumes nothing.
+use Rattle.faults.proofs.InForce.{message-four, standard-stays}
 use Rattle.ngachodui_laws.specs.Demands.{Demands}
 use Rattle.ngachodui_laws.proofs.HostRuns.{host-never-damaged, host-never-30}
 use Rattle.ngachodui_laws.proofs.Ended.{never-54}
@@ -12,6 +13,7 @@ use Rattle.ngachodui_laws.proofs.Stretches.{stretches, stretches-met, s
 use Rattle.ngachodui_laws.proofs.Rooms.{share-kept, no-space, space, freed-own, freed-others, alone-refused, alone-stored, acknowledged-stored, only-4-stores}
 use Rattle.ngachodui_laws.proofs.Queue.{nothing-lost, only-messages}
 use Rattle.ngachodui_laws.proofs.Texts.{cut-whole, read-never-refused}
+use Rattle.ngachodui_laws.proofs.Escapes.{escaped-back, unescaped-back}
 
 pub kept : Demands
 kept = record {
@@ -47,4 +49,8 @@ kept = record {
   nothing-lost = nothing-lost;
   only-messages = only-messages;
   read-never-refused = read-never-refused;
+  message-four = message-four;
+  standard-stays = standard-stays;
+  escaped-back = escaped-back;
+  unescaped-back = unescaped-back;
 }

@@ -14,5 +14,6 @@ pub mod Queue
 pub mod Sending
 pub mod FromFresh
 pub mod Texts
+pub mod Escapes
 pub mod Rooms
 pub mod Demands

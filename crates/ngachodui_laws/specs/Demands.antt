@@ -11,7 +11,8 @@ use mathlib.Core.List.{List}
 use mathlib.Core.Option.{some}
 use lib.ListN.{length}
 use Rattle.memory.specs.Sizes.{lines}
-use Rattle.faults.specs.Message.{isMessage}
+use Rattle.kinds.specs.Delimiters.{standard, fourAt, delimitersOf, areDelimiters}
+use Rattle.faults.specs.Message.{isMessageBy, isMessage}
 use Rattle.header.specs.Header.{entrySize}
 use Rattle.room.specs.Room.{share}
 use Rattle.journal_laws.specs.Runs.{waiting}
@@ -33,7 +34,7 @@ use Rattle.ngachodui_laws.specs.Outcomes.{Allows, ignores, lineIn, LineK
 use Rattle.ngachodui_laws.specs.Deciding.{DecidedExactly}
 use Rattle.ngachodui_laws.specs.Queue.{allTaken, NothingLost, OnlyMessages}
 use Rattle.ngachodui_laws.specs.Sending.{CanSend, sentTo, Delivered, GivesBack}
-use Rattle.ngachodui_laws.specs.Texts.{Cut, Readable}
+use Rattle.ngachodui_laws.specs.Texts.{Cut, Readable, ComesBack, GoesBack}
 use Rattle.ngachodui_laws.specs.Freed.{takenThen, Frees, Alone}
 
 -- each field is one promise; its type says what it assumes [P8]
@@ -151,3 +152,14 @@ pub record Demands : Type 0 where
   --
   -- So what was taken can be read: neither 46 nor a fault comes.
   pub read-never-refused : (r : Run) (l : ℕ) → l < lines → Every (λ n. Readable (n .text)) (allTaken l (historyOf r))
+  --
+  -- ---- Every message has its own delimiters
+
+  -- A message is read by the four that its header names, and they are an allowed four. What is a message by | \ ^ & is a message, as these are the four that it names.
+  pub message-four : (m : List ℕ) → isMessage m ≡ true → areDelimiters (delimitersOf m) ≡ true
+  pub standard-stays : (m : List ℕ) → isMessageBy standard m ≡ true → isMessage m ≡ true
+  --
+  -- With every allowed four, given the room, a text is escaped and comes back when it is unescaped; with any four a component that is unescaped comes back when its
+  -- text is escaped.
+  pub escaped-back : (four : List ℕ) → areDelimiters (fourAt 0 four) ≡ true → (text : List ℕ) → ComesBack four text
+  pub unescaped-back : (four c : List ℕ) → GoesBack four c
