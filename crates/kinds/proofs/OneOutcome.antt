@@ -4,16 +4,12 @@ use mathlib.Core.Path.{_≡_, sym, _∙_}
 use mathlib.Core.Bool.{Bool}
 use mathlib.Core.List.{List}
 use Prim.Native.Nat.{ℕ}
-use Rattle.kinds.specs.Delimiters.{standard, fourAt, delimitersOf, isDelimiter, areDelimiters}
+use Rattle.kinds.specs.Delimiters.{fourAt, delimitersOf, isDelimiter, areDelimiters}
 use Rattle.kinds.specs.Kinds.{kindOf, mayFollow}
 use Rattle.kinds.specs.Header.{isHeader}
 use Rattle.kinds.specs.declared.Delimiters.{Delimiters}
 use Rattle.kinds.specs.declared.Kind.{Kind}
 use Rattle.kinds.specs.declared.Letter.{Letter}
-
--- `Delimiters::standard`
-pub standard-once : {r q : Delimiters} → r ≡ standard → q ≡ standard → r ≡ q
-standard-once a b = a ∙ sym b
 
 -- `Delimiters::of_four`
 pub four-once : (four : List ℕ) {r q : Delimiters} → r ≡ fourAt 0 four → q ≡ fourAt 0 four → r ≡ q

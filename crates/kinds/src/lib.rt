@@ -1,7 +1,7 @@
 // The delimiters of a message, the types of its records, and what may follow what.
 ghost use mathlib.Core.Path.{_≡_};
 ghost use lib.ListN.{getD};
-ghost use Rattle.kinds.specs.Delimiters.{standard, fourAt, delimitersOf, isDelimiter, different, areDelimiters};
+ghost use Rattle.kinds.specs.Delimiters.{fourAt, delimitersOf, isDelimiter, different, areDelimiters};
 ghost use Rattle.kinds.specs.Kinds.{kindOf, mayFollow};
 ghost use Rattle.kinds.specs.Header.{isHeader};
 ghost use Rattle.kinds.specs.Inner.Rows.{rowOf};
@@ -18,18 +18,6 @@ pub struct Delimiters {
 }
 
 impl Delimiters {
-    // | \ ^ &
-    pub fn standard() -> Delimiters
-        ensures { λ r. ⌜ r ≡ standard ⌝ }
-    {
-        Delimiters {
-            field: b'|',
-            repeat: 0x5c,
-            component: b'^',
-            escape: b'&',
-        }
-    }
-
     // Four bytes, in the order in which a header names them.
     pub fn of_four(four: &[u8; DELIMITERS]) -> Delimiters
         ensures { λ r. ⌜ r ≡ fourAt 0 (now (four .entry)) ⌝ }

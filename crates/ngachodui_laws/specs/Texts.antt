@@ -32,13 +32,13 @@ pub record PutOut (text : List ℕ) (r : Made) (out′ : List ℕ) : Type 0 wher
   pub bytes : take (length text) out′ ≡ text
 
 -- whatever the contracts of `ngachodui_escape_2` and `ngachodui_unescape_2` allow with these four: a text that is escaped into three bytes for each of its own is
--- written, and what was written, unescaped into as many bytes as the text has, puts out the text
+-- written, and what was written, unescaped into as many bytes as the text has, puts out the text [R20]
 pub record ComesBack (four text : List ℕ) : Type 0 where
   pub escapes : (out out′ : List ℕ) (r : Made) → Escaped four text out r out′ → 3 * length text ≤ length out → r .number ≡ 0
   pub returns : (out out′ back back′ : List ℕ) (r q : Made) → Escaped four text out r out′ → r .number ≡ 0
       → Unescaped four (take (r .length) out′) back q back′ → length text ≤ length back → PutOut text q back′
 
--- and a component whose text was written, as it is unescaped: that text, escaped into as many bytes as the component has, puts out the component
+-- and a component whose text was written, as it is unescaped: that text, escaped into as many bytes as the component has, puts out the component [R20]
 abbrev pub GoesBack : List ℕ → List ℕ → Type 0
 GoesBack four c = (out out′ back back′ : List ℕ) (r q : Made) → Unescaped four c out r out′ → r .number ≡ 0
     → Escaped four (take (r .length) out′) back q back′ → length c ≤ length back → PutOut c q back′
