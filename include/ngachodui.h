@@ -148,8 +148,8 @@ enum ngachodui_outcome {
  * the text, cutting and reading get all. Escaping and unescaping are given the delimiters, and so 55 has
  * no place there. */
 enum ngachodui_fault {
-    NGACHODUI_NO_HEADER = 50,       /* the first record does not begin with H, or has fewer than five bytes
-                                     * before its CR, or the text is empty */
+    NGACHODUI_NO_HEADER = 50,       /* no H begins the first record, or it is too short to name four
+                                     * delimiters behind it; or the text is empty */
     NGACHODUI_UNKNOWN_TYPE = 51,    /* its type is none of H P O R Q L C M */
     NGACHODUI_MISPLACED = 52,       /* its type may not stand there, or it is the last record and no L */
     NGACHODUI_MISNUMBERED = 53,     /* its sequence number is not the one that is due */
@@ -361,8 +361,8 @@ static inline ngachodui_answered ngachodui_on_take(ngachodui_gateway *gateway, u
  *
  * The delimiters in force for a message are the four bytes behind its first one: the field, the repeat,
  * the component and the escape delimiter. Most analyzers name | \ ^ and & there. Who escapes or unescapes
- * for a message that it has hands over `text + 1`. Allowed are four different bytes, each of them from 21
- * to 7E and neither digit nor letter; all other bytes stand for themselves, | too where it is not named.
+ * for a message that it has hands over `text + 1`. Allowed are four different marks of ASCII: 21 to 7E
+ * without the digits and the letters. All other bytes stand for themselves, | too where it is not named.
  * [R2, R3] */
 
 /* Whether a text is a message: 1 to 4,000 allowed bytes, records ended by CR from H to L, in an order

@@ -49,7 +49,7 @@ own-first text =
       | no short ↦ rw (lt-leb 5 (length (before cr text)) (omega arith))
     ]
 
--- 50 by the delimiters in force: the first record has fewer than five bytes before its CR, or does not begin with H
+-- when 50 is told: a first record that is too short to name four, or that another byte than H begins
 pub header-short : (text : List ℕ) → isHeader (delimitersOf text) (before cr text) ≡ leb 5 (length (before cr text)) && is (letterOf Header) (getD text 0 0)
 unfolding isHeader
 header-short text =

@@ -2,6 +2,8 @@
 ghost use mathlib.Core.Path.{_≡_};
 ghost use lib.ListN.{take, drop};
 ghost use Rattle.memory.specs.Tests.{is, find};
+ghost use Rattle.kinds.specs.Delimiters.{delimitersOf};
+ghost use Rattle.kinds.specs.Header.{isHeader};
 ghost use Rattle.kinds.specs.Kinds.{typeOf, isTerminator};
 ghost use Rattle.records.specs.Fields.{fieldOf};
 ghost use Rattle.sequence.specs.Numbers.{numberOf};
@@ -101,11 +103,12 @@ pub fn check_record(d: Delimiters, s: Counts, last: bool, rec: &[u8]) -> Step
     }
 }
 
-// The first record.
+// The first record, by the delimiters that it names where it is long enough to name them.
 pub fn check_header(d: Delimiters, last: bool, rec: &[u8]) -> Step
+    requires { ⌜ isHeader d (now rec) ≡ isHeader (delimitersOf (now rec)) (now rec) ⌝ }
     ensures { λ r. ⌜ r ≡ headerStep d last (now (rec .entry)) ⌝ }
 {
-    if !kinds::is_header(d, rec) {
+    if !kinds::is_header(rec) {
         return Step::Wrong(Fault::NoHeader);
     }
     if !kinds::are_delimiters(d) {

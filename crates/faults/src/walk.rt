@@ -3,6 +3,7 @@ ghost use Prim.Native.Nat.{_+_, _<_, _≤_};
 ghost use mathlib.Core.Path.{_≡_};
 ghost use lib.ListN.{length, drop};
 ghost use Rattle.memory.specs.Sizes.{messageLimit};
+ghost use Rattle.kinds.specs.Delimiters.{delimitersOf};
 ghost use Rattle.records.specs.Records.{records};
 ghost use Rattle.faults.specs.Faults.{restFault, recordsFault};
 use crate::Checked;
@@ -11,9 +12,9 @@ use characters::CR;
 use kinds::Delimiters;
 use sequence::Counts;
 
-// All records.
+// All records, by the delimiters that the text names.
 pub fn records_fault(d: Delimiters, text: &[u8]) -> Checked
-    requires { ⌜ (0 < length (now text)) × (length (now text) ≤ messageLimit) ⌝ }
+    requires { ⌜ (d ≡ delimitersOf (now text)) × (0 < length (now text)) × (length (now text) ≤ messageLimit) ⌝ }
     ensures { λ r. ⌜ r ≡ recordsFault d (records (now (text .entry))) ⌝ }
 {
     let e = records::index_of(text, CR);

@@ -36,9 +36,5 @@ pub follow-once : (other k : Kind) {r q : Bool} → r ≡ mayFollow other k → 
 follow-once other k a b = a ∙ sym b
 
 -- `is_header`
-pub header-once : (d : Delimiters) (r : List ℕ) {a b : Bool} → a ≡ isHeader d r → b ≡ isHeader d r → a ≡ b
-header-once d r x y = x ∙ sym y
-
--- `names_four`
-pub names-once : (r : List ℕ) {a b : Bool} → a ≡ isHeader (delimitersOf r) r → b ≡ isHeader (delimitersOf r) r → a ≡ b
-names-once r x y = x ∙ sym y
+pub header-once : (r : List ℕ) {a b : Bool} → a ≡ isHeader (delimitersOf r) r → b ≡ isHeader (delimitersOf r) r → a ≡ b
+header-once r x y = x ∙ sym y

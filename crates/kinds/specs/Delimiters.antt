@@ -24,7 +24,7 @@ delimitersOf text = fourAt 1 text
 abbrev pub isAlphanumeric : ℕ → Bool
 isAlphanumeric b = between 0x30 0x39 b || between 0x41 0x5a b || between 0x61 0x7a b
 
--- a byte that may be a delimiter: 21 to 7E, neither digit nor letter [R23]
+-- a byte that may be a delimiter: a mark of ASCII, 21 to 7E without digits and letters [R23]
 unfoldable pub isDelimiter : ℕ → Bool
 isDelimiter b = between 0x21 0x7e b && not (isAlphanumeric b)
 

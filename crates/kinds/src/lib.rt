@@ -174,30 +174,8 @@ pub fn may_follow(other: Kind, k: Kind) -> bool
     FOLLOWERS[i][j]
 }
 
-// Whether the record begins with H and the four delimiters.
-pub fn is_header(d: Delimiters, rec: &[u8]) -> bool
-    ensures { λ r. ⌜ r ≡ isHeader d (now (rec .entry)) ⌝ }
-{
-    if rec.len() < 5 {
-        return false;
-    }
-    if rec[0] != b'H' {
-        return false;
-    }
-    if rec[1] != d.field {
-        return false;
-    }
-    if rec[2] != d.repeat {
-        return false;
-    }
-    if rec[3] != d.component {
-        return false;
-    }
-    rec[4] == d.escape
-}
-
 // Whether the record is a header by the delimiters that it names itself: five bytes, and the first is H.
-pub fn names_four(rec: &[u8]) -> bool
+pub fn is_header(rec: &[u8]) -> bool
     ensures { λ r. ⌜ r ≡ isHeader (delimitersOf (now (rec .entry))) (now (rec .entry)) ⌝ }
 {
     if rec.len() < 5 {

@@ -25,7 +25,7 @@ pub fn is_message(text: &[u8]) -> bool
         return false;
     }
     let header = &text[..e];
-    if !kinds::names_four(header) {
+    if !kinds::is_header(header) {
         return false;
     }
     let d = kinds::delimiters_of(header);

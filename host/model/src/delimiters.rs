@@ -72,7 +72,7 @@ mod tests {
 
     #[test]
     fn the_possible_ones_are_those_of_the_rule() {
-        // From 21 to 7E, neither digit nor letter.
+        // The marks of ASCII: no digits, no letters.
         let found: Vec<u8> = (0x21..=0x7E)
             .filter(|byte: &u8| !byte.is_ascii_digit() && !byte.is_ascii_alphabetic())
             .collect();

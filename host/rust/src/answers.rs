@@ -176,8 +176,8 @@ impl Answer {
 /// no header goes before its delimiters.
 #[derive(Clone, Copy, PartialEq, Eq, Debug)]
 pub enum Fault {
-    /// 50: the first record does not begin with H or has fewer than five bytes before its CR, or the text
-    /// is empty.
+    /// 50: no H begins the first record, or it is too short to name four delimiters behind it; or the
+    /// text is empty.
     NoHeader,
     /// 51: the record's type is none of the eight.
     UnknownType,

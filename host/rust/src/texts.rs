@@ -16,8 +16,8 @@ pub struct Record {
     pub owner: usize,
 }
 
-/// The delimiters of a message. Allowed are four different bytes, each from 21 to 7E and neither digit nor
-/// letter.
+/// The delimiters of a message. Allowed are four different marks of ASCII: 21 to 7E without the
+/// digits and the letters.
 #[derive(Clone, Copy, PartialEq, Eq, Debug)]
 pub struct Delimiters {
     /// Between fields.

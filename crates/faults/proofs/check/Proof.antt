@@ -58,7 +58,7 @@ returns-4 c = let unended = c .before in
     ap (Faulty NoFinalCr) (c .count-records .ensures) ∙ no-final-cr _ (a .text .now) (omega arith) (clean (passed some)) (omega arith) (ne-eqb _ _ (unended .if4 .taken))
 
 records-fault-requires : tie.Need-records-fault-requires
-records-fault-requires c κs = (omega arith, omega arith)
+records-fault-requires c κs = (c .delimiters-of .ensures, omega arith, omega arith)
 
 -- the records, by the four that the text names
 returns-5 : tie.Need-returns-5

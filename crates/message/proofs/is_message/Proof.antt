@@ -39,7 +39,7 @@ closed c = c .before .before .before
 abbrev broken-off : tie.Else4 → tie.After-end-of
 broken-off c = c .before .before
 
-abbrev ended-by-cr : tie.After-names-four → tie.Else4
+abbrev ended-by-cr : tie.After-is-header → tie.Else4
 ended-by-cr c = c .before .before
 
 abbrev named : tie.After-are-delimiters → tie.Else5
@@ -113,11 +113,11 @@ slice-aggregate-header : tie.Need-slice-aggregate-header
 slice-aggregate-header c = let e = broken-off (c .before) in sym (length-take-le (e .end-of .result) (text e) (omega (arith, within e)))
 
 -- the header that the code lends is the first record
-header-is : (c : tie.After-names-four) → let e = broken-off (ended-by-cr c) in c .names-four .result ≡ isHeader (marks e) (before cr (text e))
+header-is : (c : tie.After-is-header) → let e = broken-off (ended-by-cr c) in c .is-header .result ≡ isHeader (marks e) (before cr (text e))
 header-is c =
     let f = ended-by-cr c in
     let t = text (broken-off f) in
-    c .names-four .ensures ∙ ap (λ (n : ℕ). isHeader (delimitersOf (take n t)) (take n t)) (first f .0) ∙ sym (own-first t)
+    c .is-header .ensures ∙ ap (λ (n : ℕ). isHeader (delimitersOf (take n t)) (take n t)) (first f .0) ∙ sym (own-first t)
 
 returns-5 : tie.Need-returns-5
 returns-5 c =
