@@ -2,9 +2,8 @@
 -- Assumes nothing.
 use mathlib.Core.Path.{_≡_, refl}
 use mathlib.Core.Bool.{true, _&&_}
-use mathlib.Core.List.{List, [], _∷_}
-use Prim.Native.Nat.{ℕ, zero, suc}
 use Rattle.memory.specs.Tests.{count}
+use Rattle.memory.proofs.Table.{values}
 use Rattle.memory.proofs.Tests.{and-right}
 use Rattle.kinds.specs.Delimiters.{standard, isDelimiter, different, areDelimiters}
 use Rattle.kinds.specs.declared.Delimiters.{Delimiters}
@@ -17,12 +16,7 @@ pub allowed-different : (d : Delimiters) → areDelimiters d ≡ true → differ
 unfolding areDelimiters
 allowed-different d h = and-right (isDelimiter (d .field) && isDelimiter (d .repeat) && isDelimiter (d .component) && isDelimiter (d .escape)) (different d) h
 
--- n numbers from i on
-abbrev pub numbersFrom : ℕ → ℕ → List ℕ
-numbersFrom i zero = []
-numbersFrom i (suc n) = i ∷ numbersFrom (suc i) n
-
 -- of the 256 bytes exactly 32 may be delimiters
-pub thirty-two : count isDelimiter (numbersFrom 0 256) ≡ 32
+pub thirty-two : count isDelimiter (values (λ b. b) 0 256) ≡ 32
 unfolding isDelimiter
 thirty-two = refl

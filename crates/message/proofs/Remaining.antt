@@ -74,8 +74,8 @@ module _ (d : Delimiters) (text : List ℕ) (short : length text ≤ messageLimi
   pub headless : isHeader d (before cr text) ≡ false → isMessageBy d text ≡ false
   headless h = whole ∙ rw h (and-not-right (all allowed text) false refl)
 
-  pub lawless : areDelimiters d ≡ false → isMessageBy d text ≡ false
-  lawless h = whole ∙ rw h (by-tests (all allowed text) (isHeader d (before cr text)))
+  pub four-refused : areDelimiters d ≡ false → isMessageBy d text ≡ false
+  four-refused h = whole ∙ rw h (by-tests (all allowed text) (isHeader d (before cr text)))
     where
       by-tests : (a b : Bool) → a && (b && false && areNext d started (records (behind cr text))) ≡ false
       by-tests true true = refl

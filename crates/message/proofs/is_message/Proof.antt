@@ -25,7 +25,7 @@ use Rattle.records.proofs.Scans.{tailAt, rest-part}
 use Rattle.faults.proofs.Messages.{header, message-some, message-short, message-allowed, message-ends}
 use Rattle.faults.proofs.InForce.{names, own-first}
 use Rattle.message.proofs.Breaks.{cr-some, break-within, ends-behind, broken-by-cr, broken-by-other}
-use Rattle.message.proofs.Remaining.{header-ordinary, headless, lawless, header-passed}
+use Rattle.message.proofs.Remaining.{header-ordinary, headless, four-refused, header-passed}
 use Rattle.message.proofs.is_message.Statement.{statement}
 use Rattle.message.proofs.is_message.Tie as tie
 
@@ -143,7 +143,7 @@ returns-6 : tie.Need-returns-6
 returns-6 c =
     let e = broken-off (ended-by-cr (named (c .before) .before)) in
     let ends = ended (closed e) in
-    sym (lawless (marks e) (text e) (omega arith) (cr-some (text e) ends) ends (sym (allowed-is (c .before)) ∙ not-true _ (c .if6 .taken)))
+    sym (four-refused (marks e) (text e) (omega arith) (cr-some (text e) ends) ends (sym (allowed-is (c .before)) ∙ not-true _ (c .if6 .taken)))
 
 -- behind both tests: the header's place, and that the four are allowed
 abbrev proper : tie.Else6 → tie.Else5
