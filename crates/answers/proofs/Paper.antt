@@ -1,27 +1,32 @@
--- The list of all answers: number and values tell the answer, and what a test finds of each in the list it finds of every answer; and what holds of every objection's number.
+-- The list of all answers: number, the byte that goes out and values tell the answer, and what a test finds of each in the list it finds of every answer; and what holds of every objection's number.
 -- Assumes nothing.
 use mathlib.Core.Path.{_≡_, refl, sym, ap, ap₂, subst, _∙_}
 use mathlib.Core.Logic.{_≢_}
 use mathlib.Core.Bool.{Bool, true, false, not, cond, _&&_, _||_}
 use mathlib.Core.List.{List, [], _∷_}
 use mathlib.Core.Option.{Option, none, some}
-use Prim.Native.Nat.{ℕ, _≤_}
+use Prim.Native.Nat.{ℕ, _+_, _*_, _≤_}
 use native.Mathlib.Omega.{arith}
 use borrow.Author.Tests.{leb-true, eqb-true, le-ltb, le-leb, lt-leb, ne-eqb}
-use lib.Dec.{leb, eqb}
+use lib.Dec.{T, leb, eqb}
 use lib.ListN.{getD}
+use mir.Val.{hasKey}
 use types.Run.{OneOf, miss}
 use denote.Enum.Declared.{tagOf}
 use Rattle.memory.specs.Tests.{between}
 use Rattle.memory.proofs.Tests.{clash, and-left, and-right, never-both}
-use Rattle.answers.specs.Paper.{faultNumber, isFaulty, numberOf, valuesOf, placeOf, nak, replyOf}
+use Rattle.answers.specs.Paper.{faultNumber, isFaulty, numberOf, valuesOf, placeOf, nak, replyOf, firstOut}
+use Rattle.answers.specs.InNumbers.{replyByte}
 use Rattle.answers.specs.Inner.Objections.{isObjection}
 use Rattle.answers.specs.declared.Answer.{Answer}
 use Rattle.answers.proofs.Answer.{the-type}
-use Rattle.answers.specs.declared.Reply.the-variants.{Byte}
+use Rattle.answers.specs.declared.Reply.{Reply}
+use Rattle.answers.specs.declared.Reply.the-variants.{Silence, Byte}
+use Rattle.answers.specs.declared.Parcel.{Parcel}
+use Rattle.answers.specs.declared.Parcel.the-variants.{Empty, Enquiry, Ending, Frame}
 use Rattle.answers.specs.declared.Fault.{Fault}
 use Rattle.answers.specs.declared.Fault.the-variants.{NoHeader, UnknownType, Misplaced, Misnumbered, NoFinalCr, BadDelimiters}
-use Rattle.answers.specs.declared.Answer.the-variants.{Nothing, Opened, Accepted, Repeated, Stored, Ended, Dropped, TimedOut, Taken, Busy, Unended, Torn, WrongCheck, BadText, BadNumber, Refusing, OutOfTurn, TooLong, NoCr, NoMessage, NoRoom, NoLine, WrongSize, BeyondLimits, Broken, NothingWaiting, BufferShort, Malformed, NotFitting, Faulty}
+use Rattle.answers.specs.declared.Answer.the-variants.{Nothing, Opened, Accepted, Repeated, Stored, Ended, Dropped, TimedOut, Taken, Sends, Busy, Unended, Torn, WrongCheck, BadText, BadNumber, Refusing, OutOfTurn, TooLong, NoCr, NoMessage, NoRoom, NoLine, WrongSize, BeyondLimits, Broken, NothingWaiting, BufferShort, Malformed, NotFitting, Faulty, Unsendable, NotNeutral, GivenUp}
 
 -- all answers: those that carry values carry these
 abbrev pub answers : List ℕ → List Answer
@@ -35,6 +40,10 @@ answers vs =
     ∷ Dropped
     ∷ TimedOut
     ∷ Taken (getD vs 0 0) (getD vs 1 0)
+    ∷ Sends Empty
+    ∷ Sends Enquiry
+    ∷ Sends Ending
+    ∷ Sends Frame
     ∷ Busy
     ∷ Unended
     ∷ Torn
@@ -61,15 +70,27 @@ answers vs =
     ∷ Faulty Misnumbered (getD vs 0 0)
     ∷ Faulty NoFinalCr (getD vs 0 0)
     ∷ Faulty BadDelimiters (getD vs 0 0)
+    ∷ Unsendable NoHeader (getD vs 0 0)
+    ∷ Unsendable UnknownType (getD vs 0 0)
+    ∷ Unsendable Misplaced (getD vs 0 0)
+    ∷ Unsendable Misnumbered (getD vs 0 0)
+    ∷ Unsendable NoFinalCr (getD vs 0 0)
+    ∷ Unsendable BadDelimiters (getD vs 0 0)
+    ∷ NotNeutral
+    ∷ GivenUp
     ∷ []
 
--- the first of a list with this number
+-- number and the byte that goes out, in one: 0 for no byte
+abbrev keyOf : Answer → ℕ
+keyOf a = numberOf a + 256 * replyByte (firstOut a)
+
+-- the first of a list with this key
 first : ℕ → List Answer → Option Answer
 first n [] = none
-first n (a ∷ more) = cond (eqb (numberOf a) n) (some a) (first n more)
+first n (a ∷ more) = cond (eqb (keyOf a) n) (some a) (first n more)
 
-listed : (a : Answer) → first (numberOf a) (answers (valuesOf a)) ≡ some a
-unfolding first
+listed : (a : Answer) → first (keyOf a) (answers (valuesOf a)) ≡ some a
+unfolding first replyOf
 listed Nothing = refl
 listed Opened = refl
 listed Accepted = refl
@@ -79,6 +100,10 @@ listed Ended = refl
 listed Dropped = refl
 listed TimedOut = refl
 listed (Taken length serial) = refl
+listed (Sends Empty) = refl
+listed (Sends Enquiry) = refl
+listed (Sends Ending) = refl
+listed (Sends Frame) = refl
 listed Busy = refl
 listed Unended = refl
 listed Torn = refl
@@ -105,6 +130,14 @@ listed (Faulty Misplaced place) = refl
 listed (Faulty Misnumbered place) = refl
 listed (Faulty NoFinalCr place) = refl
 listed (Faulty BadDelimiters place) = refl
+listed (Unsendable NoHeader place) = refl
+listed (Unsendable UnknownType place) = refl
+listed (Unsendable Misplaced place) = refl
+listed (Unsendable Misnumbered place) = refl
+listed (Unsendable NoFinalCr place) = refl
+listed (Unsendable BadDelimiters place) = refl
+listed NotNeutral = refl
+listed GivenUp = refl
 
 -- each answer of a list passes a test
 abbrev pub passes : (Answer → Bool) → List Answer → Bool
@@ -114,7 +147,7 @@ passes test (a ∷ more) = test a && passes test more
 found : (test : Answer → Bool) (a : Answer) (n : ℕ) (list : List Answer) → passes test list ≡ true → first n list ≡ some a → test a ≡ true
 unfolding first
 found test a n [] p q = clash cc
-found test a n (b ∷ more) p q = by-number (eqb (numberOf b) n) q (found test a n more (and-right (test b) (passes test more) p))
+found test a n (b ∷ more) p q = by-number (eqb (keyOf b) n) q (found test a n more (and-right (test b) (passes test more) p))
   where
     by-number : (t : Bool) → cond t (some b) (first n more) ≡ some a → (first n more ≡ some a → test a ≡ true) → test a ≡ true
     by-number true e later =
@@ -124,7 +157,7 @@ found test a n (b ∷ more) p q = by-number (eqb (numberOf b) n) q (found test a
 
 -- a test that each answer of the list passes, whatever values stand in it, every answer passes
 pub every-answer : (test : Answer → Bool) → ((vs : List ℕ) → passes test (answers vs) ≡ true) → (a : Answer) → test a ≡ true
-every-answer test h a = found test a (numberOf a) (answers (valuesOf a)) (h (valuesOf a)) (listed a)
+every-answer test h a = found test a (keyOf a) (answers (valuesOf a)) (h (valuesOf a)) (listed a)
 
 -- a test that only answers of one sort pass, no other answer passes
 pub every-but : (sort test : Answer → Bool) → ((vs : List ℕ) → passes (λ a. sort a || not (test a)) (answers vs) ≡ true) → (a : Answer) → sort a ≡ false → test a ≡ false
@@ -135,10 +168,11 @@ every-but sort test h a other = by-sort (sort a) (test a) (every-answer (λ b. s
     by-sort false true p q = clash cc
     by-sort true t p q = clash cc
 
--- no two answers share number and values
-pub paper-injective : (a b : Answer) → numberOf a ≡ numberOf b → valuesOf a ≡ valuesOf b → a ≡ b
-paper-injective a b n v =
-    let same : some a ≡ some b = sym (listed a) ∙ ap₂ (λ (m : ℕ) (vs : List ℕ). first m (answers vs)) n v ∙ listed b in
+-- no two answers share number, the byte that goes out and values
+pub paper-injective : (a b : Answer) → numberOf a ≡ numberOf b → firstOut a ≡ firstOut b → valuesOf a ≡ valuesOf b → a ≡ b
+paper-injective a b n o v =
+    let key : keyOf a ≡ keyOf b = ap₂ (λ (m : ℕ) (r : Reply). m + 256 * replyByte r) n o in
+    let same : some a ≡ some b = sym (listed a) ∙ ap₂ (λ (m : ℕ) (vs : List ℕ). first m (answers vs)) key v ∙ listed b in
     cc same
 
 -- a fault has the number of one, and its place
@@ -156,29 +190,76 @@ fault-other f n plain e = never-both (isFaulty n) (ap isFaulty (sym e) ∙ fault
 
 pub fault-injective : (f g : Fault) → faultNumber f ≡ faultNumber g → f ≡ g
 fault-injective f g e =
-    let same : Faulty f 0 ≡ Faulty g 0 = paper-injective (Faulty f 0) (Faulty g 0) e refl in
+    let same : Faulty f 0 ≡ Faulty g 0 = paper-injective (Faulty f 0) (Faulty g 0) e (ap replyOf e) refl in
     cc same
 
 pub faulty-place : (f : Fault) (place : ℕ) → placeOf (Faulty f place) ≡ place
 faulty-place f place = rw (fault-number f)
 
+pub unsendable-place : (f : Fault) (place : ℕ) → placeOf (Unsendable f place) ≡ place
+unsendable-place f place = rw (fault-number f)
+
 -- which of the variants of `Answer` it is, counted from 0
+abbrev sendsTag : ℕ
+sendsTag = 9
+
 abbrev faultyTag : ℕ
-faultyTag = 29
+faultyTag = 30
+
+abbrev unsendableTag : ℕ
+unsendableTag = 31
 
 abbrev told : Answer → Bool
-told a = not (isFaulty (numberOf a)) || eqb (tagOf the-type a) faultyTag
+told a = not (isFaulty (numberOf a)) || (eqb (tagOf the-type a) faultyTag || eqb (tagOf the-type a) unsendableTag)
 
 abbrev others : List ℕ
-others = 0 ∷ 1 ∷ 2 ∷ 3 ∷ 4 ∷ 5 ∷ 6 ∷ 7 ∷ 8 ∷ 9 ∷ 10 ∷ 11 ∷ 12 ∷ 13 ∷ 14 ∷ 15 ∷ 16 ∷ 17 ∷ 18 ∷ 19 ∷ 20 ∷ 21 ∷ 22 ∷ 23 ∷ 24 ∷ 25 ∷ 26 ∷ 27 ∷ 28 ∷ []
+others = 0 ∷ 1 ∷ 2 ∷ 3 ∷ 4 ∷ 5 ∷ 6 ∷ 7 ∷ 8 ∷ 9 ∷ 10 ∷ 11 ∷ 12 ∷ 13 ∷ 14 ∷ 15 ∷ 16 ∷ 17 ∷ 18 ∷ 19 ∷ 20 ∷ 21 ∷ 22 ∷ 23 ∷ 24 ∷ 25 ∷ 26 ∷ 27 ∷ 28 ∷ 29 ∷ 32 ∷ 33 ∷ []
+
+-- a variant that is one of two is not among others
+neither : (list : List ℕ) (x y tag : ℕ) → T (not (hasKey list x)) → T (not (hasKey list y)) → eqb tag x || eqb tag y ≡ true → OneOf list tag → ⊥
+neither list x y tag no-x no-y e one = by-first (eqb tag x) refl
+  where
+    by-first : (b : Bool) → eqb tag x ≡ b → ⊥
+    by-first true q = miss list x no-x (subst (OneOf list) (eqb-true tag x q) one)
+    by-first false q = miss list y no-y (subst (OneOf list) (eqb-true tag y (rw q at e)) one)
 
 -- an answer that is another variant has no place
 pub no-place : (a : Answer) → OneOf others (tagOf the-type a) → 0 ≡ placeOf a
 no-place a one = by-number (isFaulty (numberOf a)) refl (every-answer told (λ vs. refl) a)
   where
     by-number : (b : Bool) → isFaulty (numberOf a) ≡ b → told a ≡ true → 0 ≡ placeOf a
-    by-number true e h = absurd (miss others faultyTag tt (subst (OneOf others) (eqb-true (tagOf the-type a) faultyTag (rw e at h)) one))
+    by-number true e h = absurd (neither others faultyTag unsendableTag (tagOf the-type a) tt tt (rw e at h) one)
     by-number false e h = rw e
+
+-- with an answer to a byte or seconds that sends no parcel the byte of its number goes out
+abbrev received : List ℕ
+received = 0 ∷ 1 ∷ 2 ∷ 3 ∷ 4 ∷ 5 ∷ 6 ∷ 7 ∷ 8 ∷ 10 ∷ 11 ∷ 12 ∷ 13 ∷ 14 ∷ 15 ∷ 16 ∷ 17 ∷ 18 ∷ 19 ∷ 20 ∷ 21 ∷ 22 ∷ 23 ∷ 24 ∷ 25 ∷ 26 ∷ 27 ∷ 28 ∷ 29 ∷ 30 ∷ 32 ∷ 33 ∷ []
+
+abbrev same : Reply → Reply → Bool
+same Silence Silence = true
+same Silence (Byte b) = false
+same (Byte b) Silence = false
+same (Byte b) (Byte c) = eqb b c
+
+same-is : (r q : Reply) → same r q ≡ true → r ≡ q
+same-is Silence Silence e = refl
+same-is Silence (Byte b) e = clash cc
+same-is (Byte b) Silence e = clash cc
+same-is (Byte b) (Byte c) e = ap Byte (eqb-true b c e)
+
+abbrev replies : Answer → Bool
+replies a = (eqb (tagOf the-type a) sendsTag || eqb (tagOf the-type a) unsendableTag) || same (firstOut a) (replyOf (numberOf a))
+
+all-reply : (vs : List ℕ) → passes replies (answers vs) ≡ true
+unfolding replyOf
+all-reply vs = refl
+
+pub out-by-number : (a : Answer) → OneOf received (tagOf the-type a) → replyOf (numberOf a) ≡ firstOut a
+out-by-number a one = by-tag (eqb (tagOf the-type a) sendsTag || eqb (tagOf the-type a) unsendableTag) refl (every-answer replies all-reply a)
+  where
+    by-tag : (b : Bool) → eqb (tagOf the-type a) sendsTag || eqb (tagOf the-type a) unsendableTag ≡ b → replies a ≡ true → replyOf (numberOf a) ≡ firstOut a
+    by-tag true e h = absurd (neither received sendsTag unsendableTag (tagOf the-type a) tt tt e one)
+    by-tag false e h = sym (same-is (firstOut a) (replyOf (numberOf a)) (rw e at h))
 
 -- an objection gets NAK; it is not 4, which stores, nor 31, which is for want of room, nor 41 to 43, which tell of memory, a record or a journal
 pub record Objects (n : ℕ) : Type 0 where

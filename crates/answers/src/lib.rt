@@ -1,7 +1,10 @@
-// The answers, their numbers, and the byte that is sent back with each.
+// The answers, their numbers, and the byte that goes out with each.
 ghost use mathlib.Core.Path.{_≡_};
-ghost use Rattle.answers.specs.Paper.{faultNumber, numberOf, placeOf, replyOf};
+ghost use Rattle.answers.specs.Paper.{faultNumber, numberOf, placeOf, replyOf, parcelByte, firstOut};
 ghost use Rattle.answers.specs.InNumbers.{replyByte, inNumbers as InNumbers·inNumbers};
+use characters::ENQ;
+use characters::EOT;
+use characters::STX;
 
 pub const ACK: u8 = 0x06;
 
@@ -33,7 +36,16 @@ impl Fault {
     }
 }
 
-// The answers in the order of their numbers, which are those of their rules: 22 is [A22]. A fault comes with its record's place.
+// What is to be sent in a sending: nothing, our ENQ, our EOT, or the frame that the line offers.
+pub enum Parcel {
+    Empty,
+    Enquiry,
+    Ending,
+    Frame,
+}
+
+// The answers in the order of their numbers, which are those of their rules: 22 is [A22]. A fault comes with its record's place:
+// `Faulty` of a text that a line has received, `Unsendable` of one that is to be sent.
 pub enum Answer {
     Nothing,
     Opened,
@@ -44,6 +56,7 @@ pub enum Answer {
     Dropped,
     TimedOut,
     Taken(usize, u16),
+    Sends(Parcel),
     Busy,
     Unended,
     Torn,
@@ -65,9 +78,12 @@ pub enum Answer {
     Malformed,
     NotFitting,
     Faulty(Fault, u16),
+    Unsendable(Fault, u16),
+    NotNeutral,
+    GivenUp,
 }
 
-// The byte sent back to the analyzer, if any.
+// The byte that goes to the analyzer, if any.
 pub enum Reply {
     Silence,
     Byte(u8),
@@ -88,6 +104,7 @@ impl Answer {
             Answer::Dropped => 6,
             Answer::TimedOut => 7,
             Answer::Taken(_, _) => 8,
+            Answer::Sends(_) => 9,
             Answer::Busy => 20,
             Answer::Unended => 21,
             Answer::Torn => 22,
@@ -109,6 +126,9 @@ impl Answer {
             Answer::Malformed => 46,
             Answer::NotFitting => 47,
             Answer::Faulty(fault, _) => fault.number(),
+            Answer::Unsendable(fault, _) => fault.number(),
+            Answer::NotNeutral => 60,
+            Answer::GivenUp => 61,
         }
     }
 
@@ -118,15 +138,32 @@ impl Answer {
     {
         match self {
             Answer::Faulty(_, place) => place,
+            Answer::Unsendable(_, place) => place,
             _ => 0,
         }
     }
 
-    // The byte that the table sends back.
+    // The first byte that goes out with it: of a sending's answer that of its parcel, and nothing with a text that is not sent.
     pub fn reply(self) -> Reply
-        ensures { λ r. ⌜ r ≡ replyOf (numberOf self) ⌝ }
+        ensures { λ r. ⌜ r ≡ firstOut self ⌝ }
     {
-        reply_to(self.number())
+        match self {
+            Answer::Sends(parcel) => first_byte(parcel),
+            Answer::Unsendable(_, _) => Reply::Silence,
+            _ => reply_to(self.number()),
+        }
+    }
+}
+
+// The first byte of a parcel: a frame begins with STX.
+fn first_byte(parcel: Parcel) -> Reply
+    ensures { λ r. ⌜ r ≡ parcelByte parcel ⌝ }
+{
+    match parcel {
+        Parcel::Empty => Reply::Silence,
+        Parcel::Enquiry => Reply::Byte(ENQ),
+        Parcel::Ending => Reply::Byte(EOT),
+        Parcel::Frame => Reply::Byte(STX),
     }
 }
 
@@ -155,7 +192,7 @@ pub fn reply_to(number: u8) -> Reply
     Reply::Silence
 }
 
-// An answer: its number, the byte to send back (0 for none), for 8 the serial and the text's length, for a fault its record's place.
+// An answer: its number, the first byte to send (0 for none), for 8 the serial and the text's length, for a fault its record's place.
 // The case of check digits is 0 in this version. With it no byte is left unnamed, so that an answer is made in registers: bytes
 // without a name are left out of stores, and a load over such a store waits for it.
 #[repr(C)]
@@ -168,7 +205,7 @@ pub struct Answered {
     pub length: usize,
 }
 
-// The answer to an event.
+// The answer to an event or a start.
 pub fn in_numbers(answer: Answer) -> Answered
     ensures { λ r. ⌜ r ≡ InNumbers·inNumbers answer ⌝ }
 {

@@ -2,11 +2,14 @@
 -- Assumes nothing.
 use Prim.Native.Nat.{ℕ, _-_}
 use mathlib.Core.Bool.{Bool, true, false, _&&_}
-use lib.Dec.{leb}
+use lib.Dec.{leb, ltb}
 use Rattle.memory.specs.Sizes.{messageLimit, frameLimit}
 use Rattle.digits.specs.Number.{mostNumber, nextNumber}
 use Rattle.line.specs.declared.Line.{Line}
-use Rattle.line.specs.declared.State.the-variants.{Neutral, Waiting, Inside}
+use Rattle.line.specs.declared.Sending.{Sending}
+use Rattle.line.specs.declared.Sending.the-variants.{Asking, Pausing, Offering}
+use Rattle.line.specs.declared.State.{State}
+use Rattle.line.specs.declared.State.the-variants.{Neutral, Waiting, Inside, Out}
 use Rattle.line.specs.declared.Last.{Last}
 use Rattle.line.specs.declared.Last.the-variants.{NoneYet, Number}
 
@@ -35,10 +38,27 @@ abbrev pub lastWithin : Last → Bool
 lastWithin NoneYet = true
 lastWithin (Number n) = leb n mostNumber
 
--- at most 245 collected, 4,000 joined, 29 seconds, and 7 for a number [E11, A42]
+-- a frame is sent, and our ENQ refused, at most so often [S7, S9]
+abbrev pub mostTries : ℕ
+mostTries = 6
+
+-- fewer refusals than six, six sends at most, and a place within the longest text: whether the text has a byte there is not asked [S3]
+abbrev pub sendingWithin : Sending → Bool
+sendingWithin (Asking n) = ltb n mostTries
+sendingWithin (Pausing n) = ltb n mostTries
+sendingWithin (Offering n at) = leb n mostTries && leb at messageLimit
+
+abbrev pub stateWithin : State → Bool
+stateWithin Neutral = true
+stateWithin Waiting = true
+stateWithin Inside = true
+stateWithin (Out s) = sendingWithin s
+
+-- at most 245 collected, 4,000 joined, 29 seconds, 7 for a number, and what a sending has [E11, A42, S3]
 unfoldable pub withinLimits : Line → Bool
 withinLimits l =
-    leb (l .collected) (mostCollected l) && (leb (l .joined) messageLimit && (leb (l .seconds) mostSeconds && (leb (l .next) mostNumber && lastWithin (l .last))))
+    leb (l .collected) (mostCollected l) && (leb (l .joined) messageLimit && (leb (l .seconds) mostSeconds
+    && (leb (l .next) mostNumber && (lastWithin (l .last) && stateWithin (l .state)))))
 
 -- STX: inside, and nothing else [L4]
 abbrev pub begunLine : Line → Line
@@ -69,3 +89,12 @@ acceptedLine l count =
 abbrev pub refusingLine : Line → Line
 refusingLine l =
     record { state = Waiting; collected = 0; joined = 0; seconds = 0; next = l .next; last = l .last; refusing = true }
+
+-- the start of a sending of so many bytes: our ENQ awaits its reply, and nothing of an old record is left [S1, L13]
+abbrev pub askedLine : Line → ℕ → Line
+askedLine l count = record { state = Out (Asking 0); collected = 0; joined = count; seconds = 0; next = 1; last = NoneYet; refusing = false }
+
+-- a sending goes on, with the number of its frame: its seconds begin anew, and none is carried on [S5, L14]
+abbrev pub goneLine : Line → Sending → ℕ → Line
+goneLine l s number =
+    record { state = Out s; collected = l .collected; joined = l .joined; seconds = 0; next = number; last = l .last; refusing = l .refusing }

@@ -1,14 +1,23 @@
 // The record of a serial line, and what an event makes of it by value.
 ghost use mathlib.Core.Path.{_≡_};
-ghost use Rattle.line.specs.Line.{freshLine, openedLine, closedLine, withinLimits, begunLine, collectedLine, countedLine, waitingLine, acceptedLine, refusingLine};
+ghost use Rattle.line.specs.Line.{freshLine, openedLine, closedLine, lastWithin, sendingWithin, stateWithin, withinLimits, askedLine, goneLine, begunLine, collectedLine, countedLine, waitingLine, acceptedLine, refusingLine};
 ghost use Rattle.line.specs.Seconds.{passedOf};
 ghost use Rattle.line.specs.Turn.{isLast, turnOf};
 
-// Between transfers, between frames, or inside a frame.
+// Where a sending is: our ENQ awaits its reply, refused so often by now; the pause behind that many refusals; a frame was sent so
+// often, its text starts at this place, and it awaits its reply.
+pub enum Sending {
+    Asking(u8),
+    Pausing(u8),
+    Offering(u8, u16),
+}
+
+// Between transfers, between frames, inside a frame, or sending.
 pub enum State {
     Neutral,
     Waiting,
     Inside,
+    Out(Sending),
 }
 
 // The number of the last accepted frame of a transfer.
@@ -52,6 +61,9 @@ impl Line {
     pub const MOST_SECONDS: u8 = 29;
 
     pub const MOST_NUMBER: u8 = 7;
+
+    // A frame is sent, and our ENQ refused, at most so often.
+    pub const MOST_TRIES: u8 = 6;
 
     pub fn fresh() -> Line
         ensures { λ r. ⌜ r ≡ freshLine ⌝ }
@@ -113,9 +125,41 @@ impl Line {
             return false;
         }
         let last = self.last;
-        match last {
-            Last::NoneYet => true,
-            Last::Number(n) => n <= Line::MOST_NUMBER,
+        if !is_last_within(last) {
+            return false;
+        }
+        let state = self.state;
+        is_state_within(state)
+    }
+
+    // What the start of a sending of so many bytes leaves: our ENQ awaits its reply.
+    pub fn asked(self, joined: u16) -> Line
+        ensures { λ r. ⌜ r ≡ askedLine self joined ⌝ }
+    {
+        Line {
+            state: State::Out(Sending::Asking(0)),
+            collected: 0,
+            joined: joined,
+            seconds: 0,
+            next: 1, // the frames count from 1
+            last: Last::NoneYet,
+            refusing: false,
+        }
+    }
+
+    // A sending that goes on, with the number of its frame: the wait begins anew.
+    pub fn gone(self, sending: Sending, number: u8) -> Line
+        ensures { λ r. ⌜ r ≡ goneLine self sending number ⌝ }
+    {
+        let last = self.last;
+        Line {
+            state: State::Out(sending),
+            collected: self.collected,
+            joined: self.joined,
+            seconds: 0, // what was over is not carried on
+            next: number,
+            last: last,
+            refusing: self.refusing,
         }
     }
 
@@ -231,6 +275,41 @@ impl Line {
             return Turn::Overlong;
         }
         Turn::InTurn
+    }
+}
+
+fn is_last_within(last: Last) -> bool
+    ensures { λ r. ⌜ r ≡ lastWithin last ⌝ }
+{
+    match last {
+        Last::NoneYet => true,
+        Last::Number(n) => n <= Line::MOST_NUMBER,
+    }
+}
+
+fn is_state_within(state: State) -> bool
+    ensures { λ r. ⌜ r ≡ stateWithin state ⌝ }
+{
+    match state {
+        State::Neutral => true,
+        State::Waiting => true,
+        State::Inside => true,
+        State::Out(sending) => is_sending_within(sending),
+    }
+}
+
+fn is_sending_within(sending: Sending) -> bool
+    ensures { λ r. ⌜ r ≡ sendingWithin sending ⌝ }
+{
+    match sending {
+        Sending::Asking(n) => n < Line::MOST_TRIES,
+        Sending::Pausing(n) => n < Line::MOST_TRIES,
+        Sending::Offering(n, at) => {
+            if n > Line::MOST_TRIES {
+                return false;
+            }
+            at <= Line::MOST_JOINED
+        }
     }
 }
 

@@ -1,13 +1,22 @@
 -- `answers::Answer::reply` meets its contract.
 -- Assumes nothing.
-use mathlib.Core.Path.{ap, _∙_}
+use mathlib.Core.Path.{sym, ap, _∙_}
 use borrow.Author.Needs.{needs}
-use Rattle.answers.specs.Paper.{replyOf}
+use Rattle.answers.specs.Paper.{replyOf, firstOut}
+use Rattle.answers.proofs.Paper.{out-by-number}
 use Rattle.answers.proofs.Answer.reply.Statement.{statement}
 use Rattle.answers.proofs.Answer.reply.Tie as tie
 
 returns : tie.Need-returns
-returns c = c .reply-to .ensures ∙ ap replyOf (c .before .number .ensures)
+returns c = c .first-byte .ensures ∙ sym (ap firstOut (c .before .before .self .given .1))
+
+returns-2 : tie.Need-returns-2
+returns-2 c = sym (ap firstOut (c .enum-told .given .1))
+
+returns-3 : tie.Need-returns-3
+returns-3 c = c .reply-to .ensures ∙ ap replyOf (c .before .number .ensures) ∙ out-by-number (c .before .before .before .args .self) (c .before .before .match .keys3)
 
 pub reply-spec : {M : Type 1} → statement M
-reply-spec = tie.close (tie.spec (λ c κs. search needs) (λ c κs. search needs) returns)
+reply-spec =
+    tie.close
+    (tie.spec (λ c. search needs) (λ c κs. search needs) (λ c. search needs) (λ c κs. search needs) (λ c κs. search needs) returns returns-2 returns-3)
