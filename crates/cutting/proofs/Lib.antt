@@ -1,4 +1,3 @@
-pub mod Steps
 pub mod Written
 pub mod Laws
 pub mod Limits

@@ -13,24 +13,22 @@ use Rattle.memory.specs.Parts.{splice}
 use Rattle.memory.proofs.Parts.{splice-from, splice-join, length-splice}
 use Rattle.digits.specs.Number.{mostNumber, nextNumber}
 use Rattle.frame.specs.Shape.{aroundText}
+use Rattle.frame.specs.Piece.{Piece}
 use Rattle.framing.specs.Writing.{frameOf, putIn, FramePut}
+use Rattle.framing.specs.Frames.{framesFrom}
 use Rattle.frame.specs.declared.End.{End}
 use Rattle.framing.specs.declared.Written.{Written}
-use Rattle.framing.proofs.Put.{length-collected}
+use Rattle.framing.proofs.Put.{length-frame}
 use Rattle.faults.specs.Message.{isMessage}
 use Rattle.faults.specs.Faults.{faultOf}
 use Rattle.faults.specs.declared.Checked.{Checked}
 use Rattle.records.proofs.Scans.{tailAt, rest-part}
-use Rattle.cutting.specs.Pieces.{Piece, piecesOf}
-use Rattle.cutting.specs.Inner.Wholes.{bytesOf}
-use Rattle.cutting.specs.Frames.{framesFrom, cutOf, isCuttable, refusedAs, uncut, cutAnswer, cutIn, CutInto}
+use Rattle.pieces.specs.Pieces.{firstPiece, piecesOf}
+use Rattle.pieces.specs.Inner.Wholes.{bytesOf}
+use Rattle.pieces.proofs.Steps.{Turn}
+use Rattle.cutting.specs.Frames.{cutOf, isCuttable, refusedAs, uncut, cutAnswer, cutIn, CutInto}
 use Rattle.cutting.specs.declared.Framed.{Framed}
 use Rattle.cutting.specs.declared.Framed.the-variants.{Length, Malformed, NotFitting}
-use Rattle.cutting.proofs.Steps.{firstPiece, Turn}
-
-pub length-frame : (number : ℕ) (end : End) (text : List ℕ) → length (frameOf number end text) ≡ length text + aroundText
-unfolding frameOf
-length-frame number end text = let z = length-collected number end text in omega (arith, z)
 
 -- the frame was put into the part from `at` on, which is back in its place
 pub frame-back : (number : ℕ) (end : End) (text d m b : List ℕ) (at : ℕ) (r : Written) → number ≤ mostNumber

@@ -3,31 +3,22 @@
 use Prim.Native.Nat.{ℕ}
 use mathlib.Core.Path.{_≡_}
 use mathlib.Core.Bool.{Bool, cond, _&&_}
-use mathlib.Core.List.{List, [], _∷_, _++_}
+use mathlib.Core.List.{List, [], _∷_}
 use lib.ListN.{length}
 use lib.Dec.{leb, ltb}
 use Rattle.memory.specs.Parts.{splice}
 use Rattle.memory.specs.Tests.{unless}
-use Rattle.digits.specs.Number.{nextNumber}
+use Rattle.digits.specs.Number.{firstNumber}
 use Rattle.frame.specs.Shape.{aroundText}
-use Rattle.framing.specs.Writing.{frameOf}
+use Rattle.framing.specs.Frames.{framesFrom}
 use Rattle.faults.specs.Message.{isMessage}
 use Rattle.faults.specs.Faults.{faultOf}
 use Rattle.faults.specs.declared.Checked.{Checked}
 use Rattle.faults.specs.declared.Checked.the-variants as checked
 use Rattle.answers.specs.Paper.{faultNumber}
-use Rattle.cutting.specs.Pieces.{Piece, piecesOf}
+use Rattle.pieces.specs.Pieces.{piecesOf}
 use Rattle.cutting.specs.declared.Framed.{Framed}
 use Rattle.cutting.specs.declared.Framed.the-variants.{Length, Malformed, NotFitting, Faulty}
-
--- the number of a message's first frame [C3]
-abbrev pub firstNumber : ℕ
-firstNumber = 1
-
--- a frame for each piece, the first with this number; the numbers run on over the records [C3]
-abbrev pub framesFrom : ℕ → List Piece → List ℕ
-framesFrom number [] = []
-framesFrom number (p ∷ ps) = frameOf number (p .end) (p .bytes) ++ framesFrom (nextNumber number) ps
 
 -- the frames of a text, one behind the other [C4]
 unfoldable pub cutOf : ℕ → List ℕ → List ℕ

@@ -1,3 +1,1 @@
-pub mod Pieces
 pub mod Frames
-pub mod Inner

@@ -1,13 +1,11 @@
 // A message cut into frames in lent memory: each record starts a new frame, and is cut into pieces that fit one.
 ghost use mathlib.Core.Path.{_≡_};
-ghost use lib.ListN.{take};
-ghost use Rattle.cutting.specs.Pieces.{pieceSize, throughCr};
 ghost use Rattle.faults.specs.Faults.{faultOf};
 ghost use Rattle.cutting.specs.Frames.{refusedAs, CutInto};
 use answers::Fault;
 use faults::Checked;
 
-mod pieces; // pieces.rt: where pieces end, and how long the frames are
+mod measuring; // measuring.rt: where pieces end, and how long the frames are
 mod writing; // writing.rt: the frames in lent memory
 
 // The frames' length, or why there are none: of a text that is no message its first fault and the place of that record.
@@ -16,18 +14,6 @@ pub enum Framed {
     Malformed,
     NotFitting,
     Faulty(Fault, u16),
-}
-
-// The length of a text's first piece: through its first CR, or as many bytes as a frame within the limit holds.
-pub fn first_piece(limit: usize, text: &[u8]) -> usize
-    ensures { λ r. ⌜ r ≡ throughCr (take (pieceSize limit) (now (text .entry))) ⌝ }
-{
-    let most = pieces::most_within(limit, text.len());
-    let n = records::index_of(&text[..most], characters::CR);
-    if n == most {
-        return n;
-    }
-    n + 1
 }
 
 // Why a text is not cut, asked only of one that is no message: whoever cuts a message does not wait for it.
@@ -51,7 +37,7 @@ pub fn cut(limit: usize, text: &[u8], out: &mut [u8]) -> Framed
     if !message::is_message(text) {
         return refused(text);
     }
-    let n = pieces::measure(limit, text);
+    let n = measuring::measure(limit, text);
     if out.len() < n {
         return Framed::NotFitting;
     }

@@ -8,29 +8,15 @@ ghost use Rattle.digits.specs.Number.{mostNumber};
 ghost use Rattle.frame.specs.Shape.{aroundText};
 ghost use Rattle.framing.specs.Writing.{frameOf};
 ghost use Rattle.records.specs.Records.{endsWithCr};
-ghost use Rattle.cutting.specs.Pieces.{endAfter};
+ghost use Rattle.pieces.specs.Pieces.{endAfter};
 ghost use Rattle.cutting.specs.Frames.{cutOf};
-use frame::End;
-
-// The number of a message's first frame.
-const FIRST_NUMBER: u8 = 1;
-
-// What ends a piece whose last byte is b: a record ends with CR.
-fn end_after(b: u8) -> End
-    ensures { λ r. ⌜ r ≡ endAfter b ⌝ }
-{
-    if b == characters::CR {
-        return End::Etx;
-    }
-    End::Etb
-}
 
 // The frame of the first n bytes, at `done`.
 fn write_piece(number: u8, text: &[u8], n: usize, out: &mut [u8], done: usize)
     requires { ⌜ (1 ≤ n) × (n ≤ length (now text)) × (number ≤ mostNumber) × (done + (n + aroundText) ≤ length (now out)) ⌝ }
     ensures { λ _. ⌜ now (out .exit) ≡ splice (now (out .entry)) done (frameOf number (endAfter (getD (now (text .entry)) (n - 1) 0)) (take n (now (text .entry)))) ⌝ }
 {
-    let end = end_after(text[n - 1]);
+    let end = pieces::end_after(text[n - 1]);
     framing::put_frame(number, end, &text[..n], &mut out[done..]);
 }
 
@@ -41,10 +27,10 @@ pub fn write_all(limit: usize, text: &[u8], out: &mut [u8])
 {
     let mut at: usize = 0;
     let mut done: usize = 0;
-    let mut number: u8 = FIRST_NUMBER;
+    let mut number: u8 = digits::FIRST_NUMBER;
     while at < text.len() {
         let tail = &text[at..];
-        let n = crate::pieces::piece_length(limit, tail);
+        let n = crate::measuring::piece_length(limit, tail);
         write_piece(number, tail, n, out, done);
         done = done + (n + frame::AROUND_TEXT);
         at = at + n;

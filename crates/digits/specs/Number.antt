@@ -4,6 +4,10 @@ use Prim.Native.Nat.{ℕ, _+_, _-_, _%_}
 use mathlib.Core.Bool.{Bool}
 use Rattle.memory.specs.Tests.{between}
 
+-- the number of the first frame [C3]
+abbrev pub firstNumber : ℕ
+firstNumber = 1
+
 -- the largest number of a frame [F4]
 abbrev pub mostNumber : ℕ
 mostNumber = 7

@@ -5,7 +5,9 @@ ghost use Rattle.digits.specs.Number.{nextNumber};
 
 mod hex; // hex.rt: the digit of a number below 16
 
-// The largest number of a frame.
+// The number of the first frame, and the largest.
+pub const FIRST_NUMBER: u8 = 1;
+
 pub const MOST_NUMBER: u8 = 7;
 
 // The two digits of a check.

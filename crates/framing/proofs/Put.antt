@@ -13,6 +13,7 @@ use Rattle.memory.proofs.Parts.{set-splice, set-behind, splice-join, length-spl
 use Rattle.characters.specs.Control.{stx}
 use Rattle.digits.specs.Check.{total, checkOf}
 use Rattle.digits.specs.Number.{mostNumber}
+use Rattle.frame.specs.Shape.{aroundText}
 use Rattle.framing.specs.Writing.{bodyOf, tailOf, collectedOf, frameOf, putOf, putIn, FramePut}
 use Rattle.digits.proofs.Check.{total-append}
 use Rattle.frame.specs.declared.End.{End}
@@ -63,6 +64,10 @@ length-tail body = refl
 pub length-collected : (number : ℕ) (end : End) (text : List ℕ) → length (collectedOf number end text) ≡ length text + 6
 unfolding collectedOf
 length-collected number end text = rw (length-append, length-body number end text, length-tail (bodyOf number end text)) (omega arith)
+
+pub length-frame : (number : ℕ) (end : End) (text : List ℕ) → length (frameOf number end text) ≡ length text + aroundText
+unfolding frameOf
+length-frame number end text = let z = length-collected number end text in omega (arith, z)
 
 frame-is : (number : ℕ) (end : End) (text : List ℕ) → frameOf number end text ≡ stx ∷ (bodyOf number end text ++ tailOf (bodyOf number end text))
 unfolding frameOf collectedOf

@@ -9,7 +9,8 @@ use lib.ListN.{length, getD, replicate}
 use Rattle.memory.specs.Sizes.{lines, frameLimit}
 use Rattle.memory.specs.Parts.{splice}
 use Rattle.frame.specs.Shape.{leastCollected}
-use Rattle.cutting.specs.Pieces.{Piece, piecesOf}
+use Rattle.frame.specs.Piece.{Piece}
+use Rattle.pieces.specs.Pieces.{piecesOf}
 use Rattle.header.specs.Header.{entrySize}
 use Rattle.room.specs.Room.{todaysShares}
 use Rattle.journal_laws.specs.Held.{Held}

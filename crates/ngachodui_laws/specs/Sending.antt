@@ -10,7 +10,8 @@ use Rattle.memory.specs.Sizes.{lines, frameLimit}
 use Rattle.memory.specs.Parts.{splice}
 use Rattle.frame.specs.Shape.{leastCollected}
 use Rattle.faults.specs.Message.{isMessage}
-use Rattle.cutting.specs.Pieces.{Piece, piecesOf}
+use Rattle.frame.specs.Piece.{Piece}
+use Rattle.pieces.specs.Pieces.{piecesOf}
 use Rattle.header.specs.Entry.{Entry}
 use Rattle.answers.specs.Paper.{ack}
 use Rattle.line.specs.Line.{freshLine}

@@ -23,7 +23,7 @@ use Rattle.answers.specs.declared.Fault.{Fault}
 use Rattle.answers.specs.declared.Fault.the-variants.{NoFinalCr}
 use Rattle.faults.specs.declared.Checked.the-variants.{Faulty}
 use Rattle.faults.proofs.Places.{fault-place, fault-ended, has-fault}
-use Rattle.cutting.proofs.Steps.{ended-some}
+use Rattle.pieces.proofs.Steps.{ended-some}
 use Rattle.room.specs.Room.{todaysShares}
 use Rattle.line.specs.Line.{freshLine}
 use Rattle.line.specs.declared.Line.{Line}

@@ -13,7 +13,7 @@ use Rattle.faults.specs.Message.{isMessageBy}
 use Rattle.kinds.specs.Kinds.{kindOf, typeOf, mayFollow}
 use Rattle.sequence.specs.Numbers.{numberOf}
 use Rattle.cutting.specs.Frames.{cutOf}
-use Rattle.cutting.specs.Pieces.{piecesOf}
+use Rattle.pieces.specs.Pieces.{piecesOf}
 use Rattle.header.specs.Header.{headSize}
 use Rattle.room.specs.Room.{claims}
 use Rattle.journal.specs.Storage.{grown}

@@ -14,7 +14,7 @@ use Rattle.digits.specs.Number.{nextNumber}
 use Rattle.framing.specs.Writing.{bodyOf, tailOf, collectedOf, frameOf}
 use Rattle.faults.specs.Message.{isMessage}
 use Rattle.cutting.specs.Frames.{cutOf}
-use Rattle.cutting.specs.Pieces.{piecesOf}
+use Rattle.pieces.specs.Pieces.{piecesOf}
 use Rattle.header.specs.Header.{headSize}
 use Rattle.header.specs.Entry.{Entry}
 use Rattle.room.specs.Room.{todaysShares, claims}

@@ -13,7 +13,7 @@ use Rattle.frame.specs.declared.End.the-variants.{Etb, Etx}
 use Rattle.faults.specs.Message.{isMessage}
 use Rattle.records.specs.Records.{records, none, onto, endsWithCr}
 use Rattle.faults.proofs.Messages.{message-ends, message-decided}
-use Rattle.cutting.specs.Pieces.{endAfter}
+use Rattle.pieces.specs.Pieces.{endAfter}
 use Rattle.looking.specs.Looks.{endLook}
 use Rattle.looking.specs.declared.Look.the-variants.{Done, Decides}
 use Rattle.looking.specs.Verdicts.{Accepts}

@@ -9,12 +9,14 @@ use native.Mathlib.Omega.{arith}
 use lib.ListN.{length}
 use Rattle.memory.specs.Sizes.{lines, frameLimit}
 use Rattle.memory.proofs.Parts.{part-start}
-use Rattle.digits.specs.Number.{nextNumber}
+use Rattle.digits.specs.Number.{firstNumber, nextNumber}
 use Rattle.framing.specs.Writing.{frameOf}
 use Rattle.faults.specs.Message.{isMessage}
 use Rattle.faults.proofs.Messages.{message-some, message-short}
-use Rattle.cutting.specs.Pieces.{Piece, piecesOf}
-use Rattle.cutting.specs.Frames.{firstNumber, framesFrom, cutOf}
+use Rattle.frame.specs.Piece.{Piece}
+use Rattle.pieces.specs.Pieces.{piecesOf}
+use Rattle.framing.specs.Frames.{framesFrom}
+use Rattle.cutting.specs.Frames.{cutOf}
 use Rattle.line.specs.Line.{freshLine, openedLine, closedLine}
 use Rattle.characters.specs.Control.{enq, eot}
 use Rattle.line.specs.declared.Line.{Line}

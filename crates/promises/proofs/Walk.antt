@@ -15,9 +15,10 @@ use Rattle.framing.specs.Writing.{frameOf}
 use Rattle.frame.specs.declared.End.{End}
 use Rattle.framing.proofs.ReadBack.{early, long}
 use Rattle.faults.specs.Message.{isMessage}
-use Rattle.cutting.specs.Pieces.{Piece, piece, pieceSize, piecesOf, endAfter, throughCr}
-use Rattle.cutting.specs.Frames.{framesFrom}
-use Rattle.cutting.proofs.Steps.{turn, firstPiece}
+use Rattle.frame.specs.Piece.{Piece, piece}
+use Rattle.pieces.specs.Pieces.{pieceSize, piecesOf, endAfter, throughCr, firstPiece}
+use Rattle.framing.specs.Frames.{framesFrom}
+use Rattle.pieces.proofs.Steps.{turn}
 use Rattle.records.proofs.Scans.{tailAt, rest-part}
 use Rattle.line.specs.declared.Line.{Line}
 use Rattle.answers.specs.declared.Answer.{Answer}

@@ -9,10 +9,13 @@ use mathlib.Core.Option.{some}
 use lib.ListN.{length, getD, replicate}
 use Rattle.memory.specs.Sizes.{lines, frameLimit, journalSize, unfinishedSize, framesSize}
 use Rattle.memory.specs.Parts.{splice}
+use Rattle.digits.specs.Number.{firstNumber}
 use Rattle.frame.specs.Shape.{aroundText, leastCollected}
 use Rattle.faults.specs.Message.{isMessage}
-use Rattle.cutting.specs.Pieces.{Piece, piecesOf}
-use Rattle.cutting.specs.Frames.{firstNumber, framesFrom, cutOf}
+use Rattle.frame.specs.Piece.{Piece}
+use Rattle.pieces.specs.Pieces.{piecesOf}
+use Rattle.framing.specs.Frames.{framesFrom}
+use Rattle.cutting.specs.Frames.{cutOf}
 use Rattle.line.specs.Line.{freshLine, withinLimits}
 use Rattle.characters.specs.Control.{enq, eot}
 use Rattle.answers.specs.declared.Answer.{Answer}

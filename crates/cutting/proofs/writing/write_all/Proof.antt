@@ -13,7 +13,7 @@ use Rattle.digits.specs.Number.{mostNumber, nextNumber}
 use Rattle.frame.specs.Shape.{aroundText}
 use Rattle.records.proofs.Scans.{tailAt, rest-part}
 use Rattle.cutting.specs.Frames.{cutOf}
-use Rattle.cutting.proofs.Steps.{Turn, turn, ended-tail}
+use Rattle.pieces.proofs.Steps.{Turn, turn, ended-tail}
 use Rattle.cutting.proofs.Written.{left, left-long, written-on, left-none}
 use Rattle.cutting.proofs.writing.write_all.Statement.{statement}
 use Rattle.cutting.proofs.writing.write_all.Tie as tie

@@ -1,4 +1,4 @@
--- `cutting::pieces::measure` meets its contract: what is measured and what is left are the length of all frames.
+-- `cutting::measuring::measure` meets its contract: what is measured and what is left are the length of all frames.
 -- Assumes nothing.
 use mathlib.Core.Path.{_≡_, ap}
 use mathlib.Core.List.{List}
@@ -8,10 +8,10 @@ use borrow.Author.Needs.{needs}
 use denote.Ref.{now}
 use lib.ListN.{length, drop, drop-of-length-le}
 use Rattle.frame.specs.Shape.{aroundText}
-use Rattle.cutting.specs.Pieces.{piecesOf}
-use Rattle.cutting.proofs.Steps.{Turn, turn, ended-tail}
-use Rattle.cutting.proofs.pieces.measure.Statement.{statement}
-use Rattle.cutting.proofs.pieces.measure.Tie as tie
+use Rattle.pieces.specs.Pieces.{piecesOf}
+use Rattle.pieces.proofs.Steps.{Turn, turn, ended-tail}
+use Rattle.cutting.proofs.measuring.measure.Statement.{statement}
+use Rattle.cutting.proofs.measuring.measure.Tie as tie
 
 -- before a turn: what is measured and what is left are the length of all frames
 record Measuring (limit : ℕ) (text : List ℕ) (at total : ℕ) : Type 0 where

@@ -1,8 +1,8 @@
--- `cutting::writing::end_after` meets its contract.
+-- `pieces::end_after` meets its contract.
 -- Assumes nothing.
 use Rattle.memory.proofs.Branches.{branches}
-use Rattle.cutting.proofs.writing.end_after.Statement.{statement}
-use Rattle.cutting.proofs.writing.end_after.Tie as tie
+use Rattle.pieces.proofs.end_after.Statement.{statement}
+use Rattle.pieces.proofs.end_after.Tie as tie
 
 returns : tie.Need-returns
 returns c = search branches

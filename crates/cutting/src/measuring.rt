@@ -1,27 +1,14 @@
 // Where the pieces of a text end, and how long their frames are.
 ghost use mathlib.Core.Path.{_≡_};
 ghost use mathlib.Core.Bool.{true};
-ghost use Prim.Native.Nat.{_+_, _*_, _<_, _≤_, min};
+ghost use Prim.Native.Nat.{_+_, _*_, _<_, _≤_};
 ghost use lib.ListN.{length, take};
 ghost use Rattle.memory.specs.Sizes.{messageLimit};
 ghost use Rattle.frame.specs.Shape.{aroundText};
 ghost use Rattle.records.specs.Records.{endsWithCr};
-ghost use Rattle.cutting.specs.Pieces.{pieceSize, piecesOf, throughCr};
+ghost use Rattle.pieces.specs.Pieces.{pieceSize, piecesOf, throughCr};
 
-// How many of so many bytes a frame within the limit holds.
-pub fn most_within(limit: usize, bytes: usize) -> usize
-    ensures { λ r. ⌜ r ≡ min (pieceSize limit) bytes ⌝ }
-{
-    if limit <= frame::AROUND_TEXT {
-        return 0;
-    }
-    if limit - frame::AROUND_TEXT < bytes {
-        return limit - frame::AROUND_TEXT;
-    }
-    bytes
-}
-
-// The length of a text's first piece, as `first_piece` gives it, but without its tests. The text ends with CR, so the scan for one needs no test for the text's end.
+// The length of a text's first piece, as `pieces::first_piece` gives it, but without its tests. The text ends with CR, so the scan for one needs no test for the text's end.
 pub fn piece_length(limit: usize, text: &[u8]) -> usize
     requires { ⌜ (aroundText < limit) × (endsWithCr (now text) ≡ true) ⌝ }
     ensures { λ r. ⌜ r ≡ throughCr (take (pieceSize limit) (now (text .entry))) ⌝ }

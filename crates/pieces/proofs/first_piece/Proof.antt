@@ -1,4 +1,4 @@
--- `cutting::first_piece` meets its contract: among the bytes that a frame holds, the first CR decides.
+-- `pieces::first_piece` meets its contract: among the bytes that a frame holds, the first CR decides.
 -- Assumes nothing.
 use mathlib.Core.Path.{_≡_, sym, ap, _∙_}
 use Prim.Native.Nat.{ℕ, _+_, _≤_}
@@ -10,10 +10,10 @@ use lib.Seq.{length-take-le}
 use Rattle.memory.specs.Tests.{is, find}
 use Rattle.memory.proofs.Tests.{find-le}
 use Rattle.characters.specs.Control.{cr}
-use Rattle.cutting.specs.Pieces.{pieceSize, throughCr}
-use Rattle.cutting.proofs.Steps.{through-none, through-found, take-most}
-use Rattle.cutting.proofs.first_piece.Statement.{statement}
-use Rattle.cutting.proofs.first_piece.Tie as tie
+use Rattle.pieces.specs.Pieces.{pieceSize, throughCr}
+use Rattle.pieces.proofs.Steps.{through-none, through-found, take-most}
+use Rattle.pieces.proofs.first_piece.Statement.{statement}
+use Rattle.pieces.proofs.first_piece.Tie as tie
 
 -- the bytes that a frame holds are those lent to the scan
 abbrev start : tie.After-most-within → tie.Start

@@ -14,11 +14,12 @@ use lib.Seq.{drop-drop, drop-cons, getD-drop, getD-take, take-all, take-add, tak
 use Rattle.memory.specs.Tests.{is, find}
 use Rattle.characters.specs.Control.{cr}
 use Rattle.frame.specs.Shape.{aroundText}
+use Rattle.frame.specs.Piece.{Piece, piece}
 use Rattle.records.specs.Records.{onto, endsWithCr}
 use Rattle.frame.specs.declared.End.{End}
 use Rattle.frame.specs.declared.End.the-variants.{Etb}
 use Rattle.records.proofs.Scans.{tailAt, rest-part}
-use Rattle.cutting.specs.Pieces.{Piece, piece, pieceSize, recordsWithCr, chunksWithin, chunks, ended, cutRecord, cutAll, piecesOf, endAfter, throughCr}
+use Rattle.pieces.specs.Pieces.{pieceSize, recordsWithCr, chunksWithin, chunks, ended, cutRecord, cutAll, piecesOf, endAfter, throughCr, firstPiece}
 
 -- a text that ends with CR has a byte, and one that is not CR has another behind it
 pub ended-some : (text : List ℕ) → endsWithCr text ≡ true → 0 < length text
@@ -97,10 +98,6 @@ through-some (b ∷ s) h = by-first (is cr b)
     by-first : (a : Bool) → 1 ≤ cond a 1 (suc (throughCr s))
     by-first true = omega arith
     by-first false = omega arith
-
--- the first n bytes of a text as a piece
-abbrev pub firstPiece : ℕ → List ℕ → Piece
-firstPiece n text = piece (endAfter (getD text (n - 1) 0)) (take n text)
 
 -- the first of a text's records with its CR
 through-take : (size : ℕ) (text : List ℕ) → throughCr (take size text) ≡ min size (throughCr text)

@@ -1,13 +1,13 @@
--- What the laws of cutting say of pieces: their bytes, their sizes, and which of them go on.
+-- What the laws say of pieces: their bytes, their sizes, and which of them go on.
 -- Assumes nothing.
 use Prim.Native.Nat.{ℕ}
 use mathlib.Core.Bool.{Bool, true, false, _&&_}
 use mathlib.Core.List.{List, [], _∷_, _++_}
 use lib.ListN.{length}
 use Rattle.memory.specs.Tests.{between}
+use Rattle.frame.specs.Piece.{Piece}
 use Rattle.frame.specs.declared.End.{End}
 use Rattle.frame.specs.declared.End.the-variants.{Etb, Etx}
-use Rattle.cutting.specs.Pieces.{Piece}
 
 -- the bytes of pieces, joined
 abbrev pub bytesOf : List Piece → List ℕ

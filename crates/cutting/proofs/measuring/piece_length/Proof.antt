@@ -1,4 +1,4 @@
--- `cutting::pieces::piece_length` meets its contract: the bytes from n on decide, and there is one at n.
+-- `cutting::measuring::piece_length` meets its contract: the bytes from n on decide, and there is one at n.
 -- Assumes nothing.
 use mathlib.Core.Path.{_≡_}
 use mathlib.Core.List.{List}
@@ -8,10 +8,10 @@ use native.Mathlib.Omega.{arith}
 use borrow.Author.Needs.{needs}
 use denote.Ref.{now}
 use lib.ListN.{length, take, drop}
-use Rattle.cutting.specs.Pieces.{pieceSize, throughCr}
-use Rattle.cutting.proofs.Steps.{ended-some, ended-next, through-stop, through-next, through-all}
-use Rattle.cutting.proofs.pieces.piece_length.Statement.{statement}
-use Rattle.cutting.proofs.pieces.piece_length.Tie as tie
+use Rattle.pieces.specs.Pieces.{pieceSize, throughCr}
+use Rattle.pieces.proofs.Steps.{ended-some, ended-next, through-stop, through-next, through-all}
+use Rattle.cutting.proofs.measuring.piece_length.Statement.{statement}
+use Rattle.cutting.proofs.measuring.piece_length.Tie as tie
 
 -- before a turn: what is left of the piece, from n on, decides
 record Scanning (limit : ℕ) (text : List ℕ) (n : ℕ) : Type 0 where

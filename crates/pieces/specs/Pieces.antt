@@ -7,17 +7,10 @@ use lib.ListN.{length, getD, take, drop}
 use Rattle.memory.specs.Tests.{is}
 use Rattle.characters.specs.Control.{cr}
 use Rattle.frame.specs.Shape.{aroundText}
+use Rattle.frame.specs.Piece.{Piece, piece}
 use Rattle.frame.specs.declared.End.{End}
 use Rattle.frame.specs.declared.End.the-variants.{Etb, Etx}
 use Rattle.records.specs.Records.{onto}
-
--- a piece: what ends its frame's text, and that text
-pub record Piece : Type 0 where
-  pub end : End
-  pub bytes : List ℕ
-
-abbrev pub piece : End → List ℕ → Piece
-piece end bytes = record { end = end; bytes = bytes }
 
 -- the bytes of a frame's text within a limit: 240 of 247 [C2]
 abbrev pub pieceSize : ℕ → ℕ
@@ -63,3 +56,7 @@ piecesOf limit text = cutAll (pieceSize limit) (recordsWithCr text)
 abbrev pub throughCr : List ℕ → ℕ
 throughCr [] = 0
 throughCr (b ∷ bs) = cond (is cr b) 1 (suc (throughCr bs))
+
+-- the first n bytes of a text as a piece
+abbrev pub firstPiece : ℕ → List ℕ → Piece
+firstPiece n text = piece (endAfter (getD text (n - 1) 0)) (take n text)
