@@ -10,7 +10,7 @@ use borrow.Author.Tests.{leb-true, le-leb, ltb-true, eqb-true}
 use lib.Dec.{leb, ltb, eqb}
 use lib.ListN.{getD, set}
 use lib.Seq.{set-getD, getD-set-other}
-use Rattle.memory.specs.Sizes.{lines, messageLimit}
+use Rattle.memory.specs.Sizes.{lines, messageLimit, frameLimit}
 use Rattle.memory.proofs.Tests.{and-left, and-right}
 use Rattle.digits.specs.Number.{mostNumber}
 use Rattle.line.specs.Line.{mostCollected, mostSeconds, mostTries, lastWithin, sendingWithin, stateWithin, withinLimits, collectedLine, begunLine}
@@ -54,6 +54,21 @@ module _ (ns : List ℕ) (i : ℕ) where
         refusing = leb-true _ _ (and-left (leb (numberAt ns i 6) 1) _ rest₆);
         sending = and-right (leb (numberAt ns i 6) 1) _ rest₆;
       }
+
+-- where its other numbers are within their limits, a line's state, tries and place tell
+pub within-rest : (ns : List ℕ) (i : ℕ) → firstAt ns i ≤ offering → numberAt ns i 1 ≤ frameLimit - 2 → numberAt ns i 2 ≤ messageLimit → numberAt ns i 3 ≤ mostSeconds
+    → numberAt ns i 4 ≤ mostNumber → numberAt ns i 5 ≤ mostNumber + 1 → numberAt ns i 6 ≤ 1 → withinNumbers ns i ≡ sendingFits (firstAt ns i) (numberAt ns i 8) (numberAt ns i 9)
+unfolding withinNumbers mostCollected
+within-rest ns i s c j t n l r =
+    rw (
+      le-leb (firstAt ns i) offering s,
+      le-leb (numberAt ns i 1) (frameLimit - 2) c,
+      le-leb (numberAt ns i 2) messageLimit j,
+      le-leb (numberAt ns i 3) mostSeconds t,
+      le-leb (numberAt ns i 4) mostNumber n,
+      le-leb (numberAt ns i 5) (mostNumber + 1) l,
+      le-leb (numberAt ns i 6) 1 r,
+    )
 
 -- no state has more tries than six
 pub few-tries : (n tries place : ℕ) → sendingFits n tries place ≡ true → tries ≤ 255

@@ -1,9 +1,14 @@
 -- `numbers::plain::is_within` meets its contract.
 -- Assumes nothing.
+use mathlib.Core.Path.{_≡_, sym, _∙_}
+use native.Mathlib.Omega.{arith}
+use denote.Ref.{now}
 use borrow.Author.Needs.{needs}
 use Rattle.memory.proofs.Branches.{branches}
 use Rattle.line.specs.Line.{mostCollected}
-use Rattle.numbers.specs.Plain.{withinNumbers}
+use Rattle.numbers.specs.Plain.{withinNumbers, sendingFits}
+use Rattle.layout.specs.Layout.{firstAt, numberAt}
+use Rattle.numbers.proofs.Numbers.{within-rest}
 use Rattle.numbers.proofs.plain.is_within.Statement.{statement}
 use Rattle.numbers.proofs.plain.is_within.Tie as tie
 
@@ -35,9 +40,19 @@ returns-7 : tie.Need-returns-7
 unfolding withinNumbers mostCollected
 returns-7 c = search branches
 
+-- where the function was entered, from behind its fourth test
+abbrev entry : tie.Else4 → tie.Start
+entry c = let past = c .before .before in let first = past .before .before .before .before in first .before .before
+
+-- behind the test of the seventh number
+counted : (c : tie.Else7) → let a = entry (c .before .before .before .before .before .before) .args in
+    withinNumbers (now (a .numbers)) (a .i) ≡ sendingFits (firstAt (now (a .numbers)) (a .i)) (numberAt (now (a .numbers)) (a .i) 8) (numberAt (now (a .numbers)) (a .i) 9)
+counted c =
+    let a = entry (c .before .before .before .before .before .before) .args in
+    within-rest (now (a .numbers)) (a .i) (omega arith) (omega arith) (omega arith) (omega arith) (omega arith) (omega arith) (omega arith)
+
 returns-8 : tie.Need-returns-8
-unfolding withinNumbers mostCollected
-returns-8 c = search (branches, c .sending-fits .ensures)
+returns-8 c = let past = c .before .before .before .before in c .sending-fits .ensures ∙ sym (counted past)
 
 pub is-within-spec : {M : Type 1} → statement M
 is-within-spec =

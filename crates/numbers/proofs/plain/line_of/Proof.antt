@@ -3,6 +3,7 @@
 use borrow.Author.Needs.{needs}
 use native.Mathlib.Omega.{arith}
 use denote.Ref.{now}
+use Rattle.layout.specs.Layout.{firstAt, numberAt}
 use Rattle.numbers.proofs.Numbers.{WithinNumbers, numbers-facts, few-tries}
 use Rattle.numbers.proofs.plain.line_of.Statement.{statement}
 use Rattle.numbers.proofs.plain.line_of.Tie as tie
@@ -12,7 +13,9 @@ facts : (s : tie.Start) → WithinNumbers (now (s .args .numbers)) (s .args .i)
 facts s = numbers-facts (now (s .args .numbers)) (s .args .i) (s .pre .1)
 
 state-of-requires : tie.Need-state-of-requires
-state-of-requires c κs = let start = c .before .before .before in few-tries _ _ _ (facts start .sending)
+state-of-requires c κs = let start = c .before .before .before in let ns = now (start .args .numbers) in
+    let i = start .args .i in
+    few-tries (firstAt ns i) (numberAt ns i 8) (numberAt ns i 9) (facts start .sending)
 
 last-of-requires : tie.Need-last-of-requires
 last-of-requires c κs = let stated = c .before in let w = facts (stated .before .before .before .before) in omega (arith, w .last)
