@@ -83,7 +83,7 @@ take-most zero s = simp unary-clauses
 take-most (suc size) [] = simp unary-clauses
 take-most (suc size) (b ∷ s) = simp unary-clauses (ap (λ (t : List ℕ). b ∷ t) (take-most size s))
 
-through-most : (s : List ℕ) → throughCr s ≤ length s
+pub through-most : (s : List ℕ) → throughCr s ≤ length s
 through-most [] = omega arith
 through-most (b ∷ s) = by-first (is cr b) (through-most s)
   where
@@ -91,7 +91,7 @@ through-most (b ∷ s) = by-first (is cr b) (through-most s)
     by-first true g = omega arith
     by-first false g = omega arith
 
-through-some : (s : List ℕ) → 0 < length s → 1 ≤ throughCr s
+pub through-some : (s : List ℕ) → 0 < length s → 1 ≤ throughCr s
 through-some [] h = absurd (omega arith)
 through-some (b ∷ s) h = by-first (is cr b)
   where

@@ -1,0 +1,2 @@
+pub mod Onward
+pub mod Offered
