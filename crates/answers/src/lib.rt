@@ -1,7 +1,7 @@
 // The answers, their numbers, and the byte that goes out with each.
 ghost use mathlib.Core.Path.{_≡_};
 ghost use Rattle.answers.specs.Paper.{faultNumber, numberOf, placeOf, replyOf, parcelByte, firstOut};
-ghost use Rattle.answers.specs.InNumbers.{replyByte, inNumbers as InNumbers·inNumbers};
+ghost use Rattle.answers.specs.InNumbers.{replyByte, inNumbers as InNumbers·inNumbers, done as InNumbers·done, refusedWith};
 use characters::ENQ;
 use characters::EOT;
 use characters::STX;
@@ -226,5 +226,42 @@ fn reply_byte(reply: Reply) -> u8
     match reply {
         Reply::Silence => 0,
         Reply::Byte(b) => b,
+    }
+}
+
+// What became of a text: 0 and how much was written (bytes, or records that were read); or the number of a refusal, the place of the
+// record that is wrong, and 0. The other fields are 0 in this version: as in an answer, no byte is left unnamed.
+#[repr(C)]
+pub struct Made {
+    pub number: u8,
+    pub spare: u8,
+    pub place: u16,
+    pub value: u32,
+    pub length: usize,
+}
+
+// So much was written.
+pub fn done(n: usize) -> Made
+    ensures { λ r. ⌜ r ≡ InNumbers·done n ⌝ }
+{
+    Made {
+        number: 0,
+        spare: 0,
+        place: 0,
+        value: 0,
+        length: n,
+    }
+}
+
+// Nothing was written, with this answer.
+pub fn refused_with(answer: Answer) -> Made
+    ensures { λ r. ⌜ r ≡ refusedWith answer ⌝ }
+{
+    Made {
+        number: answer.number(),
+        spare: 0,
+        place: answer.place(),
+        value: 0,
+        length: 0,
     }
 }

@@ -1,12 +1,13 @@
 // What a host keeps in plain numbers:
-//   numbers  eight for each line: state (0 neutral, 1 waiting, 2 inside), collected, joined, seconds, next number,
-//            last number (0 for none, else one more than it), refusing (0 or 1), the serial of its next entry
+//   numbers  sixteen for each line: state (0 neutral, 1 waiting, 2 inside, 3 asking, 4 pausing, 5 offering), collected, joined,
+//            seconds, next number, last number (0 for none, else one more than it), refusing (0 or 1), the serial of its next
+//            entry, tries and place of its sending (0 where it is not sending), and six that are spare
 //   counts   each line's used count, then how many bytes of the journal are in use
 ghost use mathlib.Core.Path.{_≡_};
 ghost use Rattle.layout.specs.Layout.{layout, Fresh};
 
 // A line's numbers are so many; the first is its state, and the others stand so far behind it.
-pub const FIELDS: usize = 8;
+pub const FIELDS: usize = 16;
 
 pub const COLLECTED: usize = 1;
 
@@ -22,13 +23,17 @@ pub const REFUSING: usize = 6;
 
 pub const SERIAL: usize = 7;
 
+pub const TRIES: usize = 8;
+
+pub const PLACE: usize = 9;
+
 // How many numbers all lines have; and how many counts: each line's used count, then the bytes in use.
 pub const NUMBERS: usize = memory::LINES * FIELDS;
 
 pub const COUNTS: usize = memory::LINES + 1;
 
-// The version of the layout, which ends the name of `ngachodui_fresh_1` too: an object of another version finds no such function.
-const VERSION: u32 = 1;
+// The version of the layout, which ends the name of `ngachodui_fresh_2` too: an object of another version finds no such function.
+const VERSION: u32 = 2;
 
 // The layout that the library was compiled for: its version, how many numbers and counts, and the sizes of the three memories.
 #[repr(C)]

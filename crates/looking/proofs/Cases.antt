@@ -17,28 +17,35 @@ use Rattle.frame.specs.declared.Shape.{Shape}
 use Rattle.frame.specs.declared.Shape.the-variants.{Unended as NotEnded, Torn as IsTorn, WrongCheck as Unchecked, BadText as Foreign, BadNumber as Unnumbered, Whole}
 use Rattle.frame.proofs.Passed.{accepted-size}
 use Rattle.records.specs.Records.{endsWithCr, endsWithL}
-use Rattle.line.specs.Line.{mostCollected, mostSeconds}
+use Rattle.line.specs.Line.{mostCollected, mostSeconds, sendingWithin}
 use Rattle.line.specs.Seconds.{passedOf}
 use Rattle.line.specs.Turn.{turnOf}
 use Rattle.characters.specs.Control.{enq, eot}
 use Rattle.line.specs.declared.Line.{Line}
-use Rattle.answers.specs.declared.Answer.the-variants.{Nothing, Repeated, Ended, Dropped, TimedOut, Busy, Unended, Torn, WrongCheck, BadText, BadNumber, Refusing, OutOfTurn, TooLong, NoCr}
+use Rattle.answers.specs.declared.Answer.the-variants.{Nothing, Repeated, Ended, Dropped, TimedOut, Busy, Unended, Torn, WrongCheck, BadText, BadNumber, Refusing, OutOfTurn, TooLong, NoCr, Sends, GivenUp}
+use Rattle.answers.specs.declared.Parcel.the-variants.{Ending}
 use Rattle.line.specs.declared.State.{State}
-use Rattle.line.specs.declared.State.the-variants.{Neutral, Waiting, Inside}
+use Rattle.line.specs.declared.State.the-variants.{Neutral, Waiting, Inside, Out}
+use Rattle.line.specs.declared.Sending.{Sending}
+use Rattle.digits.specs.Number.{mostNumber}
+use Rattle.sending.specs.Onward.{byteOnward, secondsOnward}
+use Rattle.sending.specs.declared.Onward.{Onward}
+use Rattle.sending.specs.declared.Onward.the-variants.{Stays, Waits, Goes, Ends, GivesUp}
+use Rattle.sending.proofs.Fits.{OnwardFits, byte-fits, seconds-fits}
 use Rattle.line.specs.declared.Passed.the-variants.{Counted, RanOut}
 use Rattle.line.specs.declared.Turn.{Turn}
 use Rattle.line.specs.declared.Turn.the-variants.{Refused, Again, Missed, Overlong, InTurn}
 use Rattle.line.proofs.Limits.{within-facts}
 use Rattle.line.proofs.Turns.{in-turn-due}
-use Rattle.looking.specs.Views.{frameBytes, joinedText}
+use Rattle.looking.specs.Views.{frameBytes, unfinishedText, joinedText}
 use Rattle.looking.specs.Inner.Ready.{Own}
-use Rattle.looking.specs.Looks.{endLook, turnLook, shapeLook, frameLook, neutralLook, waitingLook, insideLook, byState, passedLook, byteLook, secondsLook, lookOf}
+use Rattle.looking.specs.Looks.{endLook, turnLook, shapeLook, frameLook, neutralLook, waitingLook, insideLook, byState, passedLook, onwardLook, byteLook, secondsLook, lookOf}
 use Rattle.looking.specs.Inner.Fitting.{TextFits}
 use Rattle.looking.specs.declared.Kind.{Kind}
 use Rattle.looking.specs.declared.Kind.the-variants.{Byte, Seconds}
 use Rattle.looking.specs.declared.Look.{Look}
 use Rattle.looking.specs.declared.Look.the-variants.{Done, Decides}
-use Rattle.looking.specs.Verdicts.{Left, Opens, Closes, Begins, Counts, Collects, Refuses, Accepts}
+use Rattle.looking.specs.Verdicts.{Left, Opens, Closes, Begins, Counts, Collects, Refuses, Accepts, Awaits, GoesOn}
 use Rattle.looking.proofs.Views.{length-frame}
 
 -- the cases, with what is known in each
@@ -64,16 +71,28 @@ pub record Cases (P : Look → Type 0) (l : Line) : Type 0 where
   pub no-cr : P (Done (Refuses NoCr))
   pub accepts : (n : ℕ) → TextFits l n → P (Done (Accepts n))
   pub decides : (n : ℕ) → TextFits l n → P (Decides n)
+  pub awaits : (n : ℕ) → n ≤ mostSeconds → P (Done (Awaits n))
+  pub goes : (s : Sending) (n : ℕ) → sendingWithin s ≡ true → n ≤ mostNumber → P (Done (GoesOn s n))
+  pub over : P (Done (Closes (Sends Ending)))
+  pub given-up : P (Done (Closes GivenUp))
 
 module _ (P : Look → Type 0) (l : Line) (c : Cases P l) where
   by-test : (t : Bool) (x y : Look) → P x → P y → P (cond t x y)
   by-test true x y p q = p
   by-test false x y p q = q
 
-  by-states : (s : State) (x y z : Look) → P x → P y → P z → P (byState s x y z)
-  by-states Neutral x y z p q r = p
-  by-states Waiting x y z p q r = q
-  by-states Inside x y z p q r = r
+  by-states : (s : State) (x y z : Look) (o : Sending → Look) → P x → P y → P z → ((t : Sending) → s ≡ Out t → P (o t)) → P (byState s x y z o)
+  by-states Neutral x y z o p q r f = p
+  by-states Waiting x y z o p q r f = q
+  by-states Inside x y z o p q r f = r
+  by-states (Out t) x y z o p q r f = f t refl
+
+  by-onward : (o : Onward) → OnwardFits o → P (onwardLook o)
+  by-onward Stays h = c .ignored
+  by-onward (Waits n) h = c .awaits n h
+  by-onward (Goes s n) h = c .goes s n (h .0) (h .1)
+  by-onward Ends h = c .over
+  by-onward GivesUp h = c .given-up
 
   by-seconds : (s : ℕ) → P (passedLook (passedOf l s))
   unfolding passedOf
@@ -132,5 +151,7 @@ module _ (P : Look → Type 0) (l : Line) (c : Cases P l) where
 
     pub every-look : (k : Kind) → P (lookOf l k t f)
     unfolding byteLook secondsLook
-    every-look (Byte b) = by-states (l .state) _ _ _ (by-neutral b) (by-waiting b) (by-inside b)
-    every-look (Seconds s) = by-states (l .state) _ _ _ (c .ignored) (by-seconds s) (by-seconds s)
+    every-look (Byte b) =
+        by-states (l .state) _ _ _ _ (by-neutral b) (by-waiting b) (by-inside b)
+        (λ s e. by-onward (byteOnward frameLimit l s b (unfinishedText l t)) (byte-fits frameLimit l s b (unfinishedText l t) (own .within) e))
+    every-look (Seconds n) = by-states (l .state) _ _ _ _ (c .ignored) (by-seconds n) (by-seconds n) (λ s e. by-onward (secondsOnward l s n) (seconds-fits l s n (own .within) e))

@@ -26,18 +26,22 @@ use Rattle.line.specs.Seconds.{passedOf}
 use Rattle.line.specs.Turn.{turnOf}
 use Rattle.line.specs.declared.Line.{Line}
 use Rattle.line.specs.declared.State.{State}
-use Rattle.line.specs.declared.State.the-variants.{Neutral, Waiting, Inside}
+use Rattle.line.specs.declared.State.the-variants.{Neutral, Waiting, Inside, Out}
+use Rattle.line.specs.declared.Sending.{Sending}
+use Rattle.sending.specs.Onward.{byteOnward, secondsOnward}
+use Rattle.sending.specs.declared.Onward.{Onward}
+use Rattle.sending.specs.declared.Onward.the-variants.{Stays, Waits, Goes, Ends, GivesUp}
 use Rattle.line.specs.declared.Passed.{Passed}
 use Rattle.line.specs.declared.Passed.the-variants.{Counted, RanOut}
 use Rattle.line.specs.declared.Turn.{Turn}
 use Rattle.line.specs.declared.Turn.the-variants.{Refused, Again, Missed, Overlong, InTurn}
 use Rattle.line.proofs.Turns.{in-turn-due}
 use Rattle.answers.specs.declared.Answer.the-variants.{NoCr}
-use Rattle.looking.specs.Views.{frameBytes, frameText, joinedText}
-use Rattle.looking.specs.Looks.{endLook, turnLook, shapeLook, frameLook, neutralLook, waitingLook, insideLook, byState, passedLook, byteLook, secondsLook, lookOf}
+use Rattle.looking.specs.Views.{frameBytes, frameText, unfinishedText, joinedText}
+use Rattle.looking.specs.Looks.{endLook, turnLook, shapeLook, frameLook, neutralLook, waitingLook, insideLook, byState, passedLook, onwardLook, byteLook, secondsLook, lookOf}
 use Rattle.looking.specs.Verdicts.{Collects, Refuses, Accepts}
 use Rattle.looking.specs.declared.Act.{Act}
-use Rattle.looking.specs.declared.Act.the-variants.{Leave, Open, Close, Begin, Count, Collect, Refuse, Accept, Store, Object}
+use Rattle.looking.specs.declared.Act.the-variants.{Leave, Open, Close, Begin, Count, Collect, Refuse, Accept, Store, Object, Go}
 use Rattle.looking.specs.declared.Kind.{Kind}
 use Rattle.looking.specs.declared.Kind.the-variants.{Byte, Seconds}
 use Rattle.looking.specs.declared.Look.{Look}
@@ -60,6 +64,7 @@ ActJoins Refuse l texts frames = Unit {0}
 ActJoins (Accept n) l texts frames = Joinable l n texts frames
 ActJoins (Store n) l texts frames = Unit {0}
 ActJoins (Object n) l texts frames = Unit {0}
+ActJoins (Go s n) l texts frames = Unit {0}
 
 abbrev pub LookJoins : Look → Line → List ℕ → List ℕ → Type 0
 LookJoins (Done v) l texts frames = ActJoins (v .act) l texts frames
@@ -93,10 +98,18 @@ module _ (l : Line) (texts frames : List ℕ) where
   by-test true x y p q = p
   by-test false x y p q = q
 
-  by-states : (s : State) (x y z : Look) → Joins x → Joins y → Joins z → Joins (byState s x y z)
-  by-states Neutral x y z p q r = p
-  by-states Waiting x y z p q r = q
-  by-states Inside x y z p q r = r
+  by-states : (s : State) (x y z : Look) (o : Sending → Look) → Joins x → Joins y → Joins z → ((t : Sending) → Joins (o t)) → Joins (byState s x y z o)
+  by-states Neutral x y z o p q r f = p
+  by-states Waiting x y z o p q r f = q
+  by-states Inside x y z o p q r f = r
+  by-states (Out t) x y z o p q r f = f t
+
+  by-onward : (o : Onward) → Joins (onwardLook o)
+  by-onward Stays = tt
+  by-onward (Waits n) = tt
+  by-onward (Goes s n) = tt
+  by-onward Ends = tt
+  by-onward GivesUp = tt
 
   by-passed : (p : Passed) → Joins (passedLook p)
   by-passed (Counted n) = tt
@@ -146,5 +159,5 @@ module _ (l : Line) (texts frames : List ℕ) where
 
   pub look-joins : (k : Kind) → Joins (lookOf l k texts frames)
   unfolding byteLook secondsLook
-  look-joins (Byte b) = by-states (l .state) _ _ _ (by-neutral b) (by-waiting b) (by-inside b)
-  look-joins (Seconds s) = by-states (l .state) _ _ _ tt (by-passed (passedOf l s)) (by-passed (passedOf l s))
+  look-joins (Byte b) = by-states (l .state) _ _ _ _ (by-neutral b) (by-waiting b) (by-inside b) (λ s. by-onward (byteOnward frameLimit l s b (unfinishedText l texts)))
+  look-joins (Seconds n) = by-states (l .state) _ _ _ _ tt (by-passed (passedOf l n)) (by-passed (passedOf l n)) (λ s. by-onward (secondsOnward l s n))

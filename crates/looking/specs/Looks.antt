@@ -20,20 +20,25 @@ use Rattle.line.specs.Turn.{turnOf}
 use Rattle.characters.specs.Control.{enq, eot}
 use Rattle.line.specs.declared.Line.{Line}
 use Rattle.line.specs.declared.State.{State}
-use Rattle.line.specs.declared.State.the-variants.{Neutral, Waiting, Inside}
+use Rattle.line.specs.declared.State.the-variants.{Neutral, Waiting, Inside, Out}
+use Rattle.line.specs.declared.Sending.{Sending}
 use Rattle.line.specs.declared.Passed.{Passed}
 use Rattle.line.specs.declared.Passed.the-variants.{Counted, RanOut}
 use Rattle.line.specs.declared.Turn.{Turn}
 use Rattle.line.specs.declared.Turn.the-variants.{Refused, Again, Missed, Overlong, InTurn}
-use Rattle.answers.specs.declared.Answer.the-variants.{Nothing, Repeated, Ended, Dropped, TimedOut, Busy, Unended, Torn, WrongCheck, BadText, BadNumber, Refusing, OutOfTurn, TooLong, NoCr, NoLine, WrongSize, BeyondLimits}
-use Rattle.looking.specs.Views.{frameBytes, joinedText, framesOf, textsOf}
+use Rattle.answers.specs.declared.Answer.the-variants.{Nothing, Repeated, Ended, Dropped, TimedOut, Busy, Unended, Torn, WrongCheck, BadText, BadNumber, Refusing, OutOfTurn, TooLong, NoCr, NoLine, WrongSize, BeyondLimits, Sends, GivenUp}
+use Rattle.answers.specs.declared.Parcel.the-variants.{Ending}
+use Rattle.sending.specs.Onward.{byteOnward, secondsOnward}
+use Rattle.sending.specs.declared.Onward.{Onward}
+use Rattle.sending.specs.declared.Onward.the-variants.{Stays, Waits, Goes, Ends, GivesUp}
+use Rattle.looking.specs.Views.{frameBytes, unfinishedText, joinedText, framesOf, textsOf}
 use Rattle.looking.specs.Lent.{rightLengths}
 use Rattle.looking.specs.declared.Event.{Event}
 use Rattle.looking.specs.declared.Kind.{Kind}
 use Rattle.looking.specs.declared.Kind.the-variants.{Byte, Seconds}
 use Rattle.looking.specs.declared.Look.{Look}
 use Rattle.looking.specs.declared.Look.the-variants.{Done, Decides}
-use Rattle.looking.specs.Verdicts.{Left, Opens, Closes, Begins, Counts, Collects, Refuses, Accepts}
+use Rattle.looking.specs.Verdicts.{Left, Opens, Closes, Begins, Counts, Collects, Refuses, Accepts, Awaits, GoesOn}
 
 -- a frame in turn, by its end: with ETB it is only accepted; with ETX the joined text has to end with CR (29),
 -- and the message is decided if its last record begins with L [F7, F8, A2, A29]
@@ -80,23 +85,35 @@ insideLook l b texts frames =
     (cond (eqb (l .collected) (mostCollected l)) (frameLook l b texts frames) (Done Collects))
 
 -- by the line's state [E2]
-abbrev pub byState : {A : Type 0} → State → A → A → A → A
-byState Neutral neutral waiting inside = neutral
-byState Waiting neutral waiting inside = waiting
-byState Inside neutral waiting inside = inside
+abbrev pub byState : {A : Type 0} → State → A → A → A → (Sending → A) → A
+byState Neutral neutral waiting inside sending = neutral
+byState Waiting neutral waiting inside sending = waiting
+byState Inside neutral waiting inside sending = inside
+byState (Out s) neutral waiting inside sending = sending s
 
 -- seconds on an open line [A7]
 abbrev pub passedLook : Passed → Look
 passedLook (Counted n) = Done (Counts n)
 passedLook RanOut = Done (Closes TimedOut)
 
--- a byte, and seconds, by the line's state
-unfoldable pub byteLook : Line → ℕ → List ℕ → List ℕ → Look
-byteLook l b texts frames = byState (l .state) (neutralLook b) (waitingLook l b) (insideLook l b texts frames)
+-- what a byte or seconds make of a sending: everything is answered 9, but a byte in the pause (0) and what drops it (61) [A9, A61, S4]
+abbrev pub onwardLook : Onward → Look
+onwardLook Stays = Done (Left Nothing)
+onwardLook (Waits n) = Done (Awaits n)
+onwardLook (Goes s n) = Done (GoesOn s n)
+onwardLook Ends = Done (Closes (Sends Ending))
+onwardLook GivesUp = Done (Closes GivenUp)
 
--- seconds, on an open line [E8, E10]
+-- a byte, and seconds, by the line's state; the text that is sent lies where an unfinished one does
+unfoldable pub byteLook : Line → ℕ → List ℕ → List ℕ → Look
+byteLook l b texts frames =
+    byState (l .state) (neutralLook b) (waitingLook l b) (insideLook l b texts frames)
+    (λ s. onwardLook (byteOnward frameLimit l s b (unfinishedText l texts)))
+
+-- seconds, on an open line and in a sending [E8, E10]
 unfoldable pub secondsLook : Line → ℕ → Look
-secondsLook l s = byState (l .state) (Done (Left Nothing)) (passedLook (passedOf l s)) (passedLook (passedOf l s))
+secondsLook l n =
+    byState (l .state) (Done (Left Nothing)) (passedLook (passedOf l n)) (passedLook (passedOf l n)) (λ s. onwardLook (secondsOnward l s n))
 
 -- an event, by its kind [E4]
 abbrev pub lookOf : Line → Kind → List ℕ → List ℕ → Look

@@ -2,9 +2,13 @@
 -- Assumes nothing.
 use Prim.Native.Nat.{ℕ}
 use Rattle.answers.specs.declared.Answer.{Answer}
-use Rattle.answers.specs.declared.Answer.the-variants.{Nothing, Opened, Accepted, Stored}
+use Rattle.answers.specs.declared.Answer.the-variants.{Nothing, Opened, Accepted, Stored, Sends}
+use Rattle.answers.specs.declared.Parcel.{Parcel}
+use Rattle.answers.specs.declared.Parcel.the-variants.{Empty, Enquiry, Frame}
+use Rattle.line.specs.declared.Sending.{Sending}
+use Rattle.line.specs.declared.Sending.the-variants.{Asking, Pausing, Offering}
 use Rattle.looking.specs.declared.Act.{Act}
-use Rattle.looking.specs.declared.Act.the-variants.{Leave, Open, Close, Begin, Count, Collect, Refuse, Accept, Store, Object}
+use Rattle.looking.specs.declared.Act.the-variants.{Leave, Open, Close, Begin, Count, Collect, Refuse, Accept, Store, Object, Go}
 use Rattle.looking.specs.declared.Verdict.{Verdict}
 
 abbrev pub verdict : Act → Answer → Verdict
@@ -44,3 +48,16 @@ Stores n = verdict (Store n) Stored
 
 abbrev pub Against : Answer → ℕ → Verdict
 Against a n = verdict (Object n) a
+
+-- what is to be sent when a sending has come so far: our ENQ, nothing, a frame [S2]
+abbrev pub parcelOf : Sending → Parcel
+parcelOf (Asking n) = Enquiry
+parcelOf (Pausing n) = Empty
+parcelOf (Offering n at) = Frame
+
+-- a sending: it waits on, n seconds by now; or it goes on, with the number of its frame [A9]
+abbrev pub Awaits : ℕ → Verdict
+Awaits n = verdict (Count n) (Sends Empty)
+
+abbrev pub GoesOn : Sending → ℕ → Verdict
+GoesOn s n = verdict (Go s n) (Sends (parcelOf s))

@@ -5,6 +5,7 @@ ghost use Rattle.looking.specs.Looks.{lookAlone};
 ghost use Rattle.looking.specs.Verdicts.{verdict};
 use answers::Answer;
 use line::Line;
+use line::Sending;
 
 mod judging; // judging.rt: the frame that a byte ends
 mod states; // states.rt: a byte or seconds, by the line's state
@@ -21,7 +22,8 @@ pub struct Event {
     pub kind: Kind,
 }
 
-// What is done with a line: one row of "What is left" for each. The numbers are seconds, and lengths of a frame's text.
+// What is done with a line: one row of "What is left" for each. The numbers are seconds, lengths of a frame's text, and the number of
+// the frame that a sending offers.
 pub enum Act {
     Leave,
     Open,
@@ -33,6 +35,7 @@ pub enum Act {
     Accept(usize),
     Store(usize),
     Object(usize),
+    Go(Sending, u8),
 }
 
 // What an event comes to: what is done with its line, and the answer.

@@ -2,20 +2,31 @@
 ghost use mathlib.Core.Path.{_≡_};
 ghost use Rattle.looking.specs.Views.{framesOf, textsOf};
 ghost use Rattle.looking.specs.Inner.Ready.{Ready};
-ghost use Rattle.looking.specs.Looks.{neutralLook, waitingLook, insideLook, passedLook, byteLook, secondsLook, lookOf};
+ghost use Rattle.sending.specs.Onward.{byteOnward};
+ghost use mathlib.Core.Bool.{true};
+ghost use Prim.Native.Nat.{_<_};
+ghost use lib.ListN.{length};
+ghost use Rattle.memory.specs.Sizes.{lines, frameLimit, unfinishedSize};
+ghost use Rattle.line.specs.Line.{withinLimits};
+ghost use Rattle.looking.specs.Views.{unfinishedText};
+ghost use Rattle.looking.specs.Verdicts.{parcelOf};
+ghost use Rattle.looking.specs.Looks.{neutralLook, waitingLook, insideLook, passedLook, onwardLook, byteLook, secondsLook, lookOf};
 use super::Act;
 use super::Kind;
 use super::Look;
 use super::done;
 use super::judging;
 use answers::Answer;
+use answers::Parcel;
 use characters::ENQ;
 use characters::EOT;
 use characters::LF;
 use characters::STX;
 use line::Line;
 use line::Passed;
+use line::Sending;
 use line::State;
+use sending::Onward;
 
 pub fn look(line: Line, i: usize, kind: Kind, unfinished: &[u8], frames: &[u8]) -> Look
     requires { ⌜ Ready line i (now unfinished) (now frames) ⌝ }
@@ -36,6 +47,7 @@ fn look_byte(line: Line, i: usize, b: u8, unfinished: &[u8], frames: &[u8]) -> L
         State::Neutral => look_neutral(b),
         State::Waiting => look_waiting(line, b),
         State::Inside => look_inside(line, i, b, unfinished, frames),
+        State::Out(sending) => look_reply(line, i, sending, b, unfinished),
     }
 }
 
@@ -86,6 +98,7 @@ fn look_seconds(line: Line, s: u8) -> Look
         State::Neutral => done(Act::Leave, Answer::Nothing),
         State::Waiting => look_passed(line.pass(s)),
         State::Inside => look_passed(line.pass(s)),
+        State::Out(sending) => look_onward(sending::on_seconds(line, sending, s)),
     }
 }
 
@@ -95,5 +108,47 @@ fn look_passed(passed: Passed) -> Look
     match passed {
         Passed::Counted(n) => done(Act::Count(n), Answer::Nothing),
         Passed::RanOut => done(Act::Close, Answer::TimedOut),
+    }
+}
+
+// A byte while the line sends: the text that is sent lies where an unfinished one does.
+fn look_reply(line: Line, i: usize, sending: Sending, b: u8, unfinished: &[u8]) -> Look
+    requires { ⌜ (i < lines) × (withinLimits line ≡ true) × (length (now unfinished) ≡ unfinishedSize) ⌝ }
+    ensures { λ r. ⌜ r ≡ onwardLook (byteOnward frameLimit line sending b (unfinishedText line (textsOf i (now (unfinished .entry))))) ⌝ }
+{
+    let start = i * memory::MESSAGE_LIMIT;
+    let end = start + line.joined as usize;
+    look_onward(sending::on_byte(
+        memory::FRAME_LIMIT,
+        line,
+        sending,
+        b,
+        &unfinished[start..end],
+    ))
+}
+
+fn look_onward(onward: Onward) -> Look
+    ensures { λ r. ⌜ r ≡ onwardLook onward ⌝ }
+{
+    match onward {
+        Onward::Stays => done(Act::Leave, Answer::Nothing),
+        Onward::Waits(n) => done(Act::Count(n), Answer::Sends(Parcel::Empty)),
+        Onward::Goes(sending, n) => {
+            let parcel = parcel_of(sending);
+            done(Act::Go(sending, n), Answer::Sends(parcel))
+        }
+        Onward::Ends => done(Act::Close, Answer::Sends(Parcel::Ending)),
+        Onward::GivesUp => done(Act::Close, Answer::GivenUp),
+    }
+}
+
+// What is to be sent when a sending has come so far.
+fn parcel_of(sending: Sending) -> Parcel
+    ensures { λ r. ⌜ r ≡ parcelOf sending ⌝ }
+{
+    match sending {
+        Sending::Asking(_) => Parcel::Enquiry,
+        Sending::Pausing(_) => Parcel::Empty,
+        Sending::Offering(_, _) => Parcel::Frame,
     }
 }

@@ -8,8 +8,8 @@ ghost use Rattle.calls.specs.Calls.{Calling};
 ghost use Rattle.reader.specs.Takings.{Taken};
 ghost use Rattle.texts.specs.Texts.{CutFrames, Escaped, Unescaped, RecordsRead};
 use answers::Answered;
+use answers::Made;
 use layout::Layout;
-use texts::Made;
 
 // A byte has come on a line.
 #[no_mangle]

@@ -19,8 +19,9 @@ use Rattle.escaping.specs.Escape.{escaped, escapeAnswer, escapedOver}
 use Rattle.escaping.specs.Unescape.{unescaped, answerTo, unescapeAnswer, unescapedOver}
 use Rattle.escaping.specs.declared.Put.the-variants.{Done, NotFitting, BadDelimiters}
 use Rattle.escaping.proofs.RoundTrips.{escaped-most, allowed-back, allowed-forth}
-use Rattle.texts.specs.Texts.{done, madeByPutting, Escaped, Unescaped}
-use Rattle.texts.specs.declared.Made.{Made}
+use Rattle.answers.specs.InNumbers.{done}
+use Rattle.texts.specs.Texts.{madeByPutting, Escaped, Unescaped}
+use Rattle.answers.specs.declared.Made.{Made}
 use Rattle.ngachodui_laws.specs.Texts.{PutOut, ComesBack, GoesBack}
 
 -- a text copied to the start of memory that has the room is put out

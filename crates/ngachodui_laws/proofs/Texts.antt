@@ -24,7 +24,7 @@ use Rattle.promises.specs.OnlyMessages as there
 use Rattle.promises.proofs.OnlyMessages as messages
 use Rattle.promises.proofs.Every.{every-so}
 use Rattle.texts.specs.Texts.{madeByCutting, madeByReading}
-use Rattle.texts.specs.declared.Made.{Made}
+use Rattle.answers.specs.declared.Made.{Made}
 use Rattle.ngachodui_laws.specs.HostRuns.{Run, historyOf}
 use Rattle.ngachodui_laws.specs.Queue.{allTaken}
 use Rattle.ngachodui_laws.specs.Texts.{Cut, Readable}

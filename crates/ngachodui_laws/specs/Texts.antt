@@ -10,8 +10,9 @@ use Rattle.memory.specs.Sizes.{frameLimit}
 use Rattle.memory.specs.Parts.{splice}
 use Rattle.cutting.specs.Frames.{cutOf}
 use Rattle.answers.specs.Paper.{isFaulty}
-use Rattle.texts.specs.Texts.{done, CutFrames, Escaped, Unescaped, RecordsRead}
-use Rattle.texts.specs.declared.Made.{Made}
+use Rattle.answers.specs.InNumbers.{done}
+use Rattle.texts.specs.Texts.{CutFrames, Escaped, Unescaped, RecordsRead}
+use Rattle.answers.specs.declared.Made.{Made}
 
 -- whatever the contract of `ngachodui_cut` allows for m, given memory for its frames: they stand at the memory's start, and the rest stays
 pub record CutWhole (m out : List ℕ) (r : Made) (out′ : List ℕ) : Type 0 where

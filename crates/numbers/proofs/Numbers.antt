@@ -1,55 +1,58 @@
 -- Laws of records in plain numbers.
 -- Assumes nothing.
 use mathlib.Core.Path.{_≡_, refl, sym, ap, _∙_}
-use mathlib.Core.Bool.{true}
+use mathlib.Core.Bool.{Bool, true, false, cond, _&&_}
 use mathlib.Core.List.{List}
 use Prim.Native.Nat.{ℕ, zero, suc, _+_, _-_, _≤_, _<_}
 use native.Mathlib.Omega.{arith}
 use native.Mathlib.Numerals.{unary-clauses}
-use borrow.Author.Tests.{leb-true, le-leb}
-use lib.Dec.{leb, eqb}
+use borrow.Author.Tests.{leb-true, le-leb, ltb-true, eqb-true}
+use lib.Dec.{leb, ltb, eqb}
 use lib.ListN.{getD, set}
 use lib.Seq.{set-getD, getD-set-other}
 use Rattle.memory.specs.Sizes.{lines, messageLimit}
 use Rattle.memory.proofs.Tests.{and-left, and-right}
 use Rattle.digits.specs.Number.{mostNumber}
-use Rattle.line.specs.Line.{mostCollected, mostSeconds, lastWithin, withinLimits, collectedLine, begunLine}
+use Rattle.line.specs.Line.{mostCollected, mostSeconds, mostTries, lastWithin, sendingWithin, stateWithin, withinLimits, collectedLine, begunLine}
 use Rattle.line.specs.declared.Last.the-variants.{Number}
 use Rattle.line.proofs.Limits.{collected-fits, within-of}
 use Rattle.line.specs.declared.Line.{Line}
 use Rattle.line.specs.declared.State.{State}
-use Rattle.line.specs.declared.State.the-variants.{Inside}
+use Rattle.line.specs.declared.State.the-variants.{Inside, Out}
 use Rattle.layout.specs.Layout.{start, firstAt, numberAt}
 use Rattle.ledger.specs.Ledgers.{ledgerOf, withSerial}
 use Rattle.ledger.proofs.Ledgers.{again, serial-at}
-use Rattle.numbers.specs.Plain.{insideAt, inside, stateOf, stateNumber, lastOf, lastNumber, flag, withinNumbers, lineOf, withLine}
+use Rattle.numbers.specs.Plain.{insideAt, waiting, inside, asking, pausing, offering, sendingOf, stateOf, stateNumber, triesNumber, placeNumber, sendingFits, lastOf, lastNumber, flag, withinNumbers, lineOf, withLine}
 
 pub record WithinNumbers (ns : List ℕ) (i : ℕ) : Type 0 where
-  pub state : firstAt ns i ≤ inside
+  pub state : firstAt ns i ≤ offering
   pub collected : numberAt ns i 1 ≤ mostCollected (lineOf ns i)
   pub joined : numberAt ns i 2 ≤ messageLimit
   pub seconds : numberAt ns i 3 ≤ mostSeconds
   pub next : numberAt ns i 4 ≤ mostNumber
   pub last : numberAt ns i 5 ≤ mostNumber + 1
   pub refusing : numberAt ns i 6 ≤ 1
+  pub sending : sendingFits (firstAt ns i) (numberAt ns i 8) (numberAt ns i 9) ≡ true
 
 module _ (ns : List ℕ) (i : ℕ) where
   pub numbers-facts : withinNumbers ns i ≡ true → WithinNumbers ns i
   unfolding withinNumbers
   numbers-facts e =
-      let rest₁ = and-right (leb (firstAt ns i) inside) _ e in
+      let rest₁ = and-right (leb (firstAt ns i) offering) _ e in
       let rest₂ = and-right (leb (numberAt ns i 1) (mostCollected (lineOf ns i))) _ rest₁ in
       let rest₃ = and-right (leb (numberAt ns i 2) messageLimit) _ rest₂ in
       let rest₄ = and-right (leb (numberAt ns i 3) mostSeconds) _ rest₃ in
       let rest₅ = and-right (leb (numberAt ns i 4) mostNumber) _ rest₄ in
+      let rest₆ = and-right (leb (numberAt ns i 5) (mostNumber + 1)) _ rest₅ in
       record {
-        state = leb-true _ _ (and-left (leb (firstAt ns i) inside) _ e);
+        state = leb-true _ _ (and-left (leb (firstAt ns i) offering) _ e);
         collected = leb-true _ _ (and-left (leb (numberAt ns i 1) (mostCollected (lineOf ns i))) _ rest₁);
         joined = leb-true _ _ (and-left (leb (numberAt ns i 2) messageLimit) _ rest₂);
         seconds = leb-true _ _ (and-left (leb (numberAt ns i 3) mostSeconds) _ rest₃);
         next = leb-true _ _ (and-left (leb (numberAt ns i 4) mostNumber) _ rest₄);
         last = leb-true _ _ (and-left (leb (numberAt ns i 5) (mostNumber + 1)) _ rest₅);
-        refusing = leb-true _ _ (and-right (leb (numberAt ns i 5) (mostNumber + 1)) _ rest₅);
+        refusing = leb-true _ _ (and-left (leb (numberAt ns i 6) 1) _ rest₆);
+        sending = and-right (leb (numberAt ns i 6) 1) _ rest₆;
       }
 
 -- a number that is not 0 tells the one below it
@@ -57,12 +60,21 @@ pub last-some : (n : ℕ) → (n ≡ 0 → ⊥) → Number (n - 1) ≡ lastOf n
 last-some zero h = absurd (h refl)
 last-some (suc n) h = simp unary-clauses
 
--- a record's numbers stand for it
-pub state-back : (n : ℕ) → n ≤ inside → stateNumber (stateOf n) ≡ n
-state-back zero h = refl
-state-back (suc zero) h = refl
-state-back (suc (suc zero)) h = refl
-state-back (suc (suc (suc n))) h = absurd (omega arith)
+-- a record's numbers stand for it: a state's number, tries and place tell the state, and the state tells them
+pub record StateBack (n tries place : ℕ) : Type 0 where
+  pub state : stateNumber (stateOf n tries place) ≡ n
+  pub tries : triesNumber (stateOf n tries place) ≡ tries
+  pub place : placeNumber (stateOf n tries place) ≡ place
+  pub within : stateWithin (stateOf n tries place) ≡ true
+
+pub state-back : (n tries place : ℕ) → n ≤ offering → sendingFits n tries place ≡ true → StateBack n tries place
+state-back zero t p h e = record { state = refl; tries = sym (eqb-true t 0 (and-left (eqb t 0) _ e)); place = sym (eqb-true p 0 (and-right (eqb t 0) _ e)); within = refl }
+state-back (suc zero) t p h e = record { state = refl; tries = sym (eqb-true t 0 (and-left (eqb t 0) _ e)); place = sym (eqb-true p 0 (and-right (eqb t 0) _ e)); within = refl }
+state-back (suc (suc zero)) t p h e = record { state = refl; tries = sym (eqb-true t 0 (and-left (eqb t 0) _ e)); place = sym (eqb-true p 0 (and-right (eqb t 0) _ e)); within = refl }
+state-back (suc (suc (suc zero))) t p h e = record { state = refl; tries = refl; place = sym (eqb-true p 0 (and-right (ltb t mostTries) _ e)); within = and-left (ltb t mostTries) _ e }
+state-back (suc (suc (suc (suc zero)))) t p h e = record { state = refl; tries = refl; place = sym (eqb-true p 0 (and-right (ltb t mostTries) _ e)); within = and-left (ltb t mostTries) _ e }
+state-back (suc (suc (suc (suc (suc zero))))) t p h e = record { state = refl; tries = refl; place = refl; within = e }
+state-back (suc (suc (suc (suc (suc (suc n)))))) t p h e = absurd (omega arith)
 
 pub last-back : (n : ℕ) → lastNumber (lastOf n) ≡ n
 last-back zero = refl
@@ -81,15 +93,17 @@ last-fits (suc n) h = le-leb n mostNumber (omega arith)
 pub line-within : (ns : List ℕ) (i : ℕ) → withinNumbers ns i ≡ true → withinLimits (lineOf ns i) ≡ true
 line-within ns i e =
     let w = numbers-facts ns i e in
-    within-of (lineOf ns i) (record { collected = w .collected; most = collected-fits (lineOf ns i); joined = w .joined; seconds = w .seconds; next = w .next; last = last-fits (numberAt ns i 5) (w .last) })
+    within-of (lineOf ns i) (record { collected = w .collected; most = collected-fits (lineOf ns i); joined = w .joined; seconds = w .seconds; next = w .next; last = last-fits (numberAt ns i 5) (w .last); state = state-back (firstAt ns i) (numberAt ns i 8) (numberAt ns i 9) (w .state) (w .sending) .within })
 
--- seven stores are the numbers with another record
-pub put-line : (ns : List ℕ) (i : ℕ) (l : Line) (s t r : ℕ) → s ≡ stateNumber (l .state) → t ≡ lastNumber (l .last) → r ≡ flag (l .refusing)
-    → set (set (set (set (set (set (set ns (start i) s) (start i + 1) (l .collected)) (start i + 2) (l .joined)) (start i + 3) (l .seconds)) (start i + 4) (l .next)) (start i + 5) t) (start i + 6) r ≡ withLine ns i l
+-- nine stores are the numbers with another record
+pub put-line : (ns : List ℕ) (i : ℕ) (l : Line) (s t r n p : ℕ) → s ≡ stateNumber (l .state) → t ≡ lastNumber (l .last) → r ≡ flag (l .refusing)
+    → n ≡ triesNumber (l .state) → p ≡ placeNumber (l .state)
+    → set (set (set (set (set (set (set (set (set ns (start i) s) (start i + 1) (l .collected)) (start i + 2) (l .joined)) (start i + 3) (l .seconds)) (start i + 4) (l .next)) (start i + 5) t) (start i + 6) r) (start i + 8) n) (start i + 9) p
+    ≡ withLine ns i l
 unfolding withLine
-put-line ns i l s t r p q e = rw (p, q, e)
+put-line ns i l s t r n p e₁ e₂ e₃ e₄ e₅ = rw (e₁, e₂, e₃, e₄, e₅)
 
--- with any record of the line
+-- with any record of the line its serial stays
 serial-kept : (ns : List ℕ) (i : ℕ) (l : Line) → getD (withLine ns i l) (start i + 7) 0 ≡ numberAt ns i 7
 unfolding withLine
 serial-kept ns i l =
@@ -99,7 +113,11 @@ serial-kept ns i l =
     let ns₄ : List ℕ = set ns₃ (start i + 3) (l .seconds) in
     let ns₅ : List ℕ = set ns₄ (start i + 4) (l .next) in
     let ns₆ : List ℕ = set ns₅ (start i + 5) (lastNumber (l .last)) in
-    getD-set-other ns₆ (start i + 6) (start i + 7) (flag (l .refusing)) 0 (λ q. absurd (omega arith))
+    let ns₇ : List ℕ = set ns₆ (start i + 6) (flag (l .refusing)) in
+    let ns₈ : List ℕ = set ns₇ (start i + 8) (triesNumber (l .state)) in
+    getD-set-other ns₈ (start i + 9) (start i + 7) (placeNumber (l .state)) 0 (λ q. absurd (omega arith))
+    ∙ getD-set-other ns₇ (start i + 8) (start i + 7) (triesNumber (l .state)) 0 (λ q. absurd (omega arith))
+    ∙ getD-set-other ns₆ (start i + 6) (start i + 7) (flag (l .refusing)) 0 (λ q. absurd (omega arith))
     ∙ getD-set-other ns₅ (start i + 5) (start i + 7) (lastNumber (l .last)) 0 (λ q. absurd (omega arith))
     ∙ getD-set-other ns₄ (start i + 4) (start i + 7) (l .next) 0 (λ q. absurd (omega arith))
     ∙ getD-set-other ns₃ (start i + 3) (start i + 7) (l .seconds) 0 (λ q. absurd (omega arith))
@@ -109,6 +127,11 @@ serial-kept ns i l =
 
 pub serial-back : (ns us : List ℕ) (i : ℕ) (l : Line) → i < lines → withSerial (withLine ns i l) i (ledgerOf ns us) ≡ withLine ns i l
 serial-back ns us i l h = again (withLine ns i l) (start i + 7) (getD (ledgerOf ns us .serials) i 0) (serial-at ns us i h ∙ sym (serial-kept ns i l))
+
+waiting-none : (n tries place : ℕ) → n ≡ waiting → sendingFits n tries place ≡ true → (tries ≡ 0) × (place ≡ 0)
+waiting-none n tries place q e =
+    let fits : eqb tries 0 && eqb place 0 ≡ true = rw q at e in
+    (eqb-true tries 0 (and-left (eqb tries 0) (eqb place 0) fits), eqb-true place 0 (and-right (eqb tries 0) (eqb place 0) fits))
 
 -- the record and the ledger that the numbers stand for, put back with another state and another count of collected bytes: the other numbers of the line stay
 module _ (ns us : List ℕ) (i : ℕ) (h : i < lines) (e : withinNumbers ns i ≡ true) where
@@ -123,7 +146,8 @@ module _ (ns us : List ℕ) (i : ℕ) (h : i < lines) (e : withinNumbers ns i �
     refusing = lineOf ns i .refusing;
   }
 
-  module _ (s : State) (count : ℕ) where
+  -- with tries and place that stand there
+  module _ (s : State) (count : ℕ) (tries : triesNumber s ≡ numberAt ns i 8) (place : placeNumber s ≡ numberAt ns i 9) where
     abbrev moved : List ℕ
     moved = set ns (start i) (stateNumber s)
 
@@ -143,16 +167,25 @@ module _ (ns us : List ℕ) (i : ℕ) (h : i < lines) (e : withinNumbers ns i �
           again counted (start i + 4) (numberAt ns i 4) (sym (kept-number 4 (omega arith))),
           again counted (start i + 5) (lastNumber (lastOf (numberAt ns i 5))) (last-back (numberAt ns i 5) ∙ sym (kept-number 5 (omega arith))),
           again counted (start i + 6) (flag (eqb (numberAt ns i 6) 1)) (flag-back (numberAt ns i 6) (w .refusing) ∙ sym (kept-number 6 (omega arith))),
+          again counted (start i + 8) (triesNumber s) (tries ∙ sym (kept-number 8 (omega arith))),
+          again counted (start i + 9) (placeNumber s) (place ∙ sym (kept-number 9 (omega arith))),
         )
         (again counted (start i + 7) (getD (ledgerOf ns us .serials) i 0) (serial-at ns us i h ∙ sym (kept-number 7 (omega arith))))
 
+  abbrev back : StateBack (firstAt ns i) (numberAt ns i 8) (numberAt ns i 9)
+  back = let w = numbers-facts ns i e in state-back (firstAt ns i) (numberAt ns i 8) (numberAt ns i 9) (w .state) (w .sending)
+
   pub count-back : (count : ℕ) → withSerial (withLine ns i (collectedLine (lineOf ns i) count)) i (ledgerOf ns us) ≡ set ns (start i + 1) count
   count-back count =
-      changed-back (lineOf ns i .state) count
-      ∙ ap (λ (x : List ℕ). set x (start i + 1) count) (again ns (start i) (stateNumber (stateOf (firstAt ns i))) (state-back (firstAt ns i) (numbers-facts ns i e .state)))
+      changed-back (lineOf ns i .state) count (back .tries) (back .place)
+      ∙ ap (λ (x : List ℕ). set x (start i + 1) count) (again ns (start i) (stateNumber (lineOf ns i .state)) (back .state))
 
-  pub begun-back : withSerial (withLine ns i (begunLine (lineOf ns i))) i (ledgerOf ns us) ≡ insideAt ns i
-  begun-back = changed-back Inside (numberAt ns i 1) ∙ again (insideAt ns i) (start i + 1) (numberAt ns i 1) (sym (getD-set-other ns (start i) (start i + 1) _ 0 (λ q. absurd (omega arith))))
+  -- between frames a line has neither tries nor a place
+  pub begun-back : firstAt ns i ≡ waiting → withSerial (withLine ns i (begunLine (lineOf ns i))) i (ledgerOf ns us) ≡ insideAt ns i
+  begun-back q =
+      let none = waiting-none (firstAt ns i) (numberAt ns i 8) (numberAt ns i 9) q (numbers-facts ns i e .sending) in
+      changed-back Inside (numberAt ns i 1) (sym (none .0)) (sym (none .1))
+      ∙ again (insideAt ns i) (start i + 1) (numberAt ns i 1) (sym (getD-set-other ns (start i) (start i + 1) _ 0 (λ q. absurd (omega arith))))
 
 -- as they are
 pub numbers-back : (ns us : List ℕ) (i : ℕ) → i < lines → withinNumbers ns i ≡ true → withSerial (withLine ns i (lineOf ns i)) i (ledgerOf ns us) ≡ ns

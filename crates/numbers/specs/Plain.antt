@@ -4,35 +4,77 @@ use Prim.Native.Nat.{ℕ, zero, suc, _+_}
 use mathlib.Core.Bool.{Bool, false, cond, not, _&&_}
 use mathlib.Core.List.{List}
 use lib.ListN.{set}
-use lib.Dec.{leb, eqb}
+use lib.Dec.{leb, ltb, eqb}
 use Rattle.memory.specs.Sizes.{messageLimit}
 use Rattle.memory.specs.Tests.{is}
 use Rattle.characters.specs.Control.{lf, stx}
 use Rattle.digits.specs.Number.{mostNumber}
-use Rattle.line.specs.Line.{mostCollected, mostSeconds}
+use Rattle.line.specs.Line.{mostCollected, mostSeconds, mostTries}
 use Rattle.line.specs.declared.Line.{Line}
 use Rattle.line.specs.declared.State.{State}
-use Rattle.line.specs.declared.State.the-variants.{Neutral, Waiting, Inside}
+use Rattle.line.specs.declared.State.the-variants.{Neutral, Waiting, Inside, Out}
+use Rattle.line.specs.declared.Sending.{Sending}
+use Rattle.line.specs.declared.Sending.the-variants.{Asking, Pausing, Offering}
 use Rattle.line.specs.declared.Last.{Last}
 use Rattle.line.specs.declared.Last.the-variants.{NoneYet, Number}
 use Rattle.looking.specs.declared.Kind.{Kind}
 use Rattle.looking.specs.declared.Kind.the-variants.{Byte, Seconds}
-use Rattle.layout.specs.Layout.{start, collectedAt, joinedAt, secondsAt, nextAt, lastAt, refusingAt, firstAt, numberAt}
+use Rattle.layout.specs.Layout.{start, collectedAt, joinedAt, secondsAt, nextAt, lastAt, refusingAt, triesAt, placeAt, firstAt, numberAt}
 
--- a state: 0 neutral, 1 waiting, 2 inside
+-- a state: 0 neutral, 1 waiting, 2 inside; and of a sending 3 asking, 4 pausing, 5 offering [H2]
 abbrev pub waiting : ℕ
 waiting = 1
 
 abbrev pub inside : ℕ
 inside = 2
 
-abbrev pub stateOf : ℕ → State
-stateOf n = cond (eqb n 0) Neutral (cond (eqb n waiting) Waiting Inside)
+abbrev pub asking : ℕ
+asking = 3
 
+abbrev pub pausing : ℕ
+pausing = 4
+
+abbrev pub offering : ℕ
+offering = 5
+
+-- the state that three numbers stand for: its own, the tries and the place
+abbrev pub sendingOf : ℕ → ℕ → ℕ → Sending
+sendingOf n tries place = cond (eqb n asking) (Asking tries) (cond (eqb n pausing) (Pausing tries) (Offering tries place))
+
+abbrev pub stateOf : ℕ → ℕ → ℕ → State
+stateOf n tries place = cond (eqb n 0) Neutral (cond (eqb n waiting) Waiting (cond (eqb n inside) Inside (Out (sendingOf n tries place))))
+
+-- and the way back: the state's own number, its tries, its place, 0 where it has none
 abbrev pub stateNumber : State → ℕ
 stateNumber Neutral = 0
 stateNumber Waiting = waiting
 stateNumber Inside = inside
+stateNumber (Out (Asking n)) = asking
+stateNumber (Out (Pausing n)) = pausing
+stateNumber (Out (Offering n at)) = offering
+
+abbrev pub triesNumber : State → ℕ
+triesNumber Neutral = 0
+triesNumber Waiting = 0
+triesNumber Inside = 0
+triesNumber (Out (Asking n)) = n
+triesNumber (Out (Pausing n)) = n
+triesNumber (Out (Offering n at)) = n
+
+abbrev pub placeNumber : State → ℕ
+placeNumber Neutral = 0
+placeNumber Waiting = 0
+placeNumber Inside = 0
+placeNumber (Out (Asking n)) = 0
+placeNumber (Out (Pausing n)) = 0
+placeNumber (Out (Offering n at)) = at
+
+-- the tries and the place that a state may have: what it has no use for is 0, so that numbers and record tell each other [H3]
+abbrev pub sendingFits : ℕ → ℕ → ℕ → Bool
+sendingFits n tries place =
+    cond (leb n inside) (eqb tries 0 && eqb place 0)
+    (cond (leb n pausing) (ltb tries mostTries && eqb place 0)
+    (leb tries mostTries && leb place messageLimit))
 
 -- the last accepted number: 0 for none, else one more than it [H2]
 abbrev pub lastOf : ℕ → Last
@@ -46,10 +88,10 @@ lastNumber (Number n) = n + 1
 abbrev pub flag : Bool → ℕ
 flag b = cond b 1 0
 
--- the record that a line's first seven numbers stand for [H1]
+-- the record that a line's numbers stand for, without the eighth, which is a serial, and the spare ones [H1]
 abbrev pub lineOf : List ℕ → ℕ → Line
 lineOf ns i = record {
-  state = stateOf (firstAt ns i);
+  state = stateOf (firstAt ns i) (numberAt ns i triesAt) (numberAt ns i placeAt);
   collected = numberAt ns i collectedAt;
   joined = numberAt ns i joinedAt;
   seconds = numberAt ns i secondsAt;
@@ -58,11 +100,12 @@ lineOf ns i = record {
   refusing = eqb (numberAt ns i refusingAt) 1;
 }
 
--- they are those of a record within its limits; the eighth, a serial, may be any [A42, H3]
+-- they are those of a record within its limits; the eighth, a serial, may be any, and so may the spare ones [A42, H3]
 unfoldable pub withinNumbers : List ℕ → ℕ → Bool
 withinNumbers ns i =
-    leb (firstAt ns i) inside && (leb (numberAt ns i collectedAt) (mostCollected (lineOf ns i)) && (leb (numberAt ns i joinedAt) messageLimit && (leb (numberAt ns i secondsAt) mostSeconds
-    && (leb (numberAt ns i nextAt) mostNumber && (leb (numberAt ns i lastAt) (mostNumber + 1) && leb (numberAt ns i refusingAt) 1)))))
+    leb (firstAt ns i) offering && (leb (numberAt ns i collectedAt) (mostCollected (lineOf ns i)) && (leb (numberAt ns i joinedAt) messageLimit && (leb (numberAt ns i secondsAt) mostSeconds
+    && (leb (numberAt ns i nextAt) mostNumber && (leb (numberAt ns i lastAt) (mostNumber + 1) && (leb (numberAt ns i refusingAt) 1
+    && sendingFits (firstAt ns i) (numberAt ns i triesAt) (numberAt ns i placeAt)))))))
 
 -- inside a frame that this byte does not end: it is only collected
 unfoldable pub onlyCollects : List ℕ → ℕ → ℕ → Bool
@@ -87,11 +130,13 @@ insideAt ns i = set ns (start i) inside
 -- the numbers with another record of line i
 unfoldable pub withLine : List ℕ → ℕ → Line → List ℕ
 withLine ns i l =
-    set (set (set (set (set (set (set ns
+    set (set (set (set (set (set (set (set (set ns
     (start i) (stateNumber (l .state)))
     (start i + collectedAt) (l .collected))
     (start i + joinedAt) (l .joined))
     (start i + secondsAt) (l .seconds))
     (start i + nextAt) (l .next))
     (start i + lastAt) (lastNumber (l .last)))
-    (start i + refusingAt) (flag (l .refusing))
+    (start i + refusingAt) (flag (l .refusing)))
+    (start i + triesAt) (triesNumber (l .state)))
+    (start i + placeAt) (placeNumber (l .state))

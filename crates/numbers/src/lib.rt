@@ -59,7 +59,7 @@ pub fn record_of(numbers: &[u16; NUMBERS], i: usize) -> Line
     plain::line_of(numbers, i)
 }
 
-// Puts a record in the place of a line's first seven numbers.
+// Puts a record in the place of a line's numbers; its serial and the spare ones stay.
 pub fn put_record(numbers: &mut [u16; NUMBERS], i: usize, line: Line)
     ensures { λ _. ⌜ now (numbers .exit) ≡ recordAfter (now (numbers .entry)) i line ⌝ }
 {

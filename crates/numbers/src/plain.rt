@@ -5,9 +5,10 @@ ghost use mathlib.Core.Bool.{true};
 ghost use lib.ListN.{length, set};
 ghost use Rattle.memory.specs.Sizes.{lines, framesSize};
 ghost use Rattle.line.specs.Line.{mostCollected};
+ghost use Rattle.line.specs.declared.State.the-variants.{Out};
 ghost use Rattle.looking.specs.Views.{frameStart};
 ghost use Rattle.layout.specs.Layout.{numberAt};
-ghost use Rattle.numbers.specs.Plain.{oneMore, quick, begins, stateOf, stateNumber, lastOf, lastNumber, flag, withinNumbers, onlyCollects, lineOf, withLine};
+ghost use Rattle.numbers.specs.Plain.{oneMore, quick, begins, sendingOf, stateOf, stateNumber, triesNumber, placeNumber, sendingFits, lastOf, lastNumber, flag, withinNumbers, onlyCollects, lineOf, withLine};
 use characters::LF;
 use characters::STX;
 use layout::COLLECTED;
@@ -16,17 +17,33 @@ use layout::JOINED;
 use layout::LAST;
 use layout::NEXT;
 use layout::NUMBERS;
+use layout::PLACE;
 use layout::REFUSING;
 use layout::SECONDS;
+use layout::TRIES;
 use line::Last;
 use line::Line;
+use line::Sending;
 use line::State;
 use looking::Kind;
 
-// The states of a line between frames and inside one: no state has a higher number.
+// The states of a line that is not neutral: no state has a higher number than the last.
 const WAITING: u16 = 1;
 
 pub const INSIDE: u16 = 2;
+
+const ASKING: u16 = 3;
+
+const PAUSING: u16 = 4;
+
+const OFFERING: u16 = 5;
+
+// A state in numbers: its own, its tries and its place.
+struct Stated {
+    state: u16,
+    tries: u16,
+    place: u16,
+}
 
 // Whether a line's numbers are those of a record within its limits.
 pub fn is_within(numbers: &[u16; NUMBERS], i: usize) -> bool
@@ -34,7 +51,7 @@ pub fn is_within(numbers: &[u16; NUMBERS], i: usize) -> bool
     ensures { λ r. ⌜ r ≡ withinNumbers (now (numbers .entry)) i ⌝ }
 {
     let at = i * FIELDS;
-    if INSIDE < numbers[at] {
+    if OFFERING < numbers[at] {
         return false;
     }
     if Line::MOST_COLLECTED < numbers[at + COLLECTED] {
@@ -52,7 +69,32 @@ pub fn is_within(numbers: &[u16; NUMBERS], i: usize) -> bool
     if (Line::MOST_NUMBER as u16) + 1 < numbers[at + LAST] {
         return false;
     }
-    numbers[at + REFUSING] <= 1
+    if 1 < numbers[at + REFUSING] {
+        return false;
+    }
+    sending_fits(numbers[at], numbers[at + TRIES], numbers[at + PLACE])
+}
+
+// Whether a state may have these tries and this place.
+fn sending_fits(state: u16, tries: u16, place: u16) -> bool
+    ensures { λ r. ⌜ r ≡ sendingFits state tries place ⌝ }
+{
+    if state <= INSIDE {
+        if tries != 0 {
+            return false;
+        }
+        return place == 0;
+    }
+    if state <= PAUSING {
+        if (Line::MOST_TRIES as u16) <= tries {
+            return false;
+        }
+        return place == 0;
+    }
+    if (Line::MOST_TRIES as u16) < tries {
+        return false;
+    }
+    place <= Line::MOST_JOINED
 }
 
 // Whether a byte is only collected and its line's numbers are within their limits: in this order none is compared twice.
@@ -116,7 +158,7 @@ pub fn line_of(numbers: &[u16; NUMBERS], i: usize) -> Line
     ensures { λ r. ⌜ r ≡ lineOf (now (numbers .entry)) i ⌝ }
 {
     let at = i * FIELDS;
-    let state = state_of(numbers[at]);
+    let state = state_of(numbers[at], numbers[at + TRIES], numbers[at + PLACE]);
     let last = last_of(numbers[at + LAST]);
     Line {
         state,
@@ -129,9 +171,10 @@ pub fn line_of(numbers: &[u16; NUMBERS], i: usize) -> Line
     }
 }
 
-// 0 neutral, 1 waiting, 2 inside.
-fn state_of(n: u16) -> State
-    ensures { λ r. ⌜ r ≡ stateOf n ⌝ }
+// 0 neutral, 1 waiting, 2 inside, else a sending.
+fn state_of(n: u16, tries: u16, place: u16) -> State
+    requires { ⌜ tries ≤ 255 ⌝ }
+    ensures { λ r. ⌜ r ≡ stateOf n tries place ⌝ }
 {
     if n == 0 {
         return State::Neutral;
@@ -139,7 +182,23 @@ fn state_of(n: u16) -> State
     if n == WAITING {
         return State::Waiting;
     }
-    State::Inside
+    if n == INSIDE {
+        return State::Inside;
+    }
+    State::Out(sending_of(n, tries as u8, place))
+}
+
+// 3 asking, 4 pausing, 5 offering.
+fn sending_of(n: u16, tries: u8, place: u16) -> Sending
+    ensures { λ r. ⌜ r ≡ sendingOf n tries place ⌝ }
+{
+    if n == ASKING {
+        return Sending::Asking(tries);
+    }
+    if n == PAUSING {
+        return Sending::Pausing(tries);
+    }
+    Sending::Offering(tries, place)
 }
 
 // 0 for none, else one more than the number.
@@ -153,7 +212,7 @@ fn last_of(n: u16) -> Last
     Last::Number((n - 1) as u8)
 }
 
-// Puts a record in the place of a line's first seven numbers.
+// Puts a record in the place of a line's numbers; its serial and the spare ones stay.
 pub fn put_line(numbers: &mut [u16; NUMBERS], i: usize, line: Line)
     requires { ⌜ i < lines ⌝ }
     ensures { λ _. ⌜ now (numbers .exit) ≡ withLine (now (numbers .entry)) i line ⌝ }
@@ -161,22 +220,46 @@ pub fn put_line(numbers: &mut [u16; NUMBERS], i: usize, line: Line)
     let at = i * FIELDS;
     let state = line.state;
     let last = line.last;
-    numbers[at] = state_number(state);
+    let stated = stated(state);
+    numbers[at] = stated.state;
     numbers[at + COLLECTED] = line.collected;
     numbers[at + JOINED] = line.joined;
     numbers[at + SECONDS] = line.seconds as u16;
     numbers[at + NEXT] = line.next as u16;
     numbers[at + LAST] = last_number(last);
     numbers[at + REFUSING] = flag_number(line.refusing);
+    numbers[at + TRIES] = stated.tries;
+    numbers[at + PLACE] = stated.place;
 }
 
-fn state_number(state: State) -> u16
-    ensures { λ r. ⌜ r ≡ stateNumber state ⌝ }
+fn stated(state: State) -> Stated
+    ensures { λ r. ⌜ r ≡ record { state = stateNumber state; tries = triesNumber state; place = placeNumber state } ⌝ }
 {
     match state {
-        State::Neutral => 0,
-        State::Waiting => WAITING,
-        State::Inside => INSIDE,
+        State::Neutral => in_numbers(0, 0, 0),
+        State::Waiting => in_numbers(WAITING, 0, 0),
+        State::Inside => in_numbers(INSIDE, 0, 0),
+        State::Out(sending) => stated_sending(sending),
+    }
+}
+
+fn stated_sending(sending: Sending) -> Stated
+    ensures { λ r. ⌜ r ≡ record { state = stateNumber (Out sending); tries = triesNumber (Out sending); place = placeNumber (Out sending) } ⌝ }
+{
+    match sending {
+        Sending::Asking(n) => in_numbers(ASKING, n, 0),
+        Sending::Pausing(n) => in_numbers(PAUSING, n, 0),
+        Sending::Offering(n, at) => in_numbers(OFFERING, n, at),
+    }
+}
+
+fn in_numbers(state: u16, tries: u8, place: u16) -> Stated
+    ensures { λ r. ⌜ r ≡ record { state = state; tries = tries; place = place } ⌝ }
+{
+    Stated {
+        state,
+        tries: tries as u16,
+        place,
     }
 }
 

@@ -8,13 +8,13 @@ use lib.ListN.{length, set}
 use Rattle.memory.specs.Parts.{splice}
 use Rattle.journal.specs.Storage.{grown, appended}
 use Rattle.journal.specs.declared.Ledger.{Ledger}
-use Rattle.line.specs.Line.{openedLine, closedLine, begunLine, collectedLine, countedLine, waitingLine, acceptedLine, refusingLine}
+use Rattle.line.specs.Line.{openedLine, closedLine, begunLine, collectedLine, countedLine, waitingLine, acceptedLine, refusingLine, goneLine}
 use Rattle.line.specs.declared.Line.{Line}
 use Rattle.looking.specs.Views.{frameStart, textStart, framesOf, frameText}
 use Rattle.looking.specs.declared.Kind.{Kind}
 use Rattle.looking.specs.declared.Kind.the-variants.{Byte, Seconds}
 use Rattle.looking.specs.declared.Act.{Act}
-use Rattle.looking.specs.declared.Act.the-variants.{Leave, Open, Close, Begin, Count, Collect, Refuse, Accept, Store, Object}
+use Rattle.looking.specs.declared.Act.the-variants.{Leave, Open, Close, Begin, Count, Collect, Refuse, Accept, Store, Object, Go}
 
 -- what a row does
 pub record Row : Type 0 where
@@ -33,11 +33,11 @@ abbrev pub rowOf : Act → Row
 rowOf Leave = record { line = λ l. l; adds = false; writes = none; stores = false }
 -- 1: the line waits; its counts are 0, its next number is 1, it has no last number and does not refuse [L5]
 rowOf Open = record { line = openedLine; adds = false; writes = none; stores = false }
--- 5, 6 and 7: the same, but the line is neutral [L6]
+-- 5, 6 and 7, our EOT (9) and 61: the same, but the line is neutral [L6, L15]
 rowOf Close = record { line = closedLine; adds = false; writes = none; stores = false }
 -- STX (0): the line is inside a frame, and nothing else changes [L4]
 rowOf Begin = record { line = begunLine; adds = false; writes = none; stores = false }
--- seconds (0): n are counted now [L3]
+-- seconds (0, and 9 in a sending that waits on): n are counted now [L3]
 rowOf (Count n) = record { line = λ l. countedLine l n; adds = false; writes = none; stores = false }
 -- a collected byte (0): it is added, and counted [L2]
 rowOf Collect = record { line = λ l. collectedLine l (l .collected + 1); adds = true; writes = none; stores = false }
@@ -49,6 +49,8 @@ rowOf (Accept n) = record { line = λ l. acceptedLine l (l .joined + n); adds = 
 rowOf (Store n) = record { line = λ l. acceptedLine l 0; adds = true; writes = some n; stores = true }
 -- 30, 31 and faults: besides, they are written; nothing is joined any more; the line refuses [L10]
 rowOf (Object n) = record { line = refusingLine; adds = true; writes = some n; stores = false }
+-- 9, where something is sent or the pause begins: the sending is so far, with the number of its frame, and no seconds [L14]
+rowOf (Go s n) = record { line = λ l. goneLine l s n; adds = false; writes = none; stores = false }
 
 -- the line's record
 abbrev pub lineAfter : Act → Line → Line

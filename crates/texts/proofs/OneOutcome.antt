@@ -4,7 +4,7 @@ use mathlib.Core.Path.{_≡_, sym, _∙_}
 use mathlib.Core.List.{List}
 use Prim.Native.Nat.{ℕ}
 use Rattle.texts.specs.Texts.{CutFrames, Escaped, Unescaped, RecordsRead}
-use Rattle.texts.specs.declared.Made.{Made}
+use Rattle.answers.specs.declared.Made.{Made}
 
 -- `cut`, `escape` and `unescape`
 pub cut-once : (text out : List ℕ) {r q : Made} {x y : List ℕ} → CutFrames text out r x → CutFrames text out q y → (r ≡ q) × (x ≡ y)

@@ -16,7 +16,7 @@ use Rattle.owner.specs.declared.Reading.{Reading}
 use Rattle.cutting.specs.Frames.{CutInto}
 use Rattle.cutting.specs.declared.Framed.{Framed}
 use Rattle.texts.specs.Texts.{madeByCutting, madeByPutting, madeByReading, CutFrames, Escaped, Unescaped, RecordsRead}
-use Rattle.texts.specs.declared.Made.{Made}
+use Rattle.answers.specs.declared.Made.{Made}
 
 module _ {text out out′ : List ℕ} {r : Made} where
   pub by-cutting : {q : Framed} → CutInto frameLimit text out q out′ → r ≡ madeByCutting q → CutFrames text out r out′

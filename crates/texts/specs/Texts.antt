@@ -19,19 +19,10 @@ use Rattle.owner.specs.declared.Reading.the-variants as reading
 use Rattle.cutting.specs.Frames.{cutAnswer, cutIn}
 use Rattle.cutting.specs.declared.Framed.{Framed}
 use Rattle.cutting.specs.declared.Framed.the-variants as framed
-use Rattle.answers.specs.Paper.{numberOf, placeOf}
-use Rattle.answers.specs.declared.Answer.{Answer}
+use Rattle.answers.specs.InNumbers.{done, refusedWith}
 use Rattle.answers.specs.declared.Answer.the-variants.{Malformed, NotFitting, Faulty}
 use Rattle.answers.specs.declared.Fault.the-variants.{BadDelimiters}
-use Rattle.texts.specs.declared.Made.{Made}
-
--- done, and so much written: 0, which is the number of no refusal [H5]
-abbrev pub done : ℕ → Made
-done n = record { number = 0; spare = 0; place = 0; value = 0; length = n }
-
--- refused with this answer's number and, for a fault, its place; nothing written [H5]
-abbrev pub refusedWith : Answer → Made
-refusedWith a = record { number = numberOf a; spare = 0; place = placeOf a; value = 0; length = 0 }
+use Rattle.answers.specs.declared.Made.{Made}
 
 unfoldable pub madeByCutting : Framed → Made
 madeByCutting (framed.Length n) = done n

@@ -1,24 +1,16 @@
 // Texts over plain memory: cut and read by the delimiters that they name, escaped and unescaped by those that are handed over; with
 // today's frame limit.
 ghost use mathlib.Core.Path.{_≡_};
-ghost use Rattle.texts.specs.Texts.{done, refusedWith, madeByCutting, madeByPutting, madeByReading, CutFrames, Escaped, Unescaped, RecordsRead};
+ghost use Rattle.texts.specs.Texts.{madeByCutting, madeByPutting, madeByReading, CutFrames, Escaped, Unescaped, RecordsRead};
 use answers::Answer;
 use answers::Fault;
+use answers::Made;
+use answers::done;
+use answers::refused_with;
 use cutting::Framed;
 use escaping::Put;
 use kinds::Delimiters;
 use owner::Reading;
-
-// What became of a text: 0 and how much was written (bytes, or records that were read); or the number of a refusal, the place of the
-// record that is wrong, and 0. The other fields are 0 in this version: as in an answer, no byte is left unnamed.
-#[repr(C)]
-pub struct Made {
-    pub number: u8,
-    pub spare: u8,
-    pub place: u16,
-    pub value: u32,
-    pub length: usize,
-}
 
 // Cuts a message into frames.
 pub fn cut(text: &[u8], out: &mut [u8]) -> Made
@@ -90,29 +82,5 @@ fn made_by_reading(reading: Reading) -> Made
         Reading::Malformed => refused_with(Answer::Malformed),
         Reading::NotFitting => refused_with(Answer::NotFitting),
         Reading::Faulty(fault, place) => refused_with(Answer::Faulty(fault, place)),
-    }
-}
-
-fn done(n: usize) -> Made
-    ensures { λ r. ⌜ r ≡ done n ⌝ }
-{
-    Made {
-        number: 0,
-        spare: 0,
-        place: 0,
-        value: 0,
-        length: n,
-    }
-}
-
-fn refused_with(answer: Answer) -> Made
-    ensures { λ r. ⌜ r ≡ refusedWith answer ⌝ }
-{
-    Made {
-        number: answer.number(),
-        spare: 0,
-        place: answer.place(),
-        value: 0,
-        length: 0,
     }
 }

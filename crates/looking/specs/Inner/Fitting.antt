@@ -1,13 +1,15 @@
 -- What acting asks: its text lies in the frame and has room, and its counts stay within the limits.
 -- Assumes nothing.
 use Prim.Native.Nat.{ℕ, _+_, _≤_, _<_}
+use mathlib.Core.Path.{_≡_}
 use mathlib.Core.Bool.{Bool, true, false}
 use Rattle.memory.specs.Sizes.{messageLimit}
+use Rattle.digits.specs.Number.{mostNumber}
 use Rattle.frame.specs.Shape.{aroundCollected}
-use Rattle.line.specs.Line.{mostCollected, mostSeconds}
+use Rattle.line.specs.Line.{mostCollected, mostSeconds, sendingWithin}
 use Rattle.line.specs.declared.Line.{Line}
 use Rattle.looking.specs.declared.Act.{Act}
-use Rattle.looking.specs.declared.Act.the-variants.{Leave, Open, Close, Begin, Count, Collect, Refuse, Accept, Store, Object}
+use Rattle.looking.specs.declared.Act.the-variants.{Leave, Open, Close, Begin, Count, Collect, Refuse, Accept, Store, Object, Go}
 
 -- what the test `textFits` finds
 abbrev pub TextFits : Line → ℕ → Type 0
@@ -24,6 +26,7 @@ Fitting Refuse l = Unit {0}
 Fitting (Accept n) l = TextFits l n
 Fitting (Store n) l = TextFits l n
 Fitting (Object n) l = TextFits l n
+Fitting (Go s n) l = (sendingWithin s ≡ true) × (n ≤ mostNumber)
 
 -- whether its row writes into the lent memory
 abbrev pub writes : Act → Bool
@@ -37,6 +40,7 @@ writes Refuse = true
 writes (Accept n) = true
 writes (Store n) = true
 writes (Object n) = true
+writes (Go s n) = false
 
 -- it decides no message: what a look comes to
 abbrev pub Quiet : Act → Type 0
@@ -50,3 +54,4 @@ Quiet Refuse = Unit {0}
 Quiet (Accept n) = Unit {0}
 Quiet (Store n) = ⊥
 Quiet (Object n) = ⊥
+Quiet (Go s n) = Unit {0}

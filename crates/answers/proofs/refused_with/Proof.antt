@@ -1,8 +1,8 @@
--- `texts::refused_with` meets its contract.
+-- `answers::refused_with` meets its contract.
 -- Assumes nothing.
 use borrow.Author.Needs.{needs}
-use Rattle.texts.proofs.refused_with.Statement.{statement}
-use Rattle.texts.proofs.refused_with.Tie as tie
+use Rattle.answers.proofs.refused_with.Statement.{statement}
+use Rattle.answers.proofs.refused_with.Tie as tie
 
 returns : tie.Need-returns
 returns c = rw (c .place .ensures, c .before .number .ensures)
