@@ -1,16 +1,16 @@
--- One event on the gateway, and one taking: on eight records, the ledger and the lent bytes.
+-- One event on the gateway, the start of a sending, and one taking: on eight records, the ledger and the lent bytes.
 -- Assumes nothing.
 use Prim.Native.Nat.{ℕ}
 use mathlib.Core.Bool.{false}
 use mathlib.Core.List.{List}
-use lib.ListN.{getD, set, replicate}
+use lib.ListN.{length, getD, set, replicate}
 use lib.Dec.{ltb}
 use Rattle.memory.specs.Sizes.{lines}
 use Rattle.memory.specs.Tests.{unless}
 use Rattle.journal.specs.Chain.{freshLedger}
 use Rattle.journal.specs.Removal.{takeOf as takeEntry}
 use Rattle.taking.specs.Taking.{tookAnswer}
-use Rattle.line.specs.Line.{freshLine}
+use Rattle.line.specs.Line.{freshLine, withinLimits}
 use Rattle.line.specs.declared.Line.{Line}
 use Rattle.line.specs.declared.State.the-variants.{Neutral}
 use Rattle.line.specs.declared.Last.the-variants.{NoneYet}
@@ -18,6 +18,8 @@ use Rattle.answers.specs.declared.Answer.{Answer}
 use Rattle.answers.specs.declared.Answer.the-variants.{NoLine}
 use Rattle.looking.specs.declared.Event.{Event}
 use Rattle.receiving.specs.Steps.{Memory, AfterStep, stepOf}
+use Rattle.orders.specs.Starts.{startLook, startAnswer, lineStarted, textsStarted}
+use Rattle.orders.specs.declared.Start.{Start}
 use Rattle.gateway.specs.Gateway.{Gateway, Handled}
 
 -- every line fresh, the journal empty [E3]
@@ -50,6 +52,22 @@ unfoldable pub eventOf : List ℕ → Gateway → Event → Memory → AfterEven
 eventOf shares g e m =
     unless (ltb (e .line) lines) (record { handled = record { gateway = g; answer = NoLine }; memory = m })
     (putBack g (e .line) (stepOf shares (lineAt g (e .line)) (g .ledger) e m))
+
+-- what a start leaves: it sees its own line's record and part of the unfinished texts, and of the other memories their lengths [L11, L13]
+abbrev pub startedWith : Start → Gateway → ℕ → List ℕ → Memory → AfterEvent
+startedWith x g i text m = record {
+  handled = record {
+    gateway = record { lines = set (g .lines) i (lineStarted x (lineAt g i) text); ledger = g .ledger };
+    answer = startAnswer x;
+  };
+  memory = record { journal = m .journal; unfinished = textsStarted x i text (m .unfinished); frames = m .frames };
+}
+
+abbrev pub startIn : Gateway → ℕ → List ℕ → Memory → Start
+startIn g i text m = startLook i (withinLimits (lineAt g i)) (lineAt g i .state) text (length (m .journal)) (length (m .unfinished)) (length (m .frames))
+
+unfoldable pub startOf : Gateway → ℕ → List ℕ → Memory → AfterEvent
+startOf g i text m = startedWith (startIn g i text m) g i text m
 
 pub record AfterTake : Type 0 where
   pub handled : Handled

@@ -1,2 +1,3 @@
 pub mod Gateway
 pub mod Events
+pub mod Out

@@ -18,7 +18,7 @@ use Rattle.line.specs.Line.{withinLimits, waitingLine}
 use Rattle.line.specs.declared.Line.{Line}
 use Rattle.answers.specs.declared.Answer.{Answer}
 use Rattle.answers.specs.declared.Answer.the-variants.{Nothing, Stored, NoLine}
-use Rattle.line.proofs.Limits.{Within, within-facts, within-of, opened-within, closed-within, begun-within, collected-within, counted-within, waiting-within, accepted-within, refusing-within}
+use Rattle.line.proofs.Limits.{Within, within-facts, within-of, opened-within, closed-within, begun-within, collected-within, counted-within, waiting-within, accepted-within, refusing-within, gone-within}
 use Rattle.looking.specs.Views.{framesOf, textsOf, joinedText}
 use Rattle.looking.specs.Looks.{lookOf}
 use Rattle.receiving.specs.Verdicts.{ownWork, verdictOf}
@@ -31,7 +31,7 @@ use Rattle.gateway.specs.Gateway.{Gateway}
 use Rattle.looking.specs.declared.Look.the-variants.{Done}
 use Rattle.looking.specs.Verdicts.{verdict, Left, Stores}
 use Rattle.looking.specs.declared.Act.{Act}
-use Rattle.looking.specs.declared.Act.the-variants.{Leave, Open, Close, Begin, Count, Collect, Refuse, Accept, Store, Object}
+use Rattle.looking.specs.declared.Act.the-variants.{Leave, Open, Close, Begin, Count, Collect, Refuse, Accept, Store, Object, Await, Go}
 use Rattle.looking.specs.declared.Verdict.{Verdict}
 use Rattle.gateway_laws.specs.Classes.{Class, quiet, refusing, storing, classOf}
 use Rattle.gateway_laws.proofs.Found.{Found, refused, worked, verdict-found}
@@ -149,6 +149,8 @@ module _ (shares : List ℕ) (l : Line) (d : Ledger) (e : Event) (m : Memory) wh
   line-within (Accept n) w t = accepted-within l w (l .joined + n) (t .1)
   line-within (Store n) w t = accepted-within l w 0 (omega arith)
   line-within (Object n) w t = refusing-within l w
+  line-within (Await n) w t = counted-within l w n t
+  line-within (Go s n) w t = gone-within l w s n (t .0) (t .1)
 
   pub limits-kept : withinLimits l ≡ true → withinLimits (stepOf shares l d e m .stepped .line) ≡ true
   limits-kept h = by-found found refl (verdict-found shares l d e (m .journal) (m .unfinished) (m .frames))

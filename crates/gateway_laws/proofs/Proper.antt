@@ -1,6 +1,6 @@
 -- Every verdict gives an answer that goes with its act.
 -- Assumes nothing.
-use mathlib.Core.Path.{_≡_, refl, sym, ap, subst}
+use mathlib.Core.Path.{_≡_, refl, sym, ap, subst, _∙_}
 use mathlib.Core.List.{List}
 use Prim.Native.Nat.{ℕ}
 use lib.ListN.{length}
@@ -21,14 +21,23 @@ use Rattle.looking.specs.declared.Event.{Event}
 use Rattle.looking.specs.declared.Look.{Look}
 use Rattle.looking.specs.declared.Look.the-variants.{Done, Decides}
 use Rattle.answers.specs.declared.Answer.{Answer}
+use Rattle.answers.specs.declared.Answer.the-variants.{Sends}
 use Rattle.looking.specs.declared.Act.{Act}
-use Rattle.looking.specs.declared.Act.the-variants.{Leave, Open, Close, Begin, Count, Collect, Refuse, Accept, Store, Object}
+use Rattle.looking.specs.declared.Act.the-variants.{Leave, Open, Close, Begin, Count, Collect, Refuse, Accept, Store, Object, Await, Go}
+use Rattle.line.specs.declared.Sending.{Sending}
+use Rattle.line.specs.declared.Sending.the-variants.{Asking, Pausing, Offering}
+use Rattle.looking.specs.Verdicts.{parcelOf}
 use Rattle.looking.specs.declared.Verdict.{Verdict}
 use Rattle.looking.proofs.Views.{own-parts}
 use Rattle.looking.proofs.Cases.{Cases, every-look}
-use Rattle.gateway_laws.specs.Classes.{against, classOf}
+use Rattle.gateway_laws.specs.Classes.{against, sending, classOf}
 use Rattle.gateway_laws.specs.Inner.Classes.{actClass, Goes}
 use Rattle.gateway_laws.proofs.Found.{Found, refused, worked, verdict-found}
+
+parcel-sends : (s : Sending) → classOf (Sends (parcelOf s)) ≡ sending
+parcel-sends (Asking n) = refl
+parcel-sends (Pausing n) = refl
+parcel-sends (Offering n at) = refl
 
 -- an answer that goes with an act has its class
 pub goes-class : (x : Act) (a : Answer) → Goes x a → classOf a ≡ actClass x
@@ -42,6 +51,8 @@ goes-class Refuse a h = h
 goes-class (Accept n) a h = ap classOf h
 goes-class (Store n) a h = ap classOf h
 goes-class (Object n) a h = h
+goes-class (Await n) a h = ap classOf h
+goes-class (Go s n) a h = ap classOf h ∙ parcel-sends s
 
 abbrev pub Proper : Verdict → Type 0
 Proper v = Goes (v .act) (v .answer)
@@ -73,6 +84,10 @@ proper l = record {
   no-cr = refl;
   accepts = λ n t. refl;
   decides = λ n t. tt;
+  awaits = λ n h. refl;
+  goes = λ s n h k. refl;
+  over = refl;
+  given-up = refl;
 }
 
 room-proper : (q : Judgement) (n : ℕ) → Proper (outcomeVerdict (roomOutcome q) n)

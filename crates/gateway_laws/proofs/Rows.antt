@@ -1,5 +1,5 @@
--- The rows of "What is left" by what they write: three write the frame's text and seven leave the texts, five add a byte to the frame and five leave it,
--- one stores and nine leave ledger and journal. What holds in both cases holds of every act. And the acts of each class.
+-- The rows of "What is left" by what they write: three write the frame's text and nine leave the texts, five add a byte to the frame and seven leave it,
+-- one stores and eleven leave ledger and journal. What holds in both cases holds of every act. And the acts of each class.
 -- Assumes nothing.
 use mathlib.Core.Bool.{Bool, true, false, cond}
 use mathlib.Core.List.{List}
@@ -14,8 +14,9 @@ use Rattle.receiving.specs.Settled.{rowOf, withByte, withText, framesAfter, tex
 use Rattle.looking.specs.Inner.Fitting.{TextFits, Fitting}
 use Rattle.looking.specs.declared.Kind.{Kind}
 use Rattle.looking.specs.declared.Act.{Act}
-use Rattle.looking.specs.declared.Act.the-variants.{Leave, Open, Close, Begin, Count, Collect, Refuse, Accept, Store, Object}
-use Rattle.gateway_laws.specs.Classes.{Class, quiet, opening, closing, refusing, accepting, storing, against}
+use Rattle.looking.specs.declared.Act.the-variants.{Leave, Open, Close, Begin, Count, Collect, Refuse, Accept, Store, Object, Await, Go}
+use Rattle.line.specs.declared.Sending.{Sending}
+use Rattle.gateway_laws.specs.Classes.{Class, quiet, opening, closing, refusing, accepting, storing, against, sending}
 use Rattle.gateway_laws.specs.Inner.Classes.{actClass}
 use Rattle.gateway_laws.specs.Inner.Own.{ownByte, ownFrames, ownTexts}
 
@@ -33,6 +34,8 @@ module _ (l : Line) (i : ℕ) (u f : List ℕ) (P : List ℕ → List ℕ → Ty
   text-rows left written (Accept n) t = written n t
   text-rows left written (Store n) t = written n t
   text-rows left written (Object n) t = written n t
+  text-rows left written (Await n) t = left
+  text-rows left written (Go s n) t = left
 
   -- the frame bytes of all lines, and the line's own
   pub frame-rows : (k : Kind) → P f (framesOf i f) → P (withByte k l i f) (ownByte k l (framesOf i f)) → (a : Act) → P (framesAfter a k l i f) (ownFrames a k l (framesOf i f))
@@ -56,6 +59,8 @@ module _ (d : Ledger) (i : ℕ) (text : ℕ → List ℕ) (j : List ℕ) (P : Ac
   store-rows left stored (Accept n) = left (Accept n)
   store-rows left stored (Store n) = stored n
   store-rows left stored (Object n) = left (Object n)
+  store-rows left stored (Await n) = left (Await n)
+  store-rows left stored (Go s n) = left (Go s n)
 
 -- the acts of a class
 pub data Of : Class → Act → Type 0 where
@@ -69,6 +74,8 @@ pub data Of : Class → Act → Type 0 where
   accepts : (n : ℕ) → Of accepting (Accept n)
   stores : (n : ℕ) → Of storing (Store n)
   objects : (n : ℕ) → Of against (Object n)
+  awaits : (n : ℕ) → Of sending (Await n)
+  goes : (s : Sending) (n : ℕ) → Of sending (Go s n)
 
 pub of-class : (a : Act) → Of (actClass a) a
 of-class Leave = leaves
@@ -81,3 +88,5 @@ of-class Refuse = refuses
 of-class (Accept n) = accepts n
 of-class (Store n) = stores n
 of-class (Object n) = objects n
+of-class (Await n) = awaits n
+of-class (Go s n) = goes s n

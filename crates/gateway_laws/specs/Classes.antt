@@ -1,11 +1,13 @@
 -- The answers by what they leave: the rows of the rules L1 to L12.
 -- Assumes nothing.
 use Rattle.answers.specs.declared.Answer.{Answer}
-use Rattle.answers.specs.declared.Answer.the-variants.{Nothing, Opened, Accepted, Repeated, Stored, Ended, Dropped, TimedOut, Taken, Busy, Unended, Torn, WrongCheck, BadText, BadNumber, Refusing, OutOfTurn, TooLong, NoCr, NoMessage, NoRoom, NoLine, WrongSize, BeyondLimits, Broken, NothingWaiting, BufferShort, Malformed, NotFitting, Faulty}
+use Rattle.answers.specs.declared.Answer.the-variants.{Nothing, Opened, Accepted, Repeated, Stored, Ended, Dropped, TimedOut, Taken, Sends, Busy, Unended, Torn, WrongCheck, BadText, BadNumber, Refusing, OutOfTurn, TooLong, NoCr, NoMessage, NoRoom, NoLine, WrongSize, BeyondLimits, Broken, NothingWaiting, BufferShort, Malformed, NotFitting, Faulty, Unsendable, NotNeutral, GivenUp}
+use Rattle.answers.specs.declared.Parcel.the-variants.{Empty, Enquiry, Ending, Frame}
 
--- quiet: 0, 20, 40 to 47; opening: 1; closing: 5, 6, 7; refusing: 3 and 21 to 29; deciding against: 30, 31 and faults; and 2, 4, 8
+-- quiet: 0, 20, 40 to 47, 60, and a fault of a text that is not sent; opening: 1; closing: 5, 6, 7, 61, and 9 with our EOT; refusing: 3 and 21 to 29; deciding against:
+-- 30, 31 and faults; sending: the other 9; and 2, 4, 8
 pub data Class : Type 0 where
-  quiet opening closing refusing accepting storing against taking : Class
+  quiet opening closing refusing accepting storing against taking sending : Class
 
 abbrev pub classOf : Answer → Class
 classOf Nothing = quiet
@@ -17,6 +19,10 @@ classOf Ended = closing
 classOf Dropped = closing
 classOf TimedOut = closing
 classOf (Taken length serial) = taking
+classOf (Sends Empty) = sending
+classOf (Sends Enquiry) = sending
+classOf (Sends Ending) = closing
+classOf (Sends Frame) = sending
 classOf Busy = quiet
 classOf Unended = refusing
 classOf Torn = refusing
@@ -38,3 +44,6 @@ classOf BufferShort = quiet
 classOf Malformed = quiet
 classOf NotFitting = quiet
 classOf (Faulty f place) = against
+classOf (Unsendable f place) = quiet
+classOf NotNeutral = quiet
+classOf GivenUp = closing

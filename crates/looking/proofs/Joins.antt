@@ -41,7 +41,7 @@ use Rattle.looking.specs.Views.{frameBytes, frameText, unfinishedText, j
 use Rattle.looking.specs.Looks.{endLook, turnLook, shapeLook, frameLook, neutralLook, waitingLook, insideLook, byState, passedLook, onwardLook, byteLook, secondsLook, lookOf}
 use Rattle.looking.specs.Verdicts.{Collects, Refuses, Accepts}
 use Rattle.looking.specs.declared.Act.{Act}
-use Rattle.looking.specs.declared.Act.the-variants.{Leave, Open, Close, Begin, Count, Collect, Refuse, Accept, Store, Object, Go}
+use Rattle.looking.specs.declared.Act.the-variants.{Leave, Open, Close, Begin, Count, Collect, Refuse, Accept, Store, Object, Await, Go}
 use Rattle.looking.specs.declared.Kind.{Kind}
 use Rattle.looking.specs.declared.Kind.the-variants.{Byte, Seconds}
 use Rattle.looking.specs.declared.Look.{Look}
@@ -64,6 +64,7 @@ ActJoins Refuse l texts frames = Unit {0}
 ActJoins (Accept n) l texts frames = Joinable l n texts frames
 ActJoins (Store n) l texts frames = Unit {0}
 ActJoins (Object n) l texts frames = Unit {0}
+ActJoins (Await n) l texts frames = Unit {0}
 ActJoins (Go s n) l texts frames = Unit {0}
 
 abbrev pub LookJoins : Look → Line → List ℕ → List ℕ → Type 0

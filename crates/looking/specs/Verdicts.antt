@@ -8,7 +8,7 @@ use Rattle.answers.specs.declared.Parcel.the-variants.{Empty, Enquiry, Frame}
 use Rattle.line.specs.declared.Sending.{Sending}
 use Rattle.line.specs.declared.Sending.the-variants.{Asking, Pausing, Offering}
 use Rattle.looking.specs.declared.Act.{Act}
-use Rattle.looking.specs.declared.Act.the-variants.{Leave, Open, Close, Begin, Count, Collect, Refuse, Accept, Store, Object, Go}
+use Rattle.looking.specs.declared.Act.the-variants.{Leave, Open, Close, Begin, Count, Collect, Refuse, Accept, Store, Object, Await, Go}
 use Rattle.looking.specs.declared.Verdict.{Verdict}
 
 abbrev pub verdict : Act → Answer → Verdict
@@ -57,7 +57,7 @@ parcelOf (Offering n at) = Frame
 
 -- a sending: it waits on, n seconds by now; or it goes on, with the number of its frame [A9]
 abbrev pub Awaits : ℕ → Verdict
-Awaits n = verdict (Count n) (Sends Empty)
+Awaits n = verdict (Await n) (Sends Empty)
 
 abbrev pub GoesOn : Sending → ℕ → Verdict
 GoesOn s n = verdict (Go s n) (Sends (parcelOf s))

@@ -35,6 +35,7 @@ pub enum Act {
     Accept(usize),
     Store(usize),
     Object(usize),
+    Await(u8),
     Go(Sending, u8),
 }
 

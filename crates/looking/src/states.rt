@@ -132,7 +132,7 @@ fn look_onward(onward: Onward) -> Look
 {
     match onward {
         Onward::Stays => done(Act::Leave, Answer::Nothing),
-        Onward::Waits(n) => done(Act::Count(n), Answer::Sends(Parcel::Empty)),
+        Onward::Waits(n) => done(Act::Await(n), Answer::Sends(Parcel::Empty)),
         Onward::Goes(sending, n) => {
             let parcel = parcel_of(sending);
             done(Act::Go(sending, n), Answer::Sends(parcel))

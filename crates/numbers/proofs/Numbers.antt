@@ -55,19 +55,28 @@ module _ (ns : List ℕ) (i : ℕ) where
         sending = and-right (leb (numberAt ns i 6) 1) _ rest₆;
       }
 
+-- no state has more tries than six
+pub few-tries : (n tries place : ℕ) → sendingFits n tries place ≡ true → tries ≤ 255
+few-tries n tries place e = by-state (leb n inside) (leb n pausing) e
+  where
+    by-state : (a b : Bool) → cond a (eqb tries 0 && eqb place 0) (cond b (ltb tries mostTries && eqb place 0) (leb tries mostTries && leb place messageLimit)) ≡ true → tries ≤ 255
+    by-state true b f = omega (arith, eqb-true tries 0 (and-left (eqb tries 0) _ f))
+    by-state false true f = omega (arith, ltb-true tries mostTries (and-left (ltb tries mostTries) _ f))
+    by-state false false f = omega (arith, leb-true tries mostTries (and-left (leb tries mostTries) _ f))
+
 -- a number that is not 0 tells the one below it
 pub last-some : (n : ℕ) → (n ≡ 0 → ⊥) → Number (n - 1) ≡ lastOf n
 last-some zero h = absurd (h refl)
 last-some (suc n) h = simp unary-clauses
 
 -- a record's numbers stand for it: a state's number, tries and place tell the state, and the state tells them
-pub record StateBack (n tries place : ℕ) : Type 0 where
-  pub state : stateNumber (stateOf n tries place) ≡ n
-  pub tries : triesNumber (stateOf n tries place) ≡ tries
-  pub place : placeNumber (stateOf n tries place) ≡ place
-  pub within : stateWithin (stateOf n tries place) ≡ true
+pub record StateBack (n t p : ℕ) : Type 0 where
+  pub state : stateNumber (stateOf n t p) ≡ n
+  pub tries : triesNumber (stateOf n t p) ≡ t
+  pub place : placeNumber (stateOf n t p) ≡ p
+  pub within : stateWithin (stateOf n t p) ≡ true
 
-pub state-back : (n tries place : ℕ) → n ≤ offering → sendingFits n tries place ≡ true → StateBack n tries place
+pub state-back : (n t p : ℕ) → n ≤ offering → sendingFits n t p ≡ true → StateBack n t p
 state-back zero t p h e = record { state = refl; tries = sym (eqb-true t 0 (and-left (eqb t 0) _ e)); place = sym (eqb-true p 0 (and-right (eqb t 0) _ e)); within = refl }
 state-back (suc zero) t p h e = record { state = refl; tries = sym (eqb-true t 0 (and-left (eqb t 0) _ e)); place = sym (eqb-true p 0 (and-right (eqb t 0) _ e)); within = refl }
 state-back (suc (suc zero)) t p h e = record { state = refl; tries = sym (eqb-true t 0 (and-left (eqb t 0) _ e)); place = sym (eqb-true p 0 (and-right (eqb t 0) _ e)); within = refl }

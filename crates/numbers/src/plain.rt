@@ -220,7 +220,7 @@ pub fn put_line(numbers: &mut [u16; NUMBERS], i: usize, line: Line)
     let at = i * FIELDS;
     let state = line.state;
     let last = line.last;
-    let stated = stated(state);
+    let stated = state_numbers(state);
     numbers[at] = stated.state;
     numbers[at + COLLECTED] = line.collected;
     numbers[at + JOINED] = line.joined;
@@ -232,18 +232,18 @@ pub fn put_line(numbers: &mut [u16; NUMBERS], i: usize, line: Line)
     numbers[at + PLACE] = stated.place;
 }
 
-fn stated(state: State) -> Stated
+fn state_numbers(state: State) -> Stated
     ensures { λ r. ⌜ r ≡ record { state = stateNumber state; tries = triesNumber state; place = placeNumber state } ⌝ }
 {
     match state {
         State::Neutral => in_numbers(0, 0, 0),
         State::Waiting => in_numbers(WAITING, 0, 0),
         State::Inside => in_numbers(INSIDE, 0, 0),
-        State::Out(sending) => stated_sending(sending),
+        State::Out(sending) => sending_numbers(sending),
     }
 }
 
-fn stated_sending(sending: Sending) -> Stated
+fn sending_numbers(sending: Sending) -> Stated
     ensures { λ r. ⌜ r ≡ record { state = stateNumber (Out sending); tries = triesNumber (Out sending); place = placeNumber (Out sending) } ⌝ }
 {
     match sending {

@@ -6,5 +6,6 @@ pub mod OnlyMessages
 pub mod Clean
 pub mod Freed
 pub mod Sending
+pub mod Orders
 pub mod Examples
 pub mod Inner

@@ -1,33 +1,37 @@
--- The gateway as a machine that runs events and takings: its state is the gateway and the three lent memories.
--- A taking's buffer comes with it, and what the buffer holds afterwards is part of its answer.
+-- The gateway as a machine that runs events, starts of sendings and takings: its state is the gateway and the three lent memories.
+-- A taking's buffer comes with it, and what the buffer holds afterwards is part of its answer; so is what goes out in a sending.
 -- Assumes nothing.
 use Prim.Native.Nat.{ℕ, _<_}
 use mathlib.Core.Path.{_≡_}
 use mathlib.Core.Bool.{Bool, true, false}
 use mathlib.Core.List.{List, []}
 use lib.ListN.{length}
-use Rattle.memory.specs.Sizes.{lines, unfinishedSize, framesSize}
+use Rattle.memory.specs.Sizes.{lines, frameLimit, unfinishedSize, framesSize}
 use Rattle.header.specs.Entry.{Entry}
 use Rattle.room.specs.Room.{todaysShares}
 use Rattle.journal_laws.specs.Held.{Held}
 use Rattle.journal_laws.specs.Runs.{State as Store}
 use Rattle.line.specs.Line.{withinLimits}
 use Rattle.line.specs.declared.Line.{Line}
+use Rattle.answers.specs.Paper.{numberOf, firstOut}
+use Rattle.answers.specs.InNumbers.{replyByte}
 use Rattle.answers.specs.declared.Answer.{Answer}
-use Rattle.looking.specs.Views.{framesOf, textsOf}
+use Rattle.sending.specs.Offered.{frameNow}
+use Rattle.looking.specs.Views.{framesOf, textsOf, unfinishedText}
 use Rattle.receiving.specs.Steps.{Memory, memoryOf}
-use Rattle.gateway.specs.Events.{AfterEvent, AfterTake, lineAt, eventOf, takeOf}
+use Rattle.gateway.specs.Events.{AfterEvent, AfterTake, lineAt, eventOf, startOf, takeOf}
+use Rattle.gateway.specs.Out.{outBytes}
 use Rattle.looking.specs.declared.Event.{Event}
 use Rattle.gateway.specs.Gateway.{Gateway}
 use Rattle.looking.specs.declared.Kind.{Kind}
-use Rattle.gateway_laws.specs.Classes.{Class, classOf, quiet, opening, closing, refusing, accepting, storing, against, taking as gives}
+use Rattle.gateway_laws.specs.Classes.{Class, classOf, quiet, opening, closing, refusing, accepting, storing, against, taking as gives, sending}
 use Rattle.serial.specs.Serial.{Item, event, taking}
 
 pub record State : Type 0 where
   pub gateway : Gateway
   pub memory : Memory
 
--- the answer to an item, and what the buffer of a taking then holds
+-- the answer to an item, and what the buffer of a taking then holds, or what goes out in a sending
 pub record Response : Type 0 where
   pub answer : Answer
   pub buffer : List ℕ
@@ -35,25 +39,41 @@ pub record Response : Type 0 where
 abbrev pub response : Answer → List ℕ → Response
 response a b = record { answer = a; buffer = b }
 
--- an item: an event on a line, a byte or seconds; or a taking from a line into a buffer
-abbrev pub GatewayItem : Type 0
-GatewayItem = Item Kind (List ℕ)
+-- what comes on a line: a byte or seconds, or the start of a sending with its text
+pub data Coming : Type 0 where
+  happens : Kind → Coming
+  starts : List ℕ → Coming
 
--- the item of what has come on line i
+-- an item: an event on a line; or a taking from a line into a buffer
+abbrev pub GatewayItem : Type 0
+GatewayItem = Item Coming (List ℕ)
+
+-- the item of what has come on line i, and of a text that is to be sent there
 abbrev pub came : ℕ → Kind → GatewayItem
-came i k = event i k
+came i k = event i (happens k)
+
+abbrev pub starting : ℕ → List ℕ → GatewayItem
+starting i text = event i (starts text)
 
 abbrev pub onLine : ℕ → Kind → Event
 onLine i k = record { line = i; kind = k }
 
-abbrev pub afterEvent : AfterEvent → Response × State
-afterEvent r = (response (r .handled .answer) [], record { gateway = r .handled .gateway; memory = r .memory })
+-- what goes out with an answer, where a line then has this record and this part of the unfinished texts [S2]
+abbrev pub goesOut : Answer → Line → List ℕ → List ℕ
+goesOut a l texts = outBytes (numberOf a) (replyByte (firstOut a)) (frameNow frameLimit l (unfinishedText l texts))
+
+abbrev pub afterEvent : ℕ → AfterEvent → Response × State
+afterEvent i r = (
+  response (r .handled .answer) (goesOut (r .handled .answer) (lineAt (r .handled .gateway) i) (textsOf i (r .memory .unfinished))),
+  record { gateway = r .handled .gateway; memory = r .memory },
+)
 
 abbrev pub afterTake : Memory → AfterTake → Response × State
 afterTake m r = (response (r .handled .answer) (r .buffer), record { gateway = r .handled .gateway; memory = memoryOf (r .journal) (m .unfinished) (m .frames) })
 
 abbrev pub step : State → GatewayItem → Response × State
-step s (event i k) = afterEvent (eventOf todaysShares (s .gateway) (onLine i k) (s .memory))
+step s (event i (happens k)) = afterEvent i (eventOf todaysShares (s .gateway) (onLine i k) (s .memory))
+step s (event i (starts text)) = afterEvent i (startOf (s .gateway) i text (s .memory))
 step s (taking i b) = afterTake (s .memory) (takeOf (s .gateway) i (s .memory .journal) b)
 
 -- 4 stores a message; 30, 31 and faults finally refuse a complete text
@@ -66,6 +86,7 @@ isDecision accepting = false
 isDecision storing = true
 isDecision against = true
 isDecision gives = false
+isDecision sending = false
 
 abbrev pub decides : Response → Bool
 decides t = isDecision (classOf (t .answer))

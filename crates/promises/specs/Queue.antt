@@ -16,7 +16,7 @@ use Rattle.answers.specs.Paper.{valuesOf}
 use Rattle.receiving.specs.Steps.{Memory}
 use Rattle.looking.specs.declared.Kind.{Kind}
 use Rattle.serial.specs.Serial.{event, taking, final}
-use Rattle.promises.specs.Machine.{State, Response, GatewayItem, came, step}
+use Rattle.promises.specs.Machine.{State, Response, GatewayItem, happens, starts, came, step}
 use Rattle.promises.specs.Runs.{fresh, answered, offered}
 
 -- the message that an event completes on its line; no bytes where it completes none
@@ -33,7 +33,8 @@ gave t = cond (eqb (answered t) 8) (record { serial = getD (valuesOf (t .answer)
 
 -- the message that an item stores on line l: one that is answered 4
 abbrev pub storedOn : ℕ → State → GatewayItem → List (List ℕ)
-storedOn l s (event i k) = cond (eqb i l && eqb (answered ((step s (came i k)) .0)) 4) (completed s i k ∷ []) []
+storedOn l s (event i (happens k)) = cond (eqb i l && eqb (answered ((step s (came i k)) .0)) 4) (completed s i k ∷ []) []
+storedOn l s (event i (starts text)) = []
 storedOn l s (taking i b) = []
 
 -- what an item takes from line l

@@ -8,7 +8,7 @@ use Rattle.deciding.specs.declared.Fate.{Fate}
 use Rattle.line.specs.declared.Line.{Line}
 use Rattle.looking.specs.Inner.Fitting.{TextFits, Fitting, Quiet}
 use Rattle.looking.specs.declared.Act.{Act}
-use Rattle.looking.specs.declared.Act.the-variants.{Leave, Open, Close, Begin, Count, Collect, Refuse, Accept, Store, Object, Go}
+use Rattle.looking.specs.declared.Act.the-variants.{Leave, Open, Close, Begin, Count, Collect, Refuse, Accept, Store, Object, Await, Go}
 use Rattle.receiving.specs.Verdicts.{fateAct}
 use Rattle.receiving.specs.Settled.{ledgerAfter, journalAfter}
 
@@ -23,6 +23,7 @@ quiet-keeps Refuse d i text j q = (refl, refl)
 quiet-keeps (Accept n) d i text j q = (refl, refl)
 quiet-keeps (Store n) d i text j q = absurd q
 quiet-keeps (Object n) d i text j q = absurd q
+quiet-keeps (Await n) d i text j q = (refl, refl)
 quiet-keeps (Go s n) d i text j q = (refl, refl)
 
 -- a decision fits as its text does

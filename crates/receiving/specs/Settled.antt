@@ -14,7 +14,7 @@ use Rattle.looking.specs.Views.{frameStart, textStart, framesOf, frameText}
 use Rattle.looking.specs.declared.Kind.{Kind}
 use Rattle.looking.specs.declared.Kind.the-variants.{Byte, Seconds}
 use Rattle.looking.specs.declared.Act.{Act}
-use Rattle.looking.specs.declared.Act.the-variants.{Leave, Open, Close, Begin, Count, Collect, Refuse, Accept, Store, Object, Go}
+use Rattle.looking.specs.declared.Act.the-variants.{Leave, Open, Close, Begin, Count, Collect, Refuse, Accept, Store, Object, Await, Go}
 
 -- what a row does
 pub record Row : Type 0 where
@@ -37,7 +37,7 @@ rowOf Open = record { line = openedLine; adds = false; writes = none; stores = f
 rowOf Close = record { line = closedLine; adds = false; writes = none; stores = false }
 -- STX (0): the line is inside a frame, and nothing else changes [L4]
 rowOf Begin = record { line = begunLine; adds = false; writes = none; stores = false }
--- seconds (0, and 9 in a sending that waits on): n are counted now [L3]
+-- seconds (0): n are counted now [L3]
 rowOf (Count n) = record { line = λ l. countedLine l n; adds = false; writes = none; stores = false }
 -- a collected byte (0): it is added, and counted [L2]
 rowOf Collect = record { line = λ l. collectedLine l (l .collected + 1); adds = true; writes = none; stores = false }
@@ -49,6 +49,8 @@ rowOf (Accept n) = record { line = λ l. acceptedLine l (l .joined + n); adds = 
 rowOf (Store n) = record { line = λ l. acceptedLine l 0; adds = true; writes = some n; stores = true }
 -- 30, 31 and faults: besides, they are written; nothing is joined any more; the line refuses [L10]
 rowOf (Object n) = record { line = refusingLine; adds = true; writes = some n; stores = false }
+-- 9, where a sending waits on: n seconds are counted now [L14]
+rowOf (Await n) = record { line = λ l. countedLine l n; adds = false; writes = none; stores = false }
 -- 9, where something is sent or the pause begins: the sending is so far, with the number of its frame, and no seconds [L14]
 rowOf (Go s n) = record { line = λ l. goneLine l s n; adds = false; writes = none; stores = false }
 

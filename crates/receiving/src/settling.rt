@@ -39,6 +39,7 @@ pub fn settle(
         Act::Accept(n) => accept(line, i, kind, n, unfinished, frames),
         Act::Store(_) => line, // no look comes to these two: `close` has their rows
         Act::Object(_) => line,
+        Act::Await(n) => line.with_seconds(n),
         Act::Go(sending, number) => line.gone(sending, number),
     }
 }

@@ -2,10 +2,12 @@
 -- Assumes nothing.
 use mathlib.Core.Path.{_≡_}
 use Rattle.answers.specs.declared.Answer.{Answer}
-use Rattle.answers.specs.declared.Answer.the-variants.{Nothing, Opened, Accepted, Stored}
+use Rattle.answers.specs.declared.Answer.the-variants.{Nothing, Opened, Accepted, Stored, Sends}
+use Rattle.answers.specs.declared.Parcel.the-variants.{Empty}
+use Rattle.looking.specs.Verdicts.{parcelOf}
 use Rattle.looking.specs.declared.Act.{Act}
-use Rattle.looking.specs.declared.Act.the-variants.{Leave, Open, Close, Begin, Count, Collect, Refuse, Accept, Store, Object}
-use Rattle.gateway_laws.specs.Classes.{Class, quiet, opening, closing, refusing, accepting, storing, against, classOf}
+use Rattle.looking.specs.declared.Act.the-variants.{Leave, Open, Close, Begin, Count, Collect, Refuse, Accept, Store, Object, Await, Go}
+use Rattle.gateway_laws.specs.Classes.{Class, quiet, opening, closing, refusing, accepting, storing, against, sending, classOf}
 
 abbrev pub actClass : Act → Class
 actClass Leave = quiet
@@ -18,6 +20,8 @@ actClass Refuse = refusing
 actClass (Accept n) = accepting
 actClass (Store n) = storing
 actClass (Object n) = against
+actClass (Await n) = sending
+actClass (Go s n) = sending
 
 -- an answer goes with an act: where an act has more than one, by its class
 abbrev pub Goes : Act → Answer → Type 0
@@ -31,3 +35,5 @@ Goes Refuse a = classOf a ≡ refusing
 Goes (Accept n) a = a ≡ Accepted
 Goes (Store n) a = a ≡ Stored
 Goes (Object n) a = classOf a ≡ against
+Goes (Await n) a = a ≡ Sends Empty
+Goes (Go s n) a = a ≡ Sends (parcelOf s)

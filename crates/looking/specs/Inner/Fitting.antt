@@ -9,7 +9,7 @@ use Rattle.frame.specs.Shape.{aroundCollected}
 use Rattle.line.specs.Line.{mostCollected, mostSeconds, sendingWithin}
 use Rattle.line.specs.declared.Line.{Line}
 use Rattle.looking.specs.declared.Act.{Act}
-use Rattle.looking.specs.declared.Act.the-variants.{Leave, Open, Close, Begin, Count, Collect, Refuse, Accept, Store, Object, Go}
+use Rattle.looking.specs.declared.Act.the-variants.{Leave, Open, Close, Begin, Count, Collect, Refuse, Accept, Store, Object, Await, Go}
 
 -- what the test `textFits` finds
 abbrev pub TextFits : Line → ℕ → Type 0
@@ -26,6 +26,7 @@ Fitting Refuse l = Unit {0}
 Fitting (Accept n) l = TextFits l n
 Fitting (Store n) l = TextFits l n
 Fitting (Object n) l = TextFits l n
+Fitting (Await n) l = n ≤ mostSeconds
 Fitting (Go s n) l = (sendingWithin s ≡ true) × (n ≤ mostNumber)
 
 -- whether its row writes into the lent memory
@@ -40,6 +41,7 @@ writes Refuse = true
 writes (Accept n) = true
 writes (Store n) = true
 writes (Object n) = true
+writes (Await n) = false
 writes (Go s n) = false
 
 -- it decides no message: what a look comes to
@@ -54,4 +56,5 @@ Quiet Refuse = Unit {0}
 Quiet (Accept n) = Unit {0}
 Quiet (Store n) = ⊥
 Quiet (Object n) = ⊥
+Quiet (Await n) = Unit {0}
 Quiet (Go s n) = Unit {0}

@@ -1,23 +1,29 @@
--- An event by its line's parts and the store alone, and a taking by the store alone: what the proof of stretches asks of a machine with lines.
+-- An event or a start by its line's parts and the store alone, and a taking by the store alone: what the proof of stretches asks of a machine with lines.
 -- Assumes nothing.
 use Prim.Native.Nat.{ℕ}
 use mathlib.Core.List.{List, []}
+use Rattle.memory.specs.Sizes.{journalSize, unfinishedSize, framesSize}
+use Rattle.memory.specs.Parts.{splice}
 use Rattle.room.specs.Room.{todaysShares}
 use Rattle.journal.specs.Removal.{takeOf as takeEntry}
 use Rattle.journal_laws.specs.Runs.{State as Store}
 use Rattle.looking.specs.Views.{joinedText}
 use Rattle.receiving.specs.Verdicts.{ownWork}
 use Rattle.receiving.specs.Settled.{lineAfter, ledgerAfter, journalAfter}
+use Rattle.line.specs.Line.{withinLimits}
+use Rattle.orders.specs.Starts.{startLook, startAnswer, lineStarted}
+use Rattle.orders.specs.declared.Start.{Start}
+use Rattle.orders.specs.declared.Start.the-variants.{Asks, Refused}
 use Rattle.taking.specs.Taking.{tookAnswer}
 use Rattle.looking.specs.declared.Kind.{Kind}
 use Rattle.looking.specs.declared.Verdict.{Verdict}
 use Rattle.gateway_laws.specs.Inner.Own.{ownFrames, ownTexts}
-use Rattle.promises.specs.Machine.{Response, response, Parts}
+use Rattle.promises.specs.Machine.{Response, response, Coming, happens, starts, goesOut, Parts}
 
 -- an event by its line's parts and the store alone
 abbrev pub left : Verdict → ℕ → Parts → Kind → Store → Response × Parts × Store
 left v i p k j = (
-  response (v .answer) [],
+  response (v .answer) (goesOut (v .answer) (lineAfter (v .act) (p .line)) (ownTexts (v .act) (p .line) (p .texts) (p .frames))),
   record { line = lineAfter (v .act) (p .line); texts = ownTexts (v .act) (p .line) (p .texts) (p .frames); frames = ownFrames (v .act) k (p .line) (p .frames) },
   record {
     ledger = ledgerAfter (v .act) (j .ledger) i (λ n. joinedText (p .line) n (p .texts) (p .frames));
@@ -27,6 +33,26 @@ left v i p k j = (
 
 abbrev pub onEvent : ℕ → Parts → Kind → Store → Response × Parts × Store
 onEvent i p k j = left (ownWork todaysShares (p .line) (j .ledger) i k (j .journal) (p .texts) (p .frames)) i p k j
+
+-- a start by its line's parts alone: the text goes to the start of the line's part of the unfinished texts
+abbrev pub ownStarted : Start → List ℕ → List ℕ → List ℕ
+ownStarted Asks text texts = splice texts 0 text
+ownStarted (Refused a) text texts = texts
+
+abbrev pub startedBy : Start → Parts → List ℕ → Store → Response × Parts × Store
+startedBy x p text j = (
+  response (startAnswer x) (goesOut (startAnswer x) (lineStarted x (p .line) text) (ownStarted x text (p .texts))),
+  record { line = lineStarted x (p .line) text; texts = ownStarted x text (p .texts); frames = p .frames },
+  j,
+)
+
+abbrev pub onStart : ℕ → Parts → List ℕ → Store → Response × Parts × Store
+onStart i p text j = startedBy (startLook i (withinLimits (p .line)) (p .line .state) text journalSize unfinishedSize framesSize) p text j
+
+-- what comes on a line
+abbrev pub onComing : ℕ → Parts → Coming → Store → Response × Parts × Store
+onComing i p (happens k) j = onEvent i p k j
+onComing i p (starts text) j = onStart i p text j
 
 -- a taking by the store alone
 abbrev pub onTaking : ℕ → List ℕ → Store → Response × Store

@@ -35,6 +35,10 @@ returns-7 : tie.Need-returns-7
 unfolding withinNumbers mostCollected
 returns-7 c = search branches
 
+returns-8 : tie.Need-returns-8
+unfolding withinNumbers mostCollected
+returns-8 c = search (branches, c .sending-fits .ensures)
+
 pub is-within-spec : {M : Type 1} → statement M
 is-within-spec =
     tie.close
@@ -70,4 +74,14 @@ is-within-spec =
     (λ c. search needs)
     (λ c. search needs)
     (λ c. search needs)
-    returns-7)
+    returns-7
+    (λ c. search needs)
+    (λ c. search needs)
+    (λ c. search needs)
+    (λ c. search needs)
+    (λ c. search needs)
+    (λ c. search needs)
+    (λ c. search needs)
+    (λ c. search needs)
+    (λ c κs. search needs)
+    returns-8)

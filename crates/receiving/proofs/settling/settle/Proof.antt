@@ -1,4 +1,4 @@
--- `receiving::settling::settle` meets its contract: each arm is a row of the rules L1 to L8, and no look decides a message.
+-- `receiving::settling::settle` meets its contract: each arm is a row of the rules L1 to L8 and L14, and no look decides a message.
 -- Assumes nothing.
 use borrow.Author.Needs.{needs}
 use mathlib.Core.Path.{refl}
@@ -48,6 +48,12 @@ returns-9 c = absurd (quiet-as (c .enum-told7 .given .1) (c .before .before .bef
 returns-10 : tie.Need-returns-10
 returns-10 c = absurd (quiet-as (c .enum-told8 .given .1) (c .before .before .before .before .pre .1))
 
+returns-11 : tie.Need-returns-11
+returns-11 c = settled-as (c .before .before .act3 .given .1) (record { line = c .with-seconds2 .ensures; texts = refl; frames = refl })
+
+returns-12 : tie.Need-returns-12
+returns-12 c = settled-as (c .before .before .act4 .given .1) (record { line = c .gone .ensures; texts = refl; frames = refl })
+
 pub settle-spec : {M : Type 1} → statement M
 settle-spec =
     tie.close
@@ -69,6 +75,10 @@ settle-spec =
     accept-requires
     (λ c. search needs)
     (λ c. search needs)
+    (λ c. search needs)
+    (λ c κs. search needs)
+    (λ c. search needs)
+    (λ c κs. search needs)
     returns
     returns-2
     returns-3
@@ -82,4 +92,6 @@ settle-spec =
     (λ c. search needs)
     returns-8
     returns-9
-    returns-10)
+    returns-10
+    returns-11
+    returns-12)

@@ -1,0 +1,16 @@
+-- What goes out on a line in a sending, with an answer: the very bytes.
+-- Assumes nothing.
+use Prim.Native.Nat.{ℕ}
+use mathlib.Core.Bool.{cond}
+use mathlib.Core.List.{List, [], _∷_}
+use lib.Dec.{eqb}
+use Rattle.memory.specs.Tests.{is, unless}
+use Rattle.characters.specs.Control.{stx}
+
+-- the number of every answer in a sending that is not given up [A9]
+abbrev pub sends : ℕ
+sends = 9
+
+-- by an answer's number, the first byte that goes out with it (0 for none), and the frame that its line then offers: with STX the whole frame goes out [S2]
+abbrev pub outBytes : ℕ → ℕ → List ℕ → List ℕ
+outBytes number first frame = unless (eqb number sends) [] (cond (eqb first 0) [] (cond (is stx first) frame (first ∷ [])))
