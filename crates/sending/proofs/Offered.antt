@@ -25,7 +25,7 @@ use Rattle.line.specs.declared.State.the-variants.{Neutral, Waiting, Inside, Ou
 use Rattle.line.specs.declared.Sending.the-variants.{Asking, Pausing, Offering}
 use Rattle.pieces.specs.Pieces.{pieceSize, throughCr, endAfter, firstPiece}
 use Rattle.sending.specs.Onward.{pieceAt}
-use Rattle.sending.specs.Offered.{pieceFrom, frameAt, offeredIn, offered, frameFor, frameNow, PiecePut}
+use Rattle.sending.specs.Offered.{pieceFrom, frameAt, pieceIn, pieceNow, frameFor, frameNow, PiecePut}
 use Rattle.sending.proofs.Pieces.{piece-short}
 
 -- a frame of the first piece of what lies behind a place is that of the piece there
@@ -63,7 +63,7 @@ module _ (limit number : ℕ) (text : List ℕ) (h : aroundText ≤ limit) where
       let taken = length-take (pieceAt limit at text) (drop at text) in
       omega (arith, piece-short limit at text)
 
-  for-short : (joined : ℕ) (s : State) → length (frameFor number (offeredIn limit joined s text)) ≤ limit
+  for-short : (joined : ℕ) (s : State) → length (frameFor number (pieceIn limit joined s text)) ≤ limit
   for-short joined Neutral = omega arith
   for-short joined Waiting = omega arith
   for-short joined Inside = omega arith
@@ -78,8 +78,8 @@ module _ (limit number : ℕ) (text : List ℕ) (h : aroundText ≤ limit) where
 module _ (limit : ℕ) (l : Line) (text : List ℕ) where
   -- so the frame that a line offers is what is written
   pub offered-written : (out : List ℕ) {r : Written} {out′ : List ℕ} → l .next ≤ mostNumber → length (frameNow limit l text) ≤ length out
-      → PiecePut (l .next) (offered limit l text) out r out′ → (r ≡ Length (length (frameNow limit l text))) × (out′ ≡ splice out 0 (frameNow limit l text))
-  offered-written out few room put = piece-written (l .next) (offered limit l text) out few room put
+      → PiecePut (l .next) (pieceNow limit l text) out r out′ → (r ≡ Length (length (frameNow limit l text))) × (out′ ≡ splice out 0 (frameNow limit l text))
+  offered-written out few room put = piece-written (l .next) (pieceNow limit l text) out few room put
 
   -- and a memory of as many bytes as the limit is long enough for it
   pub offered-short : aroundText ≤ limit → length (frameNow limit l text) ≤ limit

@@ -15,7 +15,7 @@ use Rattle.sending.specs.Onward.{pieceAt}
 use Rattle.sending.specs.Offered.{pieceFrom, frameAt}
 
 module _ (limit at : ℕ) (text : List ℕ) where
-  -- it has no more bytes than the text has from there on
+  -- the piece at a place has no more bytes than the text has from there on
   pub piece-most : pieceAt limit at text ≤ length text - at
   piece-most =
       let most = through-most (take (pieceSize limit) (drop at text)) in

@@ -1,4 +1,4 @@
--- The frame that a line offers: the one that was sent last and awaits its reply. It can be written at any time, and is the same until the next goes out.
+-- The frame that a line offers: the one that was sent last and awaits its reply. Until the next goes out, it can be written as often as wanted.
 -- Assumes nothing.
 use Prim.Native.Nat.{ℕ}
 use mathlib.Core.Path.{_≡_}
@@ -26,16 +26,16 @@ abbrev pub frameAt : ℕ → ℕ → ℕ → List ℕ → List ℕ
 frameAt limit number at text = frameOf number (pieceFrom limit at text .end) (pieceFrom limit at text .bytes)
 
 -- the piece whose frame is offered: only where a frame awaits its reply, and `joined` reaches its place
-abbrev pub offeredIn : ℕ → ℕ → State → List ℕ → Option Piece
-offeredIn limit joined Neutral text = none
-offeredIn limit joined Waiting text = none
-offeredIn limit joined Inside text = none
-offeredIn limit joined (Out (Asking n)) text = none
-offeredIn limit joined (Out (Pausing n)) text = none
-offeredIn limit joined (Out (Offering n at)) text = cond (ltb at joined) (some (pieceFrom limit at text)) none
+abbrev pub pieceIn : ℕ → ℕ → State → List ℕ → Option Piece
+pieceIn limit joined Neutral text = none
+pieceIn limit joined Waiting text = none
+pieceIn limit joined Inside text = none
+pieceIn limit joined (Out (Asking n)) text = none
+pieceIn limit joined (Out (Pausing n)) text = none
+pieceIn limit joined (Out (Offering n at)) text = cond (ltb at joined) (some (pieceFrom limit at text)) none
 
-abbrev pub offered : ℕ → Line → List ℕ → Option Piece
-offered limit l text = offeredIn limit (l .joined) (l .state) text
+abbrev pub pieceNow : ℕ → Line → List ℕ → Option Piece
+pieceNow limit l text = pieceIn limit (l .joined) (l .state) text
 
 -- its frame; no byte where none is offered
 abbrev pub frameFor : ℕ → Option Piece → List ℕ
@@ -43,7 +43,7 @@ frameFor number none = []
 frameFor number (some p) = frameOf number (p .end) (p .bytes)
 
 abbrev pub frameNow : ℕ → Line → List ℕ → List ℕ
-frameNow limit l text = frameFor (l .next) (offered limit l text)
+frameNow limit l text = frameFor (l .next) (pieceNow limit l text)
 
 -- writing it: the answer, and the memory afterwards; where none is offered, the length is 0 and the memory is as it was
 abbrev pub putAnswer : ℕ → Option Piece → List ℕ → Written

@@ -25,22 +25,22 @@ pieceAt limit at text = throughCr (take (pieceSize limit) (drop at text))
 abbrev pub offer : Line → ℕ → ℕ → Onward
 offer l at number = cond (ltb at (l .joined)) (Goes (Offering 1 at) number) Ends
 
--- a byte behind our ENQ, which was refused n times before: at ACK the first frame goes out; at ENQ, as the analyzer wants to send itself,
--- the sending is dropped; every other byte refuses, which begins a pause, and the sixth time drops the sending
+-- a byte behind our ENQ, which was refused n times before: at ACK the first frame goes out; ENQ, as the analyzer wants to send itself,
+-- drops the sending; any other byte is a refusal: a pause begins, and the sixth drops the sending
 unfoldable pub askReply : Line → ℕ → ℕ → Onward
 askReply l n b =
     cond (is ack b) (offer l 0 firstNumber)
     (cond (is enq b) GivesUp (cond (ltb (n + 1) mostTries) (Goes (Pausing (n + 1)) (l .next)) GivesUp))
 
--- a byte behind a frame that was sent n times: at ACK or EOT the next one goes out, with the next number; every other byte refuses: the same
--- goes out again, and what was sent six times does not, but our EOT. So it is, too, where the text does not reach the frame's place
+-- a byte behind a frame that was sent n times: at ACK or EOT the next goes out, with the next number; any other byte is a refusal: the same
+-- goes out again, and behind the sixth our EOT. It does, too, at every byte where the text does not reach the frame's place
 unfoldable pub frameReply : ℕ → Line → ℕ → ℕ → ℕ → List ℕ → Onward
 frameReply limit l n at b text =
     unless (ltb at (l .joined)) Ends
     (cond (is ack b || is eot b) (offer l (at + pieceAt limit at text) (nextNumber (l .next)))
     (cond (ltb n mostTries) (Goes (Offering (n + 1) at) (l .next)) Ends))
 
--- a byte: in the pause it changes nothing
+-- a byte, by where the sending is: in the pause it changes nothing
 abbrev pub byteOnward : ℕ → Line → Sending → ℕ → List ℕ → Onward
 byteOnward limit l (Asking n) b text = askReply l n b
 byteOnward limit l (Pausing n) b text = Stays

@@ -1,7 +1,7 @@
 // E1381's sending side, on one line's record: what a byte or seconds make of a sending, and the frame that it offers.
 ghost use mathlib.Core.Path.{_≡_};
 ghost use Rattle.sending.specs.Onward.{byteOnward, waitOf, lateOnward, secondsOnward};
-ghost use Rattle.sending.specs.Offered.{offered, PiecePut};
+ghost use Rattle.sending.specs.Offered.{pieceNow, PiecePut};
 use framing::Written;
 use line::Line;
 use line::Sending;
@@ -71,7 +71,7 @@ fn late(line: Line, s: Sending) -> Onward
 
 // Writes the frame that the line offers over the start of out. Where it offers none the length is 0, and nothing is written.
 pub fn put_offered(limit: usize, line: Line, text: &[u8], out: &mut [u8]) -> Written
-    ensures { λ r. ⌜ PiecePut (line .next) (offered limit line (now (text .entry))) (now (out .entry)) r (now (out .exit)) ⌝ }
+    ensures { λ r. ⌜ PiecePut (line .next) (pieceNow limit line (now (text .entry))) (now (out .entry)) r (now (out .exit)) ⌝ }
 {
     let state = line.state;
     match state {

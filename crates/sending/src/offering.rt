@@ -5,7 +5,7 @@ ghost use Prim.Native.Nat.{_-_};
 ghost use lib.ListN.{getD, drop};
 ghost use Rattle.pieces.specs.Pieces.{endAfter};
 ghost use Rattle.line.specs.declared.State.the-variants.{Out};
-ghost use Rattle.sending.specs.Offered.{pieceFrom, offeredIn, PiecePut};
+ghost use Rattle.sending.specs.Offered.{pieceFrom, pieceIn, PiecePut};
 use frame::End;
 use framing::Written;
 use line::Sending;
@@ -19,7 +19,7 @@ pub fn put_sent(
     text: &[u8],
     out: &mut [u8],
 ) -> Written
-    ensures { λ r. ⌜ PiecePut number (offeredIn limit joined (Out s) (now (text .entry))) (now (out .entry)) r (now (out .exit)) ⌝ }
+    ensures { λ r. ⌜ PiecePut number (pieceIn limit joined (Out s) (now (text .entry))) (now (out .entry)) r (now (out .exit)) ⌝ }
 {
     match s {
         Sending::Asking(_) => Written::Length(0),

@@ -12,4 +12,13 @@ returns-3 c = rw (c .before .before .s2 .given .1) (c .frame-reply .ensures)
 
 pub on-byte-spec : {M : Type 1} → statement M
 on-byte-spec =
-    tie.close (tie.spec (λ c. search needs) (λ c κs. search needs) (λ c. search needs) (λ c. search needs) (λ c κs. search needs) returns (λ c. search needs) returns-3)
+    tie.close
+    (tie.spec
+    (λ c. search needs)
+    (λ c κs. search needs)
+    (λ c. search needs)
+    (λ c. search needs)
+    (λ c κs. search needs)
+    returns
+    (λ c. search needs)
+    returns-3)

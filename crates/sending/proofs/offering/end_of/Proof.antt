@@ -21,4 +21,12 @@ returns-2 c = c .end-after2 .ensures ∙ ap endAfter (c .before .byte-at2 .ensur
 
 pub end-of-spec : {M : Type 1} → statement M
 end-of-spec =
-    tie.close (tie.spec (λ c κs. search needs) (λ c κs. search needs) returns (λ c. search needs) (λ c κs. search needs) (λ c κs. search needs) returns-2)
+    tie.close
+    (tie.spec
+    (λ c κs. search needs)
+    (λ c κs. search needs)
+    returns
+    (λ c. search needs)
+    (λ c κs. search needs)
+    (λ c κs. search needs)
+    returns-2)

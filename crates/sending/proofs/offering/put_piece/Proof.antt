@@ -36,4 +36,12 @@ returns c =
 
 pub put-piece-spec : {M : Type 1} → statement M
 put-piece-spec =
-    tie.close (tie.spec (λ c κs. search needs) (λ c κs. search needs) (λ c κs. search needs) slice-aggregate-put-frame (λ c κs. search needs) (λ c. search needs) returns)
+    tie.close
+    (tie.spec
+    (λ c κs. search needs)
+    (λ c κs. search needs)
+    (λ c κs. search needs)
+    slice-aggregate-put-frame
+    (λ c κs. search needs)
+    (λ c. search needs)
+    returns)

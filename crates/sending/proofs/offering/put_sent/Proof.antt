@@ -6,20 +6,33 @@ use borrow.Author.Tests.{le-ltb, lt-ltb}
 use Rattle.sending.proofs.offering.put_sent.Statement.{statement}
 use Rattle.sending.proofs.offering.put_sent.Tie as tie
 
+-- the function's start, from where the frame's place is known
+abbrev start : tie.After-s → tie.Start
+start c = c .before .before .before .before
+
 returns : tie.Need-returns
 returns c =
     let k = c .before .before in
-    let a = k .before .before .before .before .args in
-    rw (k .s .given .1, le-ltb _ (a .joined) (c .if1 .taken)) (record { answer = refl; after = refl })
+    rw (k .s .given .1, le-ltb _ (start k .args .joined) (c .if1 .taken)) (record { answer = refl; after = refl })
 
 returns-4 : tie.Need-returns-4
 returns-4 c =
     let p = c .before .before in
     let e = p .before .before in
     let k = e .before .before in
-    let a = k .before .before .before .before .args in
-    rw (k .s .given .1, lt-ltb _ (a .joined) (e .if1 .left)) (p .put-piece .ensures)
+    rw (k .s .given .1, lt-ltb _ (start k .args .joined) (e .if1 .left)) (p .put-piece .ensures)
 
 pub put-sent-spec : {M : Type 1} → statement M
 put-sent-spec =
-    tie.close (tie.spec (λ c. search needs) (λ c. search needs) (λ c. search needs) returns (λ c. search needs) (λ c κs. search needs) (λ c. search needs) (λ c. search needs) (λ c. search needs) returns-4)
+    tie.close
+    (tie.spec
+    (λ c. search needs)
+    (λ c. search needs)
+    (λ c. search needs)
+    returns
+    (λ c. search needs)
+    (λ c κs. search needs)
+    (λ c. search needs)
+    (λ c. search needs)
+    (λ c. search needs)
+    returns-4)

@@ -1,7 +1,7 @@
 -- `sending::replies::ask_reply` meets its contract.
 -- Assumes nothing.
 use mathlib.Core.Path.{_∙_}
-use Prim.Native.Nat.{_+_, _≤_, _<_}
+use Prim.Native.Nat.{ℕ, _+_, _≤_, _<_}
 use native.Mathlib.Omega.{arith}
 use borrow.Author.Needs.{needs}
 use Rattle.memory.proofs.Branches.{branches}
@@ -9,6 +9,10 @@ use Rattle.line.specs.Line.{mostTries}
 use Rattle.sending.specs.Onward.{askReply}
 use Rattle.sending.proofs.replies.ask_reply.Statement.{statement}
 use Rattle.sending.proofs.replies.ask_reply.Tie as tie
+
+-- the refusals so far, behind the first two tests
+abbrev refusals : tie.Else2 → ℕ
+refusals c = c .before .before .args .n
 
 returns : tie.Need-returns
 unfolding askReply
@@ -20,11 +24,11 @@ returns-2 c = search branches
 
 returns-3 : tie.Need-returns-3
 unfolding askReply
-returns-3 c = let few : c .before .before .before .args .n + 1 < mostTries = omega arith in search branches
+returns-3 c = let few : refusals (c .before) + 1 < mostTries = omega arith in search branches
 
 returns-4 : tie.Need-returns-4
 unfolding askReply
-returns-4 c = let many : mostTries ≤ c .before .before .before .args .n + 1 = omega arith in search branches
+returns-4 c = let many : mostTries ≤ refusals (c .before) + 1 = omega arith in search branches
 
 pub ask-reply-spec : {M : Type 1} → statement M
 ask-reply-spec =

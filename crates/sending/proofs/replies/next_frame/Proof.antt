@@ -17,9 +17,7 @@ add-offer-at c =
 returns : tie.Need-returns
 returns c =
     let f = c .before in
-    let p = f .before in
-    let a = p .before .before .args in
-    c .offer-at .ensures ∙ rw (p .piece-at .ensures, f .next-number .ensures)
+    c .offer-at .ensures ∙ simp (f .before .piece-at .ensures, f .next-number .ensures)
 
 pub next-frame-spec : {M : Type 1} → statement M
 next-frame-spec =
