@@ -46,12 +46,7 @@ pub fn send(
 }
 
 // The frame that a line offers goes to the start of out: 40, 41, 42, 47. Nothing else changes, so that it can be fetched again.
-pub fn outgoing(
-    line: u8,
-    numbers: &[u16; NUMBERS],
-    unfinished: &[u8],
-    out: &mut [u8],
-) -> Made
+pub fn outgoing(line: u8, numbers: &[u16; NUMBERS], unfinished: &[u8], out: &mut [u8]) -> Made
     ensures { λ r. ⌜ Fetched (now (numbers .entry)) line (now (unfinished .entry)) (now (out .entry)) r (now (out .exit)) ⌝ }
 {
     let i = line as usize;

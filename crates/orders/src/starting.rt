@@ -73,12 +73,7 @@ fn is_neutral(state: State) -> bool
 }
 
 // The text is copied, and the line's record asks.
-pub fn ask(
-    i: usize,
-    text: &[u8],
-    numbers: &mut [u16; NUMBERS],
-    unfinished: &mut [u8],
-) -> Answered
+pub fn ask(i: usize, text: &[u8], numbers: &mut [u16; NUMBERS], unfinished: &mut [u8]) -> Answered
     requires { ⌜ (i < lines) × (isWithin (now numbers) i ≡ true) × (length (now text) ≤ messageLimit) × (length (now unfinished) ≡ unfinishedSize) ⌝ }
     ensures { λ r. ⌜ (r ≡ inNumbers (Sends Enquiry))
         × (now (numbers .exit) ≡ withLine (now (numbers .entry)) i (askedLine (lineOf (now (numbers .entry)) i) (length (now (text .entry)))))

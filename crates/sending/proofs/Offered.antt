@@ -4,9 +4,9 @@ use mathlib.Core.Path.{_≡_, sym, ap, _∙_}
 use mathlib.Core.Bool.{Bool, true, false, cond}
 use mathlib.Core.List.{List}
 use mathlib.Core.Option.{Option, none, some}
-use Prim.Native.Nat.{ℕ, _+_, _-_, _≤_}
+use Prim.Native.Nat.{ℕ, _+_, _-_, _≤_, _<_}
 use native.Mathlib.Omega.{arith}
-use borrow.Author.Tests.{le-leb}
+use borrow.Author.Tests.{le-leb, lt-leb}
 use lib.Dec.{ltb}
 use lib.ListN.{length, getD, take, drop, length-take}
 use Rattle.memory.specs.Parts.{splice}
@@ -17,7 +17,7 @@ use Rattle.frame.specs.Piece.{Piece, piece}
 use Rattle.frame.specs.declared.End.{End}
 use Rattle.framing.specs.Writing.{putOf, putIn, FramePut}
 use Rattle.framing.specs.declared.Written.{Written}
-use Rattle.framing.specs.declared.Written.the-variants.{Length}
+use Rattle.framing.specs.declared.Written.the-variants.{NotFitting, Length}
 use Rattle.framing.proofs.Put.{length-frame}
 use Rattle.line.specs.declared.Line.{Line}
 use Rattle.line.specs.declared.State.{State}
@@ -54,6 +54,18 @@ piece-written number (some p) out few room put =
     let holds = le-leb (length (p .bytes) + aroundText) (length out) fits in
     (put .answer ∙ rw (numbered, holds, long), put .after ∙ rw (numbered, holds))
 
+-- and where there is no room, nothing is written
+piece-unwritten : (number : ℕ) (o : Option Piece) (out : List ℕ) {r : Written} {out′ : List ℕ} → number ≤ mostNumber → length out < length (frameFor number o)
+    → PiecePut number o out r out′ → (r ≡ NotFitting) × (out′ ≡ out)
+unfolding putOf putIn
+piece-unwritten number none out few full put = absurd (omega arith)
+piece-unwritten number (some p) out few full put =
+    let long = length-frame number (p .end) (p .bytes) in
+    let over : length out < length (p .bytes) + aroundText = omega arith in
+    let numbered = le-leb number mostNumber few in
+    let holds = lt-leb (length (p .bytes) + aroundText) (length out) over in
+    (put .answer ∙ rw (numbered, holds), put .after ∙ rw (numbered, holds))
+
 -- a frame of what is offered is within the limit
 module _ (limit number : ℕ) (text : List ℕ) (h : aroundText ≤ limit) where
   frame-short : (at : ℕ) → length (frameAt limit number at text) ≤ limit
@@ -80,6 +92,10 @@ module _ (limit : ℕ) (l : Line) (text : List ℕ) where
   pub offered-written : (out : List ℕ) {r : Written} {out′ : List ℕ} → l .next ≤ mostNumber → length (frameNow limit l text) ≤ length out
       → PiecePut (l .next) (pieceNow limit l text) out r out′ → (r ≡ Length (length (frameNow limit l text))) × (out′ ≡ splice out 0 (frameNow limit l text))
   offered-written out few room put = piece-written (l .next) (pieceNow limit l text) out few room put
+
+  pub offered-unwritten : (out : List ℕ) {r : Written} {out′ : List ℕ} → l .next ≤ mostNumber → length out < length (frameNow limit l text)
+      → PiecePut (l .next) (pieceNow limit l text) out r out′ → (r ≡ NotFitting) × (out′ ≡ out)
+  offered-unwritten out few full put = piece-unwritten (l .next) (pieceNow limit l text) out few full put
 
   -- and a memory of as many bytes as the limit is long enough for it
   pub offered-short : aroundText ≤ limit → length (frameNow limit l text) ≤ limit

@@ -1,0 +1,3 @@
+pub mod Looks
+pub mod Ways
+pub mod OneOutcome
