@@ -145,7 +145,7 @@ module _ (ns : List ℕ) (i b : ℕ) (q : quick ns i b ≡ true) where
   quick-within : withinNumbers ns i ≡ true
   quick-within = and-right (onlyCollects ns i b) (withinNumbers ns i) q
 
-  is-inside : stateOf (firstAt ns i) ≡ Inside
+  is-inside : lineOf ns i .state ≡ Inside
   unfolding onlyCollects
   is-inside =
       let only = and-left (onlyCollects ns i b) (withinNumbers ns i) q in
@@ -212,20 +212,23 @@ module _ (s : HostState) (i b : ℕ) (h : i < lines) (z : right s ≡ true) wher
 
 -- STX between frames: the line is inside one, and nothing else has changed
 module _ (s : HostState) (e : Event) (h : e .line < lines) (z : right s ≡ true) (w : withinNumbers (s .numbers) (e .line) ≡ true) where
+  is-between : (k : Kind) → begins (s .numbers) (e .line) k ≡ true → firstAt (s .numbers) (e .line) ≡ waiting
+  is-between (Byte b) q = eqb-true (firstAt (s .numbers) (e .line)) waiting (and-right (is stx b) (eqb (firstAt (s .numbers) (e .line)) waiting) q)
+  is-between (Seconds n) q = clash cc
+
   begin-verdict : (k : Kind) → e .kind ≡ k → begins (s .numbers) (e .line) k ≡ true
       → verdictOf todaysShares (lineOf (s .numbers) (e .line)) (ledger s) e (s .memory .journal) (s .memory .unfinished) (s .memory .frames) ≡ Begins
   unfolding verdictOf ownWork byteLook waitingLook
   begin-verdict (Byte b) p q =
       let first = firstAt (s .numbers) (e .line) in
       let stx-is = and-left (is stx b) (eqb first waiting) q in
-      let between = eqb-true first waiting (and-right (is stx b) (eqb first waiting) q) in
-      rw (lt-ltb (e .line) lines h, z, line-within (s .numbers) (e .line) w, p, between, stx-is)
+      rw (lt-ltb (e .line) lines h, z, line-within (s .numbers) (e .line) w, p, is-between (Byte b) q, stx-is)
   begin-verdict (Seconds n) p q = clash cc
 
   by-begin : {ns : List ℕ} → begins (s .numbers) (e .line) (e .kind) ≡ true → ns ≡ insideAt (s .numbers) (e .line) → Calling s e (inNumbers Nothing) (renumbered s ns)
   unfolding stepOf
   by-begin q n =
-      let numbers = n ∙ sym (begun-back (s .numbers) (s .counts) (e .line) h w) in
+      let numbers = n ∙ sym (begun-back (s .numbers) (s .counts) (e .line) h w (is-between (e .kind) q)) in
       let counts = sym (used-back (s .numbers) (s .counts) (e .line) h) in
       by-step s e h z w (as-called (ap (λ (x : Verdict). putBack s (e .line) (settle x (lineOf (s .numbers) (e .line)) (ledger s) e (s .memory))) (begin-verdict (e .kind) refl q)) (record {
         result = refl;

@@ -1,10 +1,11 @@
-// The gateway for hosts in C and Rust: what `calls`, `layout`, `texts` and `message` do, under the names that hosts link (include/ngachodui.h).
+// The gateway for hosts in C and Rust: what `calls`, `orders`, `layout`, `texts` and `message` do, under the names that hosts link (include/ngachodui.h).
 // A host keeps the state in plain numbers in its own memory, and lends it to each call; nothing is kept between calls.
 ghost use mathlib.Core.Path.{_≡_};
 ghost use Rattle.looking.specs.declared.Kind.the-variants.{Byte, Seconds};
 ghost use Rattle.faults.specs.Message.{isMessage};
 ghost use Rattle.layout.specs.Layout.{layout, Fresh};
 ghost use Rattle.calls.specs.Calls.{Calling};
+ghost use Rattle.orders.specs.Calls.{Sent, Fetched};
 ghost use Rattle.reader.specs.Takings.{Taken};
 ghost use Rattle.texts.specs.Texts.{CutFrames, Escaped, Unescaped, RecordsRead};
 use answers::Answered;
@@ -49,6 +50,36 @@ pub extern "C" fn ngachodui_seconds(
     calls::seconds(line, seconds, numbers, counts, journal, unfinished, frames)
 }
 
+// A text is to be sent on a line.
+#[no_mangle]
+pub extern "C" fn ngachodui_send(
+    line: u8,
+    text: &[u8],
+    numbers: &mut [u16; layout::NUMBERS],
+    journal: &[u8],
+    unfinished: &mut [u8],
+    frames: &[u8],
+) -> Answered
+    ensures { λ r. ⌜ Sent (now (numbers .entry)) line (now (text .entry))
+        (record { journal = now (journal .entry); unfinished = now (unfinished .entry); frames = now (frames .entry) })
+        r (now (numbers .exit)) (now (unfinished .exit)) ⌝ }
+{
+    orders::send(line, text, numbers, journal, unfinished, frames)
+}
+
+// The frame that a line offers goes to the start of out.
+#[no_mangle]
+pub extern "C" fn ngachodui_outgoing(
+    line: u8,
+    numbers: &[u16; layout::NUMBERS],
+    unfinished: &[u8],
+    out: &mut [u8],
+) -> Made
+    ensures { λ r. ⌜ Fetched (now (numbers .entry)) line (now (unfinished .entry)) (now (out .entry)) r (now (out .exit)) ⌝ }
+{
+    orders::outgoing(line, numbers, unfinished, out)
+}
+
 // The text of a line's oldest entry goes to the start of the buffer.
 #[no_mangle]
 pub extern "C" fn ngachodui_take(
@@ -67,7 +98,7 @@ pub extern "C" fn ngachodui_take(
 
 // Every line fresh, the journal empty. The version of the layout ends the name: an object of another version finds no such function.
 #[no_mangle]
-pub extern "C" fn ngachodui_fresh_1(
+pub extern "C" fn ngachodui_fresh_2(
     numbers: &mut [u16; layout::NUMBERS],
     counts: &mut [u32; layout::COUNTS],
 )
