@@ -169,9 +169,9 @@ every-but sort test h a other = by-sort (sort a) (test a) (every-answer (λ b. s
     by-sort true t p q = clash cc
 
 -- no two answers share number, the byte that goes out and values
-pub paper-injective : (a b : Answer) → numberOf a ≡ numberOf b → firstOut a ≡ firstOut b → valuesOf a ≡ valuesOf b → a ≡ b
+pub paper-injective : (a b : Answer) → numberOf a ≡ numberOf b → replyByte (firstOut a) ≡ replyByte (firstOut b) → valuesOf a ≡ valuesOf b → a ≡ b
 paper-injective a b n o v =
-    let key : keyOf a ≡ keyOf b = ap₂ (λ (m : ℕ) (r : Reply). m + 256 * replyByte r) n o in
+    let key : keyOf a ≡ keyOf b = ap₂ (λ (m : ℕ) (r : ℕ). m + 256 * r) n o in
     let same : some a ≡ some b = sym (listed a) ∙ ap₂ (λ (m : ℕ) (vs : List ℕ). first m (answers vs)) key v ∙ listed b in
     cc same
 
@@ -190,7 +190,7 @@ fault-other f n plain e = never-both (isFaulty n) (ap isFaulty (sym e) ∙ fault
 
 pub fault-injective : (f g : Fault) → faultNumber f ≡ faultNumber g → f ≡ g
 fault-injective f g e =
-    let same : Faulty f 0 ≡ Faulty g 0 = paper-injective (Faulty f 0) (Faulty g 0) e (ap replyOf e) refl in
+    let same : Faulty f 0 ≡ Faulty g 0 = paper-injective (Faulty f 0) (Faulty g 0) e (ap (λ (n : ℕ). replyByte (replyOf n)) e) refl in
     cc same
 
 pub faulty-place : (f : Fault) (place : ℕ) → placeOf (Faulty f place) ≡ place

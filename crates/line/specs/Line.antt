@@ -94,7 +94,7 @@ refusingLine l =
 abbrev pub askedLine : Line → ℕ → Line
 askedLine l count = record { state = Out (Asking 0); collected = 0; joined = count; seconds = 0; next = 1; last = NoneYet; refusing = false }
 
--- a sending goes on, with the number of its frame: its seconds begin anew, and none is carried on [S5, L14]
+-- a sending goes on, with the number of its frame: its seconds begin anew, and none is carried on [S10, L14]
 abbrev pub goneLine : Line → Sending → ℕ → Line
 goneLine l s number =
     record { state = Out s; collected = l .collected; joined = l .joined; seconds = 0; next = number; last = l .last; refusing = l .refusing }

@@ -5,7 +5,7 @@ use Rattle.ngachodui_laws.specs.Demands.{Demands}
 use Rattle.ngachodui_laws.proofs.HostRuns.{host-never-damaged, host-never-30}
 use Rattle.ngachodui_laws.proofs.Ended.{never-54}
 use Rattle.ngachodui_laws.proofs.Sound.{always-sound}
-use Rattle.ngachodui_laws.proofs.Outcomes.{one-outcome, the-outcome, fresh-outcome, refused-leaves, buffer-left, ignored-is-left, others-kept}
+use Rattle.ngachodui_laws.proofs.Outcomes.{one-outcome, the-outcome, fresh-outcome, refused-leaves, start-leaves, buffer-left, ignored-is-left, others-kept}
 use Rattle.ngachodui_laws.proofs.Deciding.{decided-exactly, wrong-at}
 use Rattle.ngachodui_laws.proofs.Sending.{sent, given-back}
 use Rattle.ngachodui_laws.proofs.FromFresh.{can-send}
@@ -25,6 +25,7 @@ kept = record {
   never-54 = never-54;
   always-sound = always-sound;
   refusal-leaves = refused-leaves;
+  start-leaves = start-leaves;
   buffer-left = buffer-left;
   ignored-leaves = ignored-is-left;
   others-kept = others-kept;

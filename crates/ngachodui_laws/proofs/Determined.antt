@@ -19,9 +19,9 @@ use Rattle.gateway.specs.Gateway.{Gateway}
 use Rattle.promises.specs.Machine.{State}
 use Rattle.layout.specs.Layout.{fields, start, firstAt, numberAt}
 use Rattle.ledger.specs.Ledgers.{ledgerOf}
-use Rattle.numbers.specs.Plain.{stateNumber, lastNumber, flag, lineOf}
+use Rattle.numbers.specs.Plain.{stateNumber, triesNumber, placeNumber, lastNumber, flag, lineOf}
 use Rattle.ledger.proofs.Ledgers.{used-at, serial-at}
-use Rattle.numbers.proofs.Numbers.{numbers-facts, state-back, last-back, flag-back}
+use Rattle.numbers.proofs.Numbers.{numbers-facts, StateBack, state-back, last-back, flag-back}
 use Rattle.calls.specs.Calls.{HostState}
 use Rattle.ngachodui_laws.specs.Hosting.{gatewayOf, Ordered}
 use Rattle.ngachodui_laws.specs.HostRuns.{gatewayState, InOrder}
@@ -50,10 +50,14 @@ module _ (ns ns′ us us′ : List ℕ) (o : Ordered ns us) (o′ : Ordered ns�
     line : lineOf ns i ≡ lineOf ns′ i
     line = sym (line-at ns i h) ∙ ap (λ (g : Gateway). lineAt g i) same ∙ line-at ns′ i h
 
+    back : StateBack (firstAt ns i) (numberAt ns i 8) (numberAt ns i 9)
+    back = let w = numbers-facts ns i (o .within i h) in state-back (firstAt ns i) (numberAt ns i 8) (numberAt ns i 9) (w .state) (w .sending)
+
+    back′ : StateBack (firstAt ns′ i) (numberAt ns′ i 8) (numberAt ns′ i 9)
+    back′ = let w = numbers-facts ns′ i (o′ .within i h) in state-back (firstAt ns′ i) (numberAt ns′ i 8) (numberAt ns′ i 9) (w .state) (w .sending)
+
     state : firstAt ns i ≡ firstAt ns′ i
-    state =
-        sym (state-back (firstAt ns i) (numbers-facts ns i (o .within i h) .state)) ∙ ap (λ (l : Line). stateNumber (l .state)) line
-        ∙ state-back (firstAt ns′ i) (numbers-facts ns′ i (o′ .within i h) .state)
+    state = sym (back .state) ∙ ap (λ (l : Line). stateNumber (l .state)) line ∙ back′ .state
 
     number : (k : ℕ) → k < fields → numberAt ns i k ≡ numberAt ns′ i k
     number zero q = ap (λ (p : ℕ). getD ns p 0) (add-zero (start i)) ∙ state ∙ ap (λ (p : ℕ). getD ns′ p 0) (sym (add-zero (start i)))
@@ -66,7 +70,9 @@ module _ (ns ns′ us us′ : List ℕ) (o : Ordered ns us) (o′ : Ordered ns�
         sym (flag-back (numberAt ns i 6) (numbers-facts ns i (o .within i h) .refusing)) ∙ ap (λ (l : Line). flag (l .refusing)) line
         ∙ flag-back (numberAt ns′ i 6) (numbers-facts ns′ i (o′ .within i h) .refusing)
     number (suc (suc (suc (suc (suc (suc (suc zero))))))) q = same-serial ns ns′ us us′ i h (ap (λ (g : Gateway). g .ledger) same)
-    number (suc (suc (suc (suc (suc (suc (suc (suc k)))))))) q = absurd (omega arith)
+    number (suc (suc (suc (suc (suc (suc (suc (suc zero)))))))) q = sym (back .tries) ∙ ap (λ (l : Line). triesNumber (l .state)) line ∙ back′ .tries
+    number (suc (suc (suc (suc (suc (suc (suc (suc (suc zero))))))))) q = sym (back .place) ∙ ap (λ (l : Line). placeNumber (l .state)) line ∙ back′ .place
+    number (suc (suc (suc (suc (suc (suc (suc (suc (suc (suc k)))))))))) q = o .spare i h _ (omega arith) q ∙ sym (o′ .spare i h _ (omega arith) q)
 
     in-part : (xs : List ℕ) (k : ℕ) → k < fields → getD (part xs (start i) fields) k 0 ≡ numberAt xs i k
     unfolding part

@@ -4,35 +4,50 @@ use mathlib.Core.Path.{_≡_, refl, sym, ap, subst, _∙_}
 use mathlib.Core.Logic.{_≢_}
 use mathlib.Core.Bool.{Bool, true, false}
 use mathlib.Core.List.{List, [], _∷_, map}
+use Prim.Native.Nat.{ℕ}
 use borrow.Author.Tests.{eqb-false}
 use lib.Dec.{eqb, ltb}
+use lib.ListN.{length}
 use Rattle.memory.specs.Sizes.{lines}
 use Rattle.memory.specs.Tests.{unless}
 use Rattle.room.specs.Room.{todaysShares}
 use Rattle.answers.specs.Paper.{numberOf}
 use Rattle.answers.specs.declared.Answer.{Answer}
-use Rattle.answers.specs.declared.Answer.the-variants.{NoLine}
+use Rattle.answers.specs.declared.Answer.the-variants.{NoLine, WrongSize, BeyondLimits, NotNeutral}
 use Rattle.answers.proofs.Paper.{every-but}
 use Rattle.receiving.specs.Verdicts.{verdictOf}
 use Rattle.receiving.specs.Steps.{Memory, stepOf}
-use Rattle.gateway.specs.Events.{lineAt, putBack, eventOf}
+use Rattle.line.specs.Line.{withinLimits}
+use Rattle.line.specs.declared.State.{State as LineState}
+use Rattle.faults.specs.Faults.{faultOf}
+use Rattle.faults.specs.declared.Checked.{Checked}
+use Rattle.faults.specs.declared.Checked.the-variants.{Message, NotText, Faulty}
+use Rattle.looking.specs.Lent.{rightLengths}
+use Rattle.numbers.specs.Plain.{lineOf}
+use Rattle.orders.specs.Starts.{isNeutral, textLook, startLook, startAnswer}
+use Rattle.orders.specs.Calls.{frameOn}
+use Rattle.orders.specs.declared.Start.the-variants.{Refused}
+use Rattle.gateway.specs.Out.{outBytes}
+use Rattle.gateway.specs.Events.{AfterEvent, lineAt, putBack, eventOf, startOf}
 use Rattle.looking.specs.declared.Event.{Event}
 use Rattle.gateway.specs.Gateway.{Gateway}
 use Rattle.looking.specs.declared.Act.{Act}
-use Rattle.gateway_laws.specs.Classes.{Class, quiet, opening, closing, refusing, accepting, storing, against, taking as gives, classOf}
+use Rattle.gateway_laws.specs.Classes.{Class, quiet, opening, closing, refusing, accepting, storing, against, taking as gives, sending, classOf}
 use Rattle.gateway_laws.specs.Inner.Classes.{actClass}
 use Rattle.gateway_laws.proofs.Rows.{Of, of-class}
 use Rattle.gateway_laws.proofs.Proper.{goes-class, verdict-proper}
 use Rattle.serial.specs.Serial.{event, taking, annotate, final, Every}
-use Rattle.promises.specs.Machine.{State, Response, GatewayItem, onLine, step, Sound}
+use Rattle.promises.specs.Machine.{State, Response, GatewayItem, happens, starts, onLine, leftBy, afterEvent, step, Sound}
 use Rattle.promises.specs.Runs.{fresh, answered, isDamage}
 use Rattle.promises.proofs.Runs.{always-sound, never-damaged}
 use Rattle.promises.proofs.Foreign.{never-30}
 use Rattle.answers.specs.InNumbers.{inNumbers}
-use Rattle.calls.specs.Calls.{HostState}
-use Rattle.ngachodui_laws.specs.HostRuns.{gatewayState, InOrder, freshHost, HostResponse, lentOf, hostStep, Run, historyOf, endOf}
-use Rattle.ngachodui_laws.specs.Inner.Hosting.{answerInNumbers, inNumbersOf, seenOf}
+use Rattle.calls.specs.Calls.{HostState, AfterCall, callOf}
+use Rattle.ngachodui_laws.specs.HostRuns.{gatewayState, InOrder, freshHost, HostResponse, lentOf, startFrom, startedBy, responseTo, hostStep, Run, historyOf, endOf}
+use Rattle.ngachodui_laws.specs.Inner.Hosting.{Hosts, answerInNumbers, inNumbersOf, seenOf}
 use Rattle.ngachodui_laws.proofs.Hosts.{hosts-the-gateway, taking-hosts, fresh-hosts}
+use Rattle.ngachodui_laws.proofs.Starts.{start-hosts}
+use Rattle.ngachodui_laws.proofs.PutBack.{line-anywhere}
 
 -- no event is answered 8, so an event's answer in numbers has all that its answer has
 abbrev isGiving : Class → Bool
@@ -44,6 +59,7 @@ isGiving accepting = false
 isGiving storing = false
 isGiving against = false
 isGiving gives = true
+isGiving sending = false
 
 never-gives : (c : Class) (x : Act) → Of c x → isGiving c ≡ false
 never-gives quiet x o = refl
@@ -53,6 +69,7 @@ never-gives refusing x o = refl
 never-gives accepting x o = refl
 never-gives storing x o = refl
 never-gives against x o = refl
+never-gives sending x o = refl
 
 event-answer : (a : Answer) → isGiving (classOf a) ≡ false → inNumbers a ≡ answerInNumbers a
 unfolding inNumbers
@@ -68,6 +85,44 @@ event-gives g e m = by-line (ltb (e .line) lines)
         ap isGiving (goes-class (v .act) (v .answer) (verdict-proper todaysShares (lineAt g (e .line)) (g .ledger) e (m .journal) (m .unfinished) (m .frames))) ∙ never-gives (actClass (v .act)) (v .act) (of-class (v .act))
     by-line false = refl
 
+-- nor is a start
+start-gives : (i : ℕ) (within : Bool) (state : LineState) (text : List ℕ) (j u f : ℕ) → isGiving (classOf (startAnswer (startLook i within state text j u f))) ≡ false
+unfolding startLook
+start-gives i within state text j u f = by (ltb i lines) (rightLengths j u f) within (isNeutral state) (faultOf text)
+  where
+    by-text : (x : Checked) → isGiving (classOf (startAnswer (textLook x))) ≡ false
+    by-text Message = refl
+    by-text NotText = refl
+    by-text (Faulty f place) = refl
+
+    by : (a b c d : Bool) (x : Checked)
+        → isGiving (classOf (startAnswer (unless a (Refused NoLine) (unless b (Refused WrongSize) (unless c (Refused BeyondLimits) (unless d (Refused NotNeutral) (textLook x))))))) ≡ false
+    by true true true true x = by-text x
+    by true true true false x = refl
+    by true true false d x = refl
+    by true false c d x = refl
+    by false b c d x = refl
+
+started-gives : (g : Gateway) (i : ℕ) (text : List ℕ) (m : Memory) → isGiving (classOf (startOf g i text m .handled .answer)) ≡ false
+unfolding startOf
+started-gives g i text m = start-gives i (withinLimits (lineAt g i)) (lineAt g i .state) text (length (m .journal)) (length (m .unfinished)) (length (m .frames))
+
+-- a call beside the gateway's event or start: what the host sees and sends is the gateway's response, and its numbers stand for the gateway's state
+record Alike (i : ℕ) (c : AfterCall) (x : AfterEvent) : Type 0 where
+  state : gatewayState (c .state) ≡ leftBy x
+  response : (responseTo i c) .0 ≡ inNumbersOf ((afterEvent i x) .0)
+  in-order : InOrder (c .state)
+
+alike : (i : ℕ) (c : AfterCall) (x : AfterEvent) → Hosts c x → isGiving (classOf (x .handled .answer)) ≡ false → Alike i c x
+alike i c x h gives =
+    let a = h .answer ∙ event-answer (x .handled .answer) gives in
+    let own : lineOf (c .state .numbers) i ≡ lineAt (x .handled .gateway) i = sym (line-anywhere (c .state .numbers) (h .ordered .numbers) i) ∙ ap (λ (g : Gateway). lineAt g i) (h .gateway) in
+    record {
+      state = λ z. record { gateway = h .gateway z; memory = h .memory z };
+      response = λ z. record { answered = a z; buffer = outBytes (a z .number) (a z .reply) (frameOn (own z) i (h .memory z .unfinished)) };
+      in-order = h .ordered;
+    }
+
 -- one call: what the host sees is the gateway's response, and its numbers stand for the gateway's state then
 pub record OneCall (s : HostState) (e : GatewayItem) : Type 0 where
   pub state : gatewayState ((hostStep s e) .1) ≡ (step (gatewayState s) e) .1
@@ -75,15 +130,14 @@ pub record OneCall (s : HostState) (e : GatewayItem) : Type 0 where
   pub in-order : InOrder ((hostStep s e) .1)
 
 pub one-call : (s : HostState) → InOrder s → (e : GatewayItem) → OneCall s e
-one-call s o (event i k) =
+one-call s o (event i (happens k)) =
     let g = gatewayState s .gateway in
-    let h = hosts-the-gateway s o (onLine i k) in
-    let a = h .answer ∙ event-answer (eventOf todaysShares g (onLine i k) (s .memory) .handled .answer) (event-gives g (onLine i k) (s .memory)) in
-    record {
-      state = λ z. record { gateway = h .gateway z; memory = h .memory z };
-      response = λ z. record { answered = a z; buffer = [] };
-      in-order = h .ordered;
-    }
+    let a = alike i (callOf s (onLine i k)) (eventOf todaysShares g (onLine i k) (s .memory)) (hosts-the-gateway s o (onLine i k)) (event-gives g (onLine i k) (s .memory)) in
+    record { state = a .state; response = a .response; in-order = a .in-order }
+one-call s o (event i (starts text)) =
+    let g = gatewayState s .gateway in
+    let a = alike i (startedBy (startFrom s i text) s i text) (startOf g i text (s .memory)) (start-hosts s o i text) (started-gives g i text (s .memory)) in
+    record { state = a .state; response = a .response; in-order = a .in-order }
 one-call s o (taking i b) =
     let h = taking-hosts (s .numbers) (lentOf s b) o i (record { result = refl; state = refl }) in
     record {

@@ -2,13 +2,15 @@
 -- Assumes nothing.
 use mathlib.Core.Path.{_≡_, refl, sym, ap, subst, _∙_}
 use mathlib.Core.Bool.{Bool, true, false}
-use mathlib.Core.List.{List}
-use Prim.Native.Nat.{ℕ, zero, suc, _+_, _<_}
+use mathlib.Core.List.{List, [], _∷_}
+use Prim.Native.Nat.{ℕ, zero, suc, _+_, _-_, _<_}
+use native.Mathlib.Nat.{zero-add}
 use native.Mathlib.Decide.{ℕ-discrete}
 use native.Mathlib.Omega.{arith}
 use borrow.Author.Tests.{lt-ltb, ltb-true}
 use lib.Dec.{ltb}
-use lib.ListN.{length, replicate}
+use lib.ListN.{length, getD, replicate, getD-replicate, List·getD-append}
+use lib.Seq.{getD-append-add}
 use Rattle.memory.specs.Sizes.{lines}
 use Rattle.memory.specs.Tests.{unless}
 use Rattle.room.specs.Room.{todaysShares}
@@ -26,7 +28,7 @@ use Rattle.gateway.specs.Gateway.{Gateway}
 use Rattle.taking.specs.Taking.{tookAnswer}
 use Rattle.looking.specs.declared.Event.{Event}
 use Rattle.gateway_laws.proofs.Laws.{unchanged, left-unchanged, limits-kept}
-use Rattle.layout.specs.Layout.{freshNumbers, Fresh}
+use Rattle.layout.specs.Layout.{fields, placeAt, start, numberAt, freshLine, freshNumbers, Fresh}
 use Rattle.ledger.specs.Ledgers.{ledgerOf, withUsed}
 use Rattle.answers.specs.InNumbers.{inNumbers}
 use Rattle.numbers.specs.Plain.{lineOf, withinNumbers}
@@ -38,7 +40,7 @@ use Rattle.ngachodui_laws.specs.Inner.Hosting.{Hosts, answerInNumbers, H
 use Rattle.answers.specs.declared.Answered.{Answered}
 use Rattle.ledger.proofs.Ledgers.{used-back}
 use Rattle.numbers.proofs.Numbers.{line-within, numbers-back}
-use Rattle.ngachodui_laws.proofs.Stores.{stored, stored-length, within-other, within-own}
+use Rattle.ngachodui_laws.proofs.Stores.{stored, stored-length, within-other, within-own, spare-stays}
 use Rattle.ngachodui_laws.proofs.Touched.{step-touched, taking-lowered}
 use Rattle.ngachodui_laws.proofs.PutBack.{line-at, counts-long, used-long, serials-long, gateway-put, taking-put}
 
@@ -95,6 +97,9 @@ module _ (s : HostState) (o : InOrder s) (e : Event) where
       | no n ↦ within-other (s .numbers) (e .line) (step .stepped .line) (step .stepped .ledger) k n ∙ o .within k q
     ]
 
+    spare-after : (k : ℕ) → k < lines → (m : ℕ) → placeAt < m → m < fields → numberAt (stored (s .numbers) (e .line) (step .stepped .line) (step .stepped .ledger)) k m ≡ 0
+    spare-after k q m p r = spare-stays (s .numbers) (e .line) (step .stepped .line) (step .stepped .ledger) k m p r ∙ o .spare k q m p r
+
     by-step : Hosts (putBack s (e .line) step) (putLine (gateway s) (e .line) step)
     by-step = record {
       gateway = gateway-put (s .numbers) (s .counts) (e .line) h (step .stepped .line) (step .stepped .ledger) (o .numbers) (o .counts)
@@ -105,6 +110,7 @@ module _ (s : HostState) (o : InOrder s) (e : Event) where
         numbers = stored-length (s .numbers) (e .line) (step .stepped .line) (step .stepped .ledger) ∙ o .numbers;
         counts = counts-long (s .counts) (e .line) (step .stepped .ledger) ∙ o .counts;
         within = within-after;
+        spare = spare-after;
       };
     }
 
@@ -162,7 +168,7 @@ module _ (ns : List ℕ) (s : TakeState) (o : Ordered ns (s .counts)) (i : ℕ) 
         answer = x .result ∙ taking-answer (taken .taking .answer);
         journal = ap (λ (y : TakeState). y .journal) (x .state);
         buffer = ap (λ (y : TakeState). y .buffer) (x .state);
-        ordered = record { numbers = o .numbers; counts = ap length counts ∙ long-after (ltb i lines); within = o .within };
+        ordered = record { numbers = o .numbers; counts = ap length counts ∙ long-after (ltb i lines); within = o .within; spare = o .spare };
       }
 
 -- fresh numbers stand for the fresh gateway, and are in order
@@ -178,6 +184,19 @@ fresh-within (suc (suc (suc (suc (suc (suc zero)))))) h = refl
 fresh-within (suc (suc (suc (suc (suc (suc (suc zero))))))) h = refl
 fresh-within (suc (suc (suc (suc (suc (suc (suc (suc k)))))))) h = absurd (omega arith)
 
+-- on each of so many fresh lines the numbers are those of a fresh line, and the spare ones are 0
+fresh-number : (n i k : ℕ) → i < n → k < fields → getD (freshNumbers n) (start i + k) 0 ≡ getD freshLine k 0
+fresh-number zero i k h q = absurd (omega arith)
+fresh-number (suc n) zero k h q = ap (λ (p : ℕ). getD (freshNumbers (suc n)) p 0) (zero-add k) ∙ List·getD-append freshLine (freshNumbers n) 0 k q
+fresh-number (suc n) (suc i) k h q =
+    let at : start (suc i) + k ≡ fields + (start i + k) = omega arith in
+    ap (λ (p : ℕ). getD (freshNumbers (suc n)) p 0) at ∙ getD-append-add freshLine (freshNumbers n) (start i + k) 0 ∙ fresh-number n i k (omega arith) q
+
+fresh-spare : (k : ℕ) → placeAt < k → k < fields → getD freshLine k 0 ≡ 0
+fresh-spare k p q =
+    let at : k ≡ 8 + (k - 8) = omega arith in
+    ap (λ (x : ℕ). getD freshLine x 0) at ∙ getD-append-add (0 ∷ 0 ∷ 0 ∷ 0 ∷ 1 ∷ 0 ∷ 0 ∷ 0 ∷ []) (replicate 8 0) (k - 8) 0 ∙ getD-replicate 8 (k - 8) 0 0 (omega arith)
+
 fresh-gateway : gatewayOf (freshNumbers lines) (replicate (lines + 1) 0) ≡ freshGateway
 unfolding ledgerOf
 fresh-gateway = refl
@@ -189,5 +208,6 @@ fresh-hosts {ns} {us} f = (
     numbers = ap length (f .numbers);
     counts = ap length (f .counts);
     within = λ k h. ap (λ (x : List ℕ). withinNumbers x k) (f .numbers) ∙ fresh-within k h;
+    spare = λ k h m p q. ap (λ (x : List ℕ). numberAt x k m) (f .numbers) ∙ fresh-number lines k m h q ∙ fresh-spare m p q;
   },
 )

@@ -2,6 +2,7 @@ pub mod Stores
 pub mod Touched
 pub mod PutBack
 pub mod Hosts
+pub mod Starts
 pub mod Refusals
 pub mod HostRuns
 pub mod Sound
@@ -12,6 +13,7 @@ pub mod Ended
 pub mod Stretches
 pub mod Queue
 pub mod Sending
+pub mod Orders
 pub mod FromFresh
 pub mod Texts
 pub mod Escapes

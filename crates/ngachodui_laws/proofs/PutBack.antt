@@ -3,17 +3,17 @@
 use mathlib.Core.Path.{_≡_, refl, sym, ap, _∙_}
 use mathlib.Core.Logic.{_≢_}
 use mathlib.Core.List.{List}
-use Prim.Native.Nat.{ℕ, zero, suc, _+_, _*_, _<_}
+use Prim.Native.Nat.{ℕ, zero, suc, _+_, _*_, _≤_, _<_}
 use native.Mathlib.Nat.{add-zero, zero-add, add-suc, suc-add}
-use native.Mathlib.Decide.{ℕ-discrete}
+use native.Mathlib.Decide.{decLt, ℕ-discrete}
 use native.Mathlib.Omega.{arith}
-use lib.ListN.{length, getD, set, length-set}
+use lib.ListN.{length, getD, set, length-set, List·getD-eq-default}
 use lib.Seq.{ext-getD, getD-set-same, getD-set-other}
 use Rattle.memory.specs.Sizes.{lines}
 use Rattle.journal.specs.declared.Ledger.{Ledger}
 use Rattle.line.specs.declared.Line.{Line}
 use Rattle.gateway.specs.Events.{noRecord}
-use Rattle.layout.specs.Layout.{fields, numberAt}
+use Rattle.layout.specs.Layout.{fields, start, firstAt, numberAt}
 use Rattle.ledger.specs.Ledgers.{ledgerOf, withUsed}
 use Rattle.numbers.specs.Plain.{lineOf}
 use Rattle.ngachodui_laws.specs.Hosting.{linesOf, gatewayOf}
@@ -33,6 +33,34 @@ line-in ns i (suc n) (suc k) h = line-in ns (suc i) n k (omega arith) ∙ ap (li
 
 pub line-at : (ns : List ℕ) (k : ℕ) → k < lines → getD (linesOf ns 0 lines) k noRecord ≡ lineOf ns k
 line-at ns k h = line-in ns 0 lines k h ∙ ap (lineOf ns) (zero-add k)
+
+-- behind the last line nothing is read
+line-past : (ns : List ℕ) → length ns ≡ lines * fields → (k : ℕ) → lines ≤ k → lineOf ns k ≡ noRecord
+line-past ns long k h =
+    rw (
+      none 0 (firstAt ns k) (ap (λ (p : ℕ). getD ns p 0) (sym (add-zero (start k)))),
+      past 1,
+      past 2,
+      past 3,
+      past 4,
+      past 5,
+      past 6,
+      past 8,
+      past 9,
+    )
+  where
+    past : (m : ℕ) → numberAt ns k m ≡ 0
+    past m = List·getD-eq-default ns 0 (omega (arith, long))
+
+    none : (m x : ℕ) → x ≡ numberAt ns k m → x ≡ 0
+    none m x e = e ∙ past m
+
+-- each line's record, and none behind the last
+pub line-anywhere : (ns : List ℕ) → length ns ≡ lines * fields → (k : ℕ) → getD (linesOf ns 0 lines) k noRecord ≡ lineOf ns k
+line-anywhere ns long k = elim (decLt k lines) [
+  | yes h ↦ line-at ns k h
+  | no h ↦ List·getD-eq-default (linesOf ns 0 lines) noRecord (omega (arith, lines-length ns 0 lines)) ∙ sym (line-past ns long k (omega arith))
+]
 
 lines-set : (ns ns′ : List ℕ) (i : ℕ) (l : Line) → i < lines → lineOf ns′ i ≡ l → ((k : ℕ) → k ≢ i → lineOf ns′ k ≡ lineOf ns k)
     → linesOf ns′ 0 lines ≡ set (linesOf ns 0 lines) i l

@@ -14,7 +14,7 @@ use Rattle.journal.specs.Chain.{chain}
 use Rattle.journal_laws.specs.Held.{Held}
 use Rattle.journal_laws.specs.Runs.{Numbered, numbered, waiting}
 use Rattle.serial.specs.Serial.{event, taking, annotate, Every}
-use Rattle.promises.specs.Machine.{State, Response, GatewayItem, came, step}
+use Rattle.promises.specs.Machine.{State, Response, GatewayItem, happens, starts, came, step}
 use Rattle.promises.specs.Runs.{answered, fresh}
 use Rattle.promises.specs.Queue.{completed, gave}
 use Rattle.promises.specs.Queue as there
@@ -49,7 +49,8 @@ taken-alike l s o es = ap (allTaken l) (runs-alike s o es) ∙ taken-seen l (gat
 
 -- what is stored
 stored-by : (l : ℕ) (s : HostState) → InOrder s → (e : GatewayItem) → storedBy l s e ≡ there.storedOn l (gatewayState s) e
-stored-by l s o (event i k) =
+stored-by l s o (event i (starts text)) = refl
+stored-by l s o (event i (happens k)) =
     ap (λ (r : HostResponse). cond (eqb i l && eqb (r .answered .number) 4) (completed (gatewayState s) i k ∷ []) []) (one-call s o (came i k) .response)
 stored-by l s o (taking i b) = refl
 

@@ -21,7 +21,7 @@ use Rattle.receiving.specs.Verdicts.{verdictOf}
 use Rattle.gateway.specs.Events.{AfterTake, takeOf}
 use Rattle.looking.specs.declared.Event.{Event}
 use Rattle.looking.specs.Verdicts.{Left}
-use Rattle.gateway_laws.specs.Classes.{Class, classOf, quiet, opening, closing, refusing, accepting, storing, against, taking as gives}
+use Rattle.gateway_laws.specs.Classes.{Class, classOf, quiet, opening, closing, refusing, accepting, storing, against, taking as gives, sending}
 use Rattle.gateway_laws.proofs.Laws.{unchanged, left-unchanged, refused-unchanged}
 use Rattle.gateway_laws.proofs.Takings.{taking-refused}
 use Rattle.ledger.specs.Ledgers.{ledgerOf, withUsed}
@@ -35,7 +35,7 @@ use Rattle.ledger.proofs.Ledgers.{used-back}
 use Rattle.numbers.proofs.Numbers.{numbers-back}
 use Rattle.ngachodui_laws.proofs.Hosts.{stepFor, put-unchanged, taking-answer}
 
--- 20 and 40 to 47 are the answers that leave everything, but for an event that is ignored or only collected
+-- 20, 40 to 47 and 60 are the answers that leave everything, but for an event that is ignored or only collected
 abbrev isQuiet : Class → Bool
 isQuiet quiet = true
 isQuiet opening = false
@@ -45,6 +45,7 @@ isQuiet accepting = false
 isQuiet storing = false
 isQuiet against = false
 isQuiet gives = false
+isQuiet sending = false
 
 the-quiet : (refused : Bool) (c : Class) → not refused || isQuiet c ≡ true → refused ≡ true → c ≡ quiet
 the-quiet true quiet p q = refl
@@ -55,6 +56,7 @@ the-quiet true accepting p q = clash cc
 the-quiet true storing p q = clash cc
 the-quiet true against p q = clash cc
 the-quiet true gives p q = clash cc
+the-quiet true sending p q = clash cc
 the-quiet false c p q = clash cc
 
 refusal-class : (a : Answer) → isRefusal (numberOf a) ≡ true → classOf a ≡ quiet

@@ -13,7 +13,7 @@ use Rattle.memory.specs.Sizes.{lines}
 use Rattle.memory.proofs.Tests.{clash}
 use Rattle.header.specs.Header.{entrySize}
 use Rattle.room.specs.Room.{share}
-use Rattle.answers.specs.Paper.{ack, numberOf, valuesOf}
+use Rattle.answers.specs.Paper.{ack, numberOf, valuesOf, replyOf, firstOut}
 use Rattle.answers.specs.declared.Answer.{Answer}
 use Rattle.answers.specs.declared.Answer.the-variants.{Taken}
 use Rattle.answers.specs.declared.Reply.{Reply}
@@ -59,10 +59,13 @@ if-eight true two h e = h
 if-eight false two h e = clash cc
 
 eight-is : (a : Answer) → numberOf a ≡ 8 → a ≡ Taken (getD (valuesOf a) 0 0) (getD (valuesOf a) 1 0)
+unfolding replyOf
 eight-is a h =
     let test : Answer → Bool = λ x. cond (eqb (numberOf x) 8) (eqb (length (valuesOf x)) 2) true in
+    let silent : Answer → Bool = λ x. cond (eqb (numberOf x) 8) (eqb (replyByte (firstOut x)) 0) true in
     let two = if-eight (eqb (numberOf a) 8) (eqb (length (valuesOf a)) 2) (every-answer test (λ vs. refl) a) (eq-eqb (numberOf a) 8 h) in
-    paper-injective a (Taken (getD (valuesOf a) 0 0) (getD (valuesOf a) 1 0)) h (two-values (valuesOf a) (eqb-true (length (valuesOf a)) 2 two))
+    let none = if-eight (eqb (numberOf a) 8) (eqb (replyByte (firstOut a)) 0) (every-answer silent (λ vs. refl) a) (eq-eqb (numberOf a) 8 h) in
+    paper-injective a (Taken (getD (valuesOf a) 0 0) (getD (valuesOf a) 1 0)) h (eqb-true (replyByte (firstOut a)) 0 none) (two-values (valuesOf a) (eqb-true (length (valuesOf a)) 2 two))
 
 taken-value : (at : ℕ) (a : Answer) → numberOf a ≡ 8 → takenValue at a ≡ getD (valuesOf a) at 0
 taken-value at a h = rw (eq-eqb (numberOf a) 8 h)

@@ -6,25 +6,26 @@ use mathlib.Core.Bool.{Bool, true, false}
 use mathlib.Core.List.{List, [], _∷_}
 use Prim.Native.Nat.{ℕ, zero, suc, _+_, _≤_, _<_}
 use native.Mathlib.Nat.{add-zero, add-suc, suc-add}
-use native.Mathlib.Decide.{decLt}
+use native.Mathlib.Decide.{decLt, ℕ-discrete}
 use native.Mathlib.Omega.{arith}
 use native.Mathlib.Numerals.{add-one}
 use borrow.Author.Tests.{le-leb, leb-true}
 use lib.Dec.{eqb}
 use lib.ListN.{length, getD, set, length-set}
-use lib.Seq.{sets, length-sets, getD-set-same, getD-set-other}
+use lib.Seq.{sets, length-sets, set-comm, getD-set-same, getD-set-other}
 use Rattle.digits.specs.Number.{mostNumber}
 use Rattle.journal.specs.declared.Ledger.{Ledger}
-use Rattle.line.specs.Line.{lastWithin, withinLimits}
+use Rattle.line.specs.Line.{mostTries, lastWithin, stateWithin, withinLimits}
 use Rattle.line.specs.declared.Line.{Line}
 use Rattle.line.specs.declared.State.{State}
-use Rattle.line.specs.declared.State.the-variants.{Neutral, Waiting, Inside}
+use Rattle.line.specs.declared.State.the-variants.{Neutral, Waiting, Inside, Out}
+use Rattle.line.specs.declared.Sending.the-variants.{Asking, Pausing, Offering}
 use Rattle.line.specs.declared.Last.{Last}
 use Rattle.line.specs.declared.Last.the-variants.{NoneYet, Number}
 use Rattle.line.proofs.Limits.{within-facts}
-use Rattle.layout.specs.Layout.{fields, start, firstAt, numberAt}
+use Rattle.layout.specs.Layout.{fields, placeAt, start, firstAt, numberAt}
 use Rattle.ledger.specs.Ledgers.{withSerial}
-use Rattle.numbers.specs.Plain.{inside, stateOf, stateNumber, lastOf, lastNumber, flag, withinNumbers, lineOf, withLine}
+use Rattle.numbers.specs.Plain.{inside, offering, stateOf, stateNumber, triesNumber, placeNumber, sendingFits, lastOf, lastNumber, flag, withinNumbers, lineOf, withLine}
 
 -- a run of stores: before it, behind it and in it
 sets-before : (vs l : List ℕ) (i p : ℕ) → p < i → getD (sets l i vs) p 0 ≡ getD l p 0
@@ -42,23 +43,43 @@ sets-in (a ∷ vs) l i (suc k) h r =
     ap (λ (p : ℕ). getD (sets l i (a ∷ vs)) p 0) (add-suc i k ∙ sym (suc-add i k))
     ∙ sets-in vs (set l i a) (suc i) k (omega arith) (omega (arith, length-set l i a))
 
--- a line's eight numbers
-abbrev numbersOf : Line → ℕ → List ℕ
-numbersOf l serial = stateNumber (l .state) ∷ l .collected ∷ l .joined ∷ l .seconds ∷ l .next ∷ lastNumber (l .last) ∷ flag (l .refusing) ∷ serial ∷ []
+-- a line's ten numbers; the spare ones stand behind them
+abbrev used : ℕ
+used = 10
 
-in-a-row : (ns : List ℕ) (at a b c d e f g : ℕ) (s t u v w x y z : ℕ) → a ≡ suc at → b ≡ suc (suc at) → c ≡ suc (suc (suc at)) → d ≡ suc (suc (suc (suc at)))
-    → e ≡ suc (suc (suc (suc (suc at)))) → f ≡ suc (suc (suc (suc (suc (suc at))))) → g ≡ suc (suc (suc (suc (suc (suc (suc at))))))
-    → set (set (set (set (set (set (set (set ns at s) a t) b u) c v) d w) e x) f y) g z ≡ sets ns at (s ∷ t ∷ u ∷ v ∷ w ∷ x ∷ y ∷ z ∷ [])
-in-a-row ns at a b c d e f g s t u v w x y z p₁ p₂ p₃ p₄ p₅ p₆ p₇ = rw (p₁, p₂, p₃, p₄, p₅, p₆, p₇)
+abbrev numbersOf : Line → ℕ → List ℕ
+numbersOf l serial =
+    stateNumber (l .state) ∷ l .collected ∷ l .joined ∷ l .seconds ∷ l .next ∷ lastNumber (l .last) ∷ flag (l .refusing) ∷ serial ∷ triesNumber (l .state) ∷ placeNumber (l .state) ∷ []
+
+in-a-row : (ns : List ℕ) (at : ℕ) (s t u v w x y z n p : ℕ)
+    → set (set (set (set (set (set (set (set (set (set ns at s) (suc at) t) (suc (suc at)) u) (suc (suc (suc at))) v) (suc (suc (suc (suc at)))) w) (suc (suc (suc (suc (suc at))))) x)
+    (suc (suc (suc (suc (suc (suc at)))))) y) (suc (suc (suc (suc (suc (suc (suc at))))))) z) (suc (suc (suc (suc (suc (suc (suc (suc at)))))))) n) (suc (suc (suc (suc (suc (suc (suc (suc (suc at))))))))) p
+    ≡ sets ns at (s ∷ t ∷ u ∷ v ∷ w ∷ x ∷ y ∷ z ∷ n ∷ p ∷ [])
+in-a-row ns at s t u v w x y z n p = refl
+
+-- the places of a line's numbers, counted on
+on : (at : ℕ) → (at + 1 ≡ suc at) × (at + 2 ≡ suc (suc at)) × (at + 3 ≡ suc (suc (suc at))) × (at + 4 ≡ suc (suc (suc (suc at)))) × (at + 5 ≡ suc (suc (suc (suc (suc at)))))
+    × (at + 6 ≡ suc (suc (suc (suc (suc (suc at)))))) × (at + 7 ≡ suc (suc (suc (suc (suc (suc (suc at))))))) × (at + 8 ≡ suc (suc (suc (suc (suc (suc (suc (suc at))))))))
+    × (at + 9 ≡ suc (suc (suc (suc (suc (suc (suc (suc (suc at)))))))))
+on at = (omega arith, omega arith, omega arith, omega arith, omega arith, omega arith, omega arith, omega arith, omega arith)
 
 module _ (ns : List ℕ) (i : ℕ) (l : Line) (d : Ledger) where
   abbrev pub stored : List ℕ
   stored = withSerial (withLine ns i l) i d
 
-  as-row : stored ≡ sets ns (start i) (numbersOf l (getD (d .serials) i 0))
+  -- the serial is put last, and stands before tries and place
+  abbrev before : List ℕ
+  before = set (set (set (set (set (set (set ns (start i) (stateNumber (l .state))) (start i + 1) (l .collected)) (start i + 2) (l .joined)) (start i + 3) (l .seconds)) (start i + 4) (l .next))
+      (start i + 5) (lastNumber (l .last))) (start i + 6) (flag (l .refusing))
+
+  moved : stored ≡ set (set (set before (start i + 7) (getD (d .serials) i 0)) (start i + 8) (triesNumber (l .state))) (start i + 9) (placeNumber (l .state))
   unfolding withLine
-  as-row = in-a-row ns (start i) (start i + 1) (start i + 2) (start i + 3) (start i + 4) (start i + 5) (start i + 6) (start i + 7) _ _ _ _ _ _ _ _
-      (omega arith) (omega arith) (omega arith) (omega arith) (omega arith) (omega arith) (omega arith)
+  moved =
+      set-comm (set before (start i + 8) (triesNumber (l .state))) (start i + 9) (start i + 7) (placeNumber (l .state)) (getD (d .serials) i 0) (λ q. absurd (omega arith))
+      ∙ ap (λ (x : List ℕ). set x (start i + 9) (placeNumber (l .state))) (set-comm before (start i + 8) (start i + 7) (triesNumber (l .state)) (getD (d .serials) i 0) (λ q. absurd (omega arith)))
+
+  as-row : stored ≡ sets ns (start i) (numbersOf l (getD (d .serials) i 0))
+  as-row = let (p₁, p₂, p₃, p₄, p₅, p₆, p₇, p₈, p₉) = on (start i) in moved ∙ rw (p₁, p₂, p₃, p₄, p₅, p₆, p₇, p₈, p₉) (in-a-row ns (start i) _ _ _ _ _ _ _ _ _ _)
 
   pub stored-length : length stored ≡ length ns
   stored-length = ap length as-row ∙ length-sets ns (start i) (numbersOf l (getD (d .serials) i 0))
@@ -73,10 +94,20 @@ module _ (ns : List ℕ) (i : ℕ) (l : Line) (d : Ledger) where
   pub first-other : (k : ℕ) → k ≢ i → firstAt stored k ≡ firstAt ns k
   first-other k n = ap (λ (p : ℕ). getD stored p 0) (sym (add-zero (start k))) ∙ number-other k 0 n (omega arith) ∙ ap (λ (p : ℕ). getD ns p 0) (add-zero (start k))
 
+  -- its own spare ones, and those of every line
+  spare-own : (k : ℕ) → placeAt < k → numberAt stored i k ≡ numberAt ns i k
+  spare-own k h = ap (λ (x : List ℕ). getD x (start i + k) 0) as-row ∙ sets-behind (numbersOf l (getD (d .serials) i 0)) ns (start i) (start i + k) (omega arith)
+
+  pub spare-stays : (k m : ℕ) → placeAt < m → m < fields → numberAt stored k m ≡ numberAt ns k m
+  spare-stays k m p q = elim (ℕ-discrete k i) [
+    | yes e ↦ rw e (spare-own m p)
+    | no n ↦ number-other k m n q
+  ]
+
   -- its own
   module _ (room : start i + fields ≤ length ns) where
-    number-own : (k : ℕ) → k < fields → getD stored (start i + k) 0 ≡ getD (numbersOf l (getD (d .serials) i 0)) k 0
-    number-own k h = ap (λ (x : List ℕ). getD x (start i + k) 0) as-row ∙ sets-in (numbersOf l (getD (d .serials) i 0)) ns (start i) k h room
+    number-own : (k : ℕ) → k < used → getD stored (start i + k) 0 ≡ getD (numbersOf l (getD (d .serials) i 0)) k 0
+    number-own k h = ap (λ (x : List ℕ). getD x (start i + k) 0) as-row ∙ sets-in (numbersOf l (getD (d .serials) i 0)) ns (start i) k h (omega arith)
 
     first-own : firstAt stored i ≡ stateNumber (l .state)
     first-own = ap (λ (p : ℕ). getD stored p 0) (sym (add-zero (start i))) ∙ number-own 0 (omega arith)
@@ -85,10 +116,13 @@ module _ (ns : List ℕ) (i : ℕ) (l : Line) (d : Ledger) where
     serial-own = number-own 7 (omega arith)
 
 -- what a record's numbers stand for is the record
-state-back : (s : State) → stateOf (stateNumber s) ≡ s
+state-back : (s : State) → stateOf (stateNumber s) (triesNumber s) (placeNumber s) ≡ s
 state-back Neutral = refl
 state-back Waiting = refl
 state-back Inside = refl
+state-back (Out (Asking n)) = refl
+state-back (Out (Pausing n)) = refl
+state-back (Out (Offering n at)) = refl
 
 last-back : (x : Last) → lastOf (lastNumber x) ≡ x
 last-back NoneYet = refl
@@ -99,10 +133,21 @@ flag-back true = refl
 flag-back false = refl
 
 -- and within the limits if it is
-state-low : (s : State) → stateNumber s ≤ inside
+state-low : (s : State) → stateNumber s ≤ offering
 state-low Neutral = omega arith
 state-low Waiting = omega arith
 state-low Inside = omega arith
+state-low (Out (Asking n)) = omega arith
+state-low (Out (Pausing n)) = omega arith
+state-low (Out (Offering n at)) = omega arith
+
+state-fits : (s : State) → stateWithin s ≡ true → sendingFits (stateNumber s) (triesNumber s) (placeNumber s) ≡ true
+state-fits Neutral h = refl
+state-fits Waiting h = refl
+state-fits Inside h = refl
+state-fits (Out (Asking n)) h = rw h
+state-fits (Out (Pausing n)) h = rw h
+state-fits (Out (Offering n at)) h = h
 
 last-low : (x : Last) → lastWithin x ≡ true → lastNumber x ≤ mostNumber + 1
 last-low NoneYet h = omega arith
@@ -122,6 +167,8 @@ module _ (ns : List ℕ) (i : ℕ) (l : Line) (d : Ledger) where
     number-other ns i l d k 4 n (omega arith),
     number-other ns i l d k 5 n (omega arith),
     number-other ns i l d k 6 n (omega arith),
+    number-other ns i l d k 8 n (omega arith),
+    number-other ns i l d k 9 n (omega arith),
   )
 
   pub within-other : (k : ℕ) → k ≢ i → withinNumbers (stored ns i l d) k ≡ withinNumbers ns k
@@ -134,12 +181,15 @@ module _ (ns : List ℕ) (i : ℕ) (l : Line) (d : Ledger) where
     number-other ns i l d k 4 n (omega arith),
     number-other ns i l d k 5 n (omega arith),
     number-other ns i l d k 6 n (omega arith),
+    number-other ns i l d k 8 n (omega arith),
+    number-other ns i l d k 9 n (omega arith),
   )
 
   module _ (room : start i + fields ≤ length ns) where
     pub line-own : lineOf (stored ns i l d) i ≡ l
     line-own =
-        let state : stateOf (firstAt (stored ns i l d) i) ≡ l .state = ap stateOf (first-own ns i l d room) ∙ state-back (l .state) in
+        let state : stateOf (firstAt (stored ns i l d) i) (numberAt (stored ns i l d) i 8) (numberAt (stored ns i l d) i 9) ≡ l .state =
+        (λ z. stateOf (first-own ns i l d room z) (number-own ns i l d room 8 (omega arith) z) (number-own ns i l d room 9 (omega arith) z)) ∙ state-back (l .state) in
         let collected : numberAt (stored ns i l d) i 1 ≡ l .collected = number-own ns i l d room 1 (omega arith) in
         let joined : numberAt (stored ns i l d) i 2 ≡ l .joined = number-own ns i l d room 2 (omega arith) in
         let seconds : numberAt (stored ns i l d) i 3 ≡ l .seconds = number-own ns i l d room 3 (omega arith) in
@@ -161,7 +211,10 @@ module _ (ns : List ℕ) (i : ℕ) (l : Line) (d : Ledger) where
           number-own ns i l d room 4 (omega arith),
           number-own ns i l d room 5 (omega arith),
           number-own ns i l d room 6 (omega arith),
+          number-own ns i l d room 8 (omega arith),
+          number-own ns i l d room 9 (omega arith),
           le-leb _ _ (state-low (l .state)),
+          state-fits (l .state) (w .state),
           le-leb _ _ (w .collected),
           le-leb _ _ (w .joined),
           le-leb _ _ (w .seconds),

@@ -10,13 +10,13 @@ use Rattle.answers.specs.declared.Answer.{Answer}
 use Rattle.answers.proofs.Paper.{every-answer}
 use Rattle.gateway_laws.specs.Classes.{classOf}
 use Rattle.journal_laws.specs.Runs.{State as Store}
-use Rattle.looking.specs.declared.Kind.{Kind}
 use Rattle.serial.specs.Serial.{event, taking, serialize, count, OrderOf, GoesAlike}
 use Rattle.serial.specs.Inner.Machine.{Lined, NothingElse}
 use Rattle.serial.specs.Kept.{Rearranged}
 use Rattle.serial.proofs.Demand as serial
-use Rattle.promises.specs.Machine.{State, Response, response, GatewayItem, isDecision, decides as decidesThere, Parts, partsOf, storeOf, Sound, May}
-use Rattle.promises.specs.Inner.ByParts.{onEvent, onTaking}
+use Rattle.answers.specs.Paper.{replyOf}
+use Rattle.promises.specs.Machine.{State, Response, response, Coming, GatewayItem, isDecision, decides as decidesThere, Parts, partsOf, storeOf, Sound, May}
+use Rattle.promises.specs.Inner.ByParts.{onComing, onTaking}
 use Rattle.promises.proofs.Stretches.{lined, nothing-else}
 use Rattle.promises.proofs.Kept.{fresh-sound}
 use Rattle.calls.specs.Calls.{HostState}
@@ -36,6 +36,7 @@ abbrev isDeciding : Answer → Bool
 isDeciding a = decides (inNumbersOf (response a []))
 
 decides-alike : (r : Response) → decides (inNumbersOf r) ≡ decidesThere r
+unfolding replyOf
 decides-alike r =
     let test : Answer → Bool = λ a. cond (isDeciding a) (isDecision (classOf a)) (not (isDecision (classOf a))) in
     both-or-none (isDeciding (r .answer)) (isDecision (classOf (r .answer))) (every-answer test (λ vs. refl) (r .answer))
@@ -47,8 +48,8 @@ partsIn s i = partsOf (gatewayState s) i
 abbrev storeIn : HostState → Store
 storeIn s = storeOf (gatewayState s)
 
-abbrev onHostEvent : ℕ → Parts → Kind → Store → HostResponse × Parts × Store
-onHostEvent i p k j = (inNumbersOf ((onEvent i p k j) .0), (onEvent i p k j) .1, (onEvent i p k j) .2)
+abbrev onHostEvent : ℕ → Parts → Coming → Store → HostResponse × Parts × Store
+onHostEvent i p k j = (inNumbersOf ((onComing i p k j) .0), (onComing i p k j) .1, (onComing i p k j) .2)
 
 abbrev onHostTaking : ℕ → List ℕ → Store → HostResponse × Store
 onHostTaking i b j = (inNumbersOf ((onTaking i b j) .0), (onTaking i b j) .1)
@@ -72,7 +73,7 @@ host-lined = record {
   taking-lines = λ s i b w m l. ap (λ (x : State). partsOf x l) (one-call s (w .in-order) (taking i b) .state) ∙ lined .taking-lines (gatewayState s) i b (w .sound) m l;
   taking-journal = λ s i b w m. ap storeOf (one-call s (w .in-order) (taking i b) .state) ∙ lined .taking-journal (gatewayState s) i b (w .sound) m;
   quiet = λ s i k w m e u v.
-      let there = onEvent i (partsIn s i) k (storeIn s) in
+      let there = onComing i (partsIn s i) k (storeIn s) in
       ap (λ (x : Response × Parts × Store). (inNumbersOf (x .0), x .1, x .2))
       (lined .quiet (gatewayState s) i k (w .sound) m (sym (decides-alike (there .0)) ∙ e) (gatewayState u) (v .sound));
 }

@@ -1,6 +1,6 @@
 -- What is claimed, in one record, of the functions that hosts call. `kept` (proofs/Demands) is a value of it: every field is proved.
 -- `hostStep s e` is a call: the answer to an event or a taking e, and every number and byte that the host keeps then, where it kept s before (specs/HostRuns).
--- A `Run` is a fresh start, with memory of the right sizes whatever it holds, and then any calls, events on lines 0 to 7 and takings from any line.
+-- A `Run` is a fresh start, with memory of the right sizes whatever it holds, and then any calls, events and starts of sendings on lines 0 to 7 and takings from any line.
 -- Answers are a host's own numbers. What a text needs, and whether there is room, is asked of the gateway that these numbers stand for (`gatewayState`).
 -- Assumes nothing.
 use Prim.Native.Nat.{ℕ, _+_, _≤_, _<_}
@@ -10,7 +10,10 @@ use mathlib.Core.Bool.{Bool, true, false}
 use mathlib.Core.List.{List}
 use mathlib.Core.Option.{some}
 use lib.ListN.{length}
-use Rattle.memory.specs.Sizes.{lines}
+use Rattle.memory.specs.Sizes.{lines, frameLimit}
+use Rattle.characters.specs.Control.{stx}
+use Rattle.pieces.specs.Pieces.{piecesOf}
+use Rattle.gateway.specs.Out.{sends}
 use Rattle.kinds.specs.Delimiters.{standard, fourAt, delimitersOf, areDelimiters}
 use Rattle.faults.specs.Message.{isMessageBy, isMessage}
 use Rattle.header.specs.Header.{entrySize}
@@ -19,21 +22,23 @@ use Rattle.journal_laws.specs.Runs.{waiting}
 use Rattle.answers.specs.Paper.{ack}
 use Rattle.looking.specs.declared.Kind.{Kind}
 use Rattle.receiving.specs.Steps.{Memory}
-use Rattle.serial.specs.Serial.{taking, annotate, final, serialize, count, Every, OrderOf, GoesAlike}
+use Rattle.serial.specs.Serial.{event, taking, annotate, final, serialize, count, Every, OrderOf, GoesAlike}
 use Rattle.serial.specs.Kept.{Rearranged}
-use Rattle.promises.specs.Machine.{GatewayItem, came, May}
+use Rattle.promises.specs.Machine.{Coming, GatewayItem, came, starting, May}
+use Rattle.promises.specs.Orders.{orderedOn, longest, ticks}
 use Rattle.promises.specs.Clean.{WrongAt}
 use Rattle.promises.specs.Runs.{RightSizes, isDamage, offered, Completes, Overfull, NoSpace, Space, Larger, usedBy, usedWith, mostAlone}
 use Rattle.layout.specs.Layout.{Fresh, serialAt, numberAt}
 use Rattle.numbers.specs.Plain.{lineOf}
 use Rattle.calls.specs.Calls.{HostState}
 use Rattle.ngachodui_laws.specs.Hosting.{isRefusal}
-use Rattle.ngachodui_laws.specs.HostRuns.{gatewayState, freshHost, HostResponse, hostStep, numberTo, replyTo, after, decides, Run, historyOf, endOf}
+use Rattle.ngachodui_laws.specs.HostRuns.{gatewayState, InOrder, freshHost, HostResponse, hostStep, numberTo, replyTo, after, decides, Run, historyOf, endOf}
 use Rattle.ngachodui_laws.specs.Sound.{Intact, Sound}
 use Rattle.ngachodui_laws.specs.Outcomes.{Allows, ignores, lineIn, LineKept, StoreKept}
 use Rattle.ngachodui_laws.specs.Deciding.{DecidedExactly}
 use Rattle.ngachodui_laws.specs.Queue.{allTaken, NothingLost, OnlyMessages}
 use Rattle.ngachodui_laws.specs.Sending.{CanSend, sentTo, Delivered, GivesBack}
+use Rattle.ngachodui_laws.specs.Orders.{CanStart, sentOn, SentWhole, OrderTaken, SentSparingly, neutralAlong, FetchedAs}
 use Rattle.ngachodui_laws.specs.Texts.{Cut, Readable, ComesBack, GoesBack}
 use Rattle.ngachodui_laws.specs.Freed.{takenThen, Frees, Alone}
 
@@ -51,16 +56,18 @@ pub record Demands : Type 0 where
   pub fresh-outcome : (m : Memory) (ns us : List ℕ) → Fresh ns us → _≡_ {A = HostState} (record { numbers = ns; counts = us; memory = m }) (freshHost m)
   --
   -- No call of a run finds memory of another size, a record beyond its limits or a broken journal: 41, 42 and 43 do not come. Nor does 30, as
-  -- every frame's text is of allowed bytes; and 54 comes from no state at all, as a text that is complete ends with CR.
+  -- every frame's text is of allowed bytes; and to an event 54 comes from no state at all, as a text that is complete ends with CR.
   pub never-damaged : (r : Run) → Every (λ x. isDamage (x .1 .answered .number) ≡ false) (historyOf r)
   pub never-30 : (r : Run) → Every (λ x. x .1 .answered .number ≢ 30) (historyOf r)
-  pub never-54 : (s : HostState) (e : GatewayItem) → numberTo s e ≢ 54
+  pub never-54 : (s : HostState) (i : ℕ) (k : Kind) → numberTo s (came i k) ≢ 54
   --
   -- After every run what the host keeps is sound: numbers in order, memory of the right sizes, and a whole journal that keeps each line's share.
   pub always-sound : (r : Run) → Sound (endOf r)
   --
-  -- A call that is refused (20, 40 to 47) changes no number and no byte, from any state at all; a refused taking leaves its buffer too.
+  -- A call that is refused (20, 40 to 47, 60) changes no number and no byte, from any state at all; a refused taking leaves its buffer too. Nor does any start that is
+  -- not answered 9.
   pub refusal-leaves : (s : HostState) (e : GatewayItem) → isRefusal (numberTo s e) ≡ true → after s e ≡ s
+  pub start-leaves : (s : HostState) (i : ℕ) (text : List ℕ) → numberTo s (starting i text) ≢ sends → after s (starting i text) ≡ s
   pub buffer-left : (s : HostState) (i : ℕ) (b : List ℕ) → isRefusal (numberTo s (taking i b)) ≡ true → (hostStep s (taking i b)) .0 .buffer ≡ b
   --
   -- Nor does an event that its line ignores.
@@ -152,6 +159,27 @@ pub record Demands : Type 0 where
   --
   -- So what was taken can be read: neither 46 nor a fault comes.
   pub read-never-refused : (r : Run) (l : ℕ) → l < lines → Every (λ n. Readable (n .text)) (allTaken l (historyOf r))
+  --
+  -- ---- Work orders
+
+  -- A message that is started on a neutral line, with an ACK to our ENQ and to each frame, goes out as the very bytes of its transfer: ENQ, the frames that cutting makes,
+  -- EOT. The line is then as fresh, and nothing else has changed.
+  pub sent-whole : (s : HostState) (i : ℕ) (m : List ℕ) → CanStart s i m → SentWhole s i m
+  --
+  -- So, sent to a fresh line of another gateway that has the room, it ends with the message stored there, once; and that gateway's replies are the ACKs.
+  pub order-taken : (s : HostState) (i : ℕ) (m : List ℕ) → CanStart s i m → (t : HostState) (l : ℕ) (c : CanSend t l m)
+      → OrderTaken t l m (sentOn i s (orderedOn i m)) (c .intact .entries)
+  --
+  -- What goes out with an answer is what the answer says, and where that is STX it is what is fetched.
+  pub fetched : (s : HostState) → InOrder s → (i : ℕ) → i < lines → (c : Coming) → replyTo s (event i c) ≡ stx → FetchedAs (after s (event i c)) i ((hostStep s (event i c)) .0 .buffer)
+  --
+  -- In a sending, whatever comes, our ENQ goes out six times at most, and so does each frame.
+  pub six-sends : (r : Run) (i : ℕ) → i < lines → (m : List ℕ) → numberTo (endOf r) (starting i m) ≡ sends → (es : List GatewayItem) → Every May es
+      → SentSparingly i (after (endOf r) (starting i m)) es
+  --
+  -- And it ends: once its line was told that a second or more has passed so often, 140 times and 90 times more for each frame, whatever came between, it has been neutral.
+  pub sending-ends : (r : Run) (i : ℕ) → i < lines → (m : List ℕ) → numberTo (endOf r) (starting i m) ≡ sends → (es : List GatewayItem) → Every May es
+      → longest (length (piecesOf frameLimit m)) ≤ ticks i es → neutralAlong i (after (endOf r) (starting i m)) es ≡ true
   --
   -- ---- Every message has its own delimiters
 

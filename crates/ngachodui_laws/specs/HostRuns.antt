@@ -1,17 +1,23 @@
 -- What a call does to what a host keeps, and runs of calls from a fresh start.
 -- Assumes nothing.
 use Prim.Native.Nat.{ℕ, _+_}
-use mathlib.Core.Bool.{Bool, _||_}
-use mathlib.Core.List.{List, []}
+use mathlib.Core.Bool.{Bool, not, _&&_, _||_}
+use mathlib.Core.List.{List}
 use lib.Dec.{eqb}
-use lib.ListN.{replicate}
+use lib.ListN.{length, replicate}
 use Rattle.memory.specs.Sizes.{lines}
 use Rattle.receiving.specs.Steps.{Memory}
 use Rattle.serial.specs.Serial.{event, taking, annotate, final, Every}
-use Rattle.promises.specs.Machine.{State, GatewayItem, onLine, May}
+use Rattle.promises.specs.Machine.{State, GatewayItem, happens, starts, onLine, May}
 use Rattle.promises.specs.Runs.{RightSizes}
 use Rattle.layout.specs.Layout.{freshNumbers}
-use Rattle.calls.specs.Calls.{HostState, callOf}
+use Rattle.gateway.specs.Out.{outBytes}
+use Rattle.numbers.specs.Plain.{lineOf}
+use Rattle.answers.specs.InNumbers.{inNumbers}
+use Rattle.orders.specs.Starts.{startAnswer, textsStarted}
+use Rattle.orders.specs.Calls.{lookFrom, numbersStarted, frameOn}
+use Rattle.orders.specs.declared.Start.{Start}
+use Rattle.calls.specs.Calls.{HostState, AfterCall, callOf}
 use Rattle.reader.specs.Takings.{TakeState, takingOf}
 use Rattle.ngachodui_laws.specs.Hosting.{gatewayOf, Ordered}
 use Rattle.answers.specs.Paper.{isFaulty}
@@ -27,7 +33,7 @@ InOrder s = Ordered (s .numbers) (s .counts)
 abbrev pub freshHost : Memory → HostState
 freshHost m = record { numbers = freshNumbers lines; counts = replicate (lines + 1) 0; memory = m }
 
--- the answer to a call, and what the buffer of a taking then holds
+-- the answer to a call, and what the buffer of a taking then holds, or what goes out in a sending
 pub record HostResponse : Type 0 where
   pub answered : Answered
   pub buffer : List ℕ
@@ -36,9 +42,32 @@ pub record HostResponse : Type 0 where
 abbrev pub lentOf : HostState → List ℕ → TakeState
 lentOf s b = record { counts = s .counts; journal = s .memory .journal; buffer = b }
 
+-- a start is a call of `ngachodui_send`: what its contract says
+abbrev pub startFrom : HostState → ℕ → List ℕ → Start
+startFrom s i text = lookFrom (s .numbers) i text (length (s .memory .journal)) (length (s .memory .unfinished)) (length (s .memory .frames))
+
+abbrev pub startedBy : Start → HostState → ℕ → List ℕ → AfterCall
+startedBy x s i text = record {
+  answered = inNumbers (startAnswer x);
+  state = record {
+    numbers = numbersStarted x (s .numbers) i text;
+    counts = s .counts;
+    memory = record { journal = s .memory .journal; unfinished = textsStarted x i text (s .memory .unfinished); frames = s .memory .frames };
+  };
+}
+
+-- what a host sends where a call has left the state t: with 9 the byte that is answered, and where that is STX the frame that its line offers, which
+-- `ngachodui_outgoing` fetches [H5, S2]
+abbrev pub sentBy : HostState → ℕ → Answered → List ℕ
+sentBy t i a = outBytes (a .number) (a .reply) (frameOn (lineOf (t .numbers) i) i (t .memory .unfinished))
+
+abbrev pub responseTo : ℕ → AfterCall → HostResponse × HostState
+responseTo i c = (record { answered = c .answered; buffer = sentBy (c .state) i (c .answered) }, c .state)
+
 -- an event is a call of `ngachodui_byte` or `ngachodui_seconds`, a taking one of `ngachodui_take`: what their contracts say [H4]
 abbrev pub hostStep : HostState → GatewayItem → HostResponse × HostState
-hostStep s (event i k) = let c = callOf s (onLine i k) in (record { answered = c .answered; buffer = [] }, c .state)
+hostStep s (event i (happens k)) = responseTo i (callOf s (onLine i k))
+hostStep s (event i (starts text)) = responseTo i (startedBy (startFrom s i text) s i text)
 hostStep s (taking i b) =
     let t = takingOf (s .numbers) i (lentOf s b) in (
       record { answered = t .answered; buffer = t .state .buffer },
@@ -67,10 +96,11 @@ after s e = (hostStep s e) .1
 abbrev pub isDecision : ℕ → Bool
 isDecision n = eqb n 4 || (eqb n 30 || (eqb n 31 || isFaulty n))
 
+-- and its analyzer is told so, while a fault of a text that is not sent goes to no analyzer, and decides nothing
 abbrev pub decides : HostResponse → Bool
-decides r = isDecision (r .answered .number)
+decides r = isDecision (r .answered .number) && not (eqb (r .answered .reply) 0)
 
--- a run of calls: a fresh start with memory of the right sizes, whatever it holds, and any calls, events on lines 0 to 7 and takings from any line
+-- a run of calls: a fresh start with memory of the right sizes, whatever it holds, and any calls, events and starts on lines 0 to 7 and takings from any line
 pub record Run : Type 0 where
   pub memory : Memory
   pub sizes : RightSizes memory

@@ -5,6 +5,7 @@ pub mod Outcomes
 pub mod Deciding
 pub mod Queue
 pub mod Sending
+pub mod Orders
 pub mod Texts
 pub mod Freed
 pub mod Demands

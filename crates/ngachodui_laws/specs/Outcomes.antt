@@ -3,22 +3,24 @@
 use Prim.Native.Nat.{ℕ, _<_}
 use mathlib.Core.Path.{_≡_}
 use mathlib.Core.Bool.{Bool, true, false, not, _||_}
-use mathlib.Core.List.{List, []}
+use mathlib.Core.List.{List}
 use lib.ListN.{getD}
 use Rattle.memory.specs.Sizes.{lines}
 use Rattle.memory.specs.Tests.{is}
 use Rattle.characters.specs.Control.{stx, enq, eot}
 use Rattle.line.specs.declared.State.{State as LineState}
-use Rattle.line.specs.declared.State.the-variants.{Neutral, Waiting, Inside}
+use Rattle.line.specs.declared.State.the-variants.{Neutral, Waiting, Inside, Out}
+use Rattle.line.specs.declared.Sending.the-variants.{Asking, Pausing, Offering}
 use Rattle.looking.specs.Views.{framesOf, textsOf}
 use Rattle.looking.specs.declared.Kind.{Kind}
 use Rattle.looking.specs.declared.Kind.the-variants.{Byte, Seconds}
 use Rattle.serial.specs.Serial.{event, taking}
-use Rattle.promises.specs.Machine.{GatewayItem, onLine}
+use Rattle.promises.specs.Machine.{GatewayItem, happens, starts, onLine}
 use Rattle.layout.specs.Layout.{fields, serialAt, numberAt}
 use Rattle.calls.specs.Calls.{HostState, Calling}
+use Rattle.orders.specs.Calls.{Sent}
 use Rattle.reader.specs.Takings.{Taken}
-use Rattle.ngachodui_laws.specs.HostRuns.{HostResponse, lentOf}
+use Rattle.ngachodui_laws.specs.HostRuns.{HostResponse, lentOf, sentBy}
 
 -- what the contract of `ngachodui_take` allows: the lines' numbers are lent to it to read, and neither the unfinished texts nor the frames are lent at all
 pub record AllowsTaking (s : HostState) (i : ℕ) (b : List ℕ) (r : HostResponse) (t : HostState) : Type 0 where
@@ -27,12 +29,23 @@ pub record AllowsTaking (s : HostState) (i : ℕ) (b : List ℕ) (r : HostRespon
   pub unfinished : t .memory .unfinished ≡ s .memory .unfinished
   pub frames : t .memory .frames ≡ s .memory .frames
 
--- from the state s, the contract of the call allows the response r and the state t; an event, `ngachodui_byte` or `ngachodui_seconds`, has no buffer
+-- what the contract of `ngachodui_send` allows: counts are not lent to it, and journal and frames to read
+pub record AllowsStart (s : HostState) (i : ℕ) (text : List ℕ) (r : HostResponse) (t : HostState) : Type 0 where
+  pub sent : Sent (s .numbers) i text (s .memory) (r .answered) (t .numbers) (t .memory .unfinished)
+  pub counts : t .counts ≡ s .counts
+  pub journal : t .memory .journal ≡ s .memory .journal
+  pub frames : t .memory .frames ≡ s .memory .frames
+  pub out : r .buffer ≡ sentBy t i (r .answered)
+
+-- from the state s, the contract of the call allows the response r and the state t; behind an event, `ngachodui_byte` or `ngachodui_seconds`, and a start
+-- the host sends what it is told to
 abbrev pub Allows : HostState → GatewayItem → HostResponse → HostState → Type 0
-Allows s (event i k) r t = Calling s (onLine i k) (r .answered) t × (r .buffer ≡ [])
+Allows s (event i (happens k)) r t = Calling s (onLine i k) (r .answered) t × (r .buffer ≡ sentBy t i (r .answered))
+Allows s (event i (starts text)) r t = AllowsStart s i text r t
 Allows s (taking i b) r t = AllowsTaking s i b r t
 
--- what a line in this state ignores: all but ENQ where no transfer is open; between frames all bytes but STX, EOT and ENQ; inside a frame nothing
+-- what a line in this state ignores: all but ENQ where no transfer is open; between frames all bytes but STX, EOT and ENQ; inside a frame nothing; while it sends, bytes in
+-- the pause
 abbrev pub ignores : LineState → Kind → Bool
 ignores Neutral (Byte b) = not (is enq b)
 ignores Neutral (Seconds n) = true
@@ -40,13 +53,19 @@ ignores Waiting (Byte b) = not (is stx b || (is eot b || is enq b))
 ignores Waiting (Seconds n) = false
 ignores Inside (Byte b) = false
 ignores Inside (Seconds n) = false
+ignores (Out (Asking n)) (Byte b) = false
+ignores (Out (Asking n)) (Seconds m) = false
+ignores (Out (Pausing n)) (Byte b) = true
+ignores (Out (Pausing n)) (Seconds m) = false
+ignores (Out (Offering n at)) (Byte b) = false
+ignores (Out (Offering n at)) (Seconds m) = false
 
 -- the line that a call names
 abbrev pub lineIn : GatewayItem → ℕ
 lineIn (event i k) = i
 lineIn (taking i b) = i
 
--- line l has what it had: its eight numbers, its used count, and its parts of the unfinished texts and of the frames
+-- line l has what it had: its sixteen numbers, its used count, and its parts of the unfinished texts and of the frames
 pub record LineKept (l : ℕ) (s t : HostState) : Type 0 where
   pub numbers : (k : ℕ) → k < fields → numberAt (t .numbers) l k ≡ numberAt (s .numbers) l k
   pub used : getD (t .counts) l 0 ≡ getD (s .counts) l 0

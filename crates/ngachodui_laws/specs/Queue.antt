@@ -13,7 +13,7 @@ use Rattle.header.specs.Entry.{Entry}
 use Rattle.journal.specs.Chain.{chain}
 use Rattle.journal_laws.specs.Runs.{Numbered, numbered, waiting}
 use Rattle.serial.specs.Serial.{event, taking, Every}
-use Rattle.promises.specs.Machine.{GatewayItem, came}
+use Rattle.promises.specs.Machine.{GatewayItem, happens, starts, came}
 use Rattle.promises.specs.Queue.{completed}
 use Rattle.ledger.specs.Ledgers.{ledgerOf}
 use Rattle.calls.specs.Calls.{HostState}
@@ -35,7 +35,8 @@ allTaken l (x ∷ xs) = takenIn l (x .0) (x .1) ++ allTaken l xs
 
 -- the text that a call stores on line l: the one that its event completes there, with 4
 abbrev pub storedBy : ℕ → HostState → GatewayItem → List (List ℕ)
-storedBy l s (event i k) = cond (eqb i l && eqb (numberTo s (came i k)) 4) (completed (gatewayState s) i k ∷ []) []
+storedBy l s (event i (happens k)) = cond (eqb i l && eqb (numberTo s (came i k)) 4) (completed (gatewayState s) i k ∷ []) []
+storedBy l s (event i (starts text)) = []
 storedBy l s (taking i b) = []
 
 -- all that calls store on line l, from this state on

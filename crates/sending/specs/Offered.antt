@@ -42,6 +42,7 @@ abbrev pub frameFor : ℕ → Option Piece → List ℕ
 frameFor number none = []
 frameFor number (some p) = frameOf number (p .end) (p .bytes)
 
+-- the frame that the line offers now [S2]
 abbrev pub frameNow : ℕ → Line → List ℕ → List ℕ
 frameNow limit l text = frameFor (l .next) (pieceNow limit l text)
 

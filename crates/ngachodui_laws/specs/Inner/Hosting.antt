@@ -6,7 +6,7 @@ use mathlib.Core.Bool.{cond}
 use mathlib.Core.List.{List}
 use lib.Dec.{eqb}
 use lib.ListN.{getD}
-use Rattle.answers.specs.Paper.{numberOf, valuesOf, placeOf, replyOf}
+use Rattle.answers.specs.Paper.{numberOf, valuesOf, placeOf, firstOut}
 use Rattle.answers.specs.declared.Answer.{Answer}
 use Rattle.gateway.specs.Events.{AfterEvent, AfterTake}
 use Rattle.answers.specs.InNumbers.{replyByte, inNumbers}
@@ -32,7 +32,7 @@ takenValue at a = cond (eqb (numberOf a) 8) (getD (valuesOf a) at 0) 0
 abbrev pub answerInNumbers : Answer → Answered
 answerInNumbers a = record {
   number = numberOf a;
-  reply = replyByte (replyOf (numberOf a));
+  reply = replyByte (firstOut a);
   serial = takenValue 1 a;
   place = placeOf a;
   digits = 0;
