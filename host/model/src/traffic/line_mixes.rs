@@ -477,6 +477,10 @@ impl Writer<'_> {
                 Temper::Silent => self.wait(),
                 Temper::Any => self.reply(),
             }
+            // What is offered then, if anything is, with room for any frame.
+            if self.random.once_in(3) {
+                self.script.fetch(self.line, 247);
+            }
         }
     }
 
