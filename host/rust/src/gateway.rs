@@ -393,27 +393,27 @@ mod tests {
         assert_eq!(gateway.send(8, TEXT), Answer::NoLine);
     }
 
-    #[test]
-    fn only_the_last_acknowledgement_counts_as_one_of_all() {
-        // What ends a sending, behind a frame that was sent six times.
-        let ends: [(fn(&mut Gateway) -> Answer, bool); 4] = [
-            (|gateway| gateway.byte(1, ACK), true),
-            (|gateway| gateway.byte(1, EOT), true),
-            (|gateway| gateway.byte(1, 0x05), false),
-            (|gateway| gateway.seconds(1, 15), false),
-        ];
-        for (end, expected) in ends {
-            let mut gateway = Gateway::fresh();
-            gateway.send(1, b"H|\\^&\rL|1\r");
-            gateway.byte(1, ACK);
-            gateway.byte(1, ACK);
-            for _ in 0..5 {
-                gateway.byte(1, 0x15);
-            }
-            let answer = end(&mut gateway);
-            let acknowledged = expected;
-            assert_eq!(answer, Answer::SendingEnded { acknowledged });
+    /// A gateway whose line 1 has sent its last frame for the sixth time.
+    fn at_the_last_send() -> Gateway {
+        let mut gateway = Gateway::fresh();
+        gateway.send(1, b"H|\\^&\rL|1\r");
+        gateway.byte(1, ACK);
+        gateway.byte(1, ACK);
+        for _ in 0..5 {
+            gateway.byte(1, 0x15);
         }
+        gateway
+    }
+
+    #[test]
+    fn our_eot_tells_whether_all_was_acknowledged() {
+        for (byte, acknowledged) in [(ACK, true), (EOT, true), (0x05, false), (0x15, false)] {
+            let end = at_the_last_send().byte(1, byte);
+            assert_eq!(end, Answer::SendingEnded { acknowledged });
+        }
+        let end = at_the_last_send().seconds(1, 15);
+        let acknowledged = false;
+        assert_eq!(end, Answer::SendingEnded { acknowledged });
     }
 
     #[test]
