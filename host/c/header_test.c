@@ -447,6 +447,7 @@ static void test_sending_sizes(void)
     lines[2].tries = 6;
     lines[2].place = 4001;
     check_number(fetch_from(2, sizeof out_frame).number, NGACHODUI_BEYOND_LIMITS, "a frame at 4,001");
+    lines[2].tries = 1;
     lines[2].place = 4000;
     m = fetch_from(2, 0);
     check_number(m.number, NGACHODUI_DONE, "a place behind the text");
