@@ -66,7 +66,7 @@ impl Link {
         loop {
             self.tell("host", &answer);
             // All that the answer has with it goes out, whether it is a byte, a frame or nothing.
-            replies.extend(self.to_analyzer(answer.outgoing()));
+            replies.extend(self.deliver(answer.outgoing()));
             match answer {
                 Answer::Sending { .. } | Answer::Nothing => {}
                 Answer::SendingEnded { acknowledged } => return acknowledged,
@@ -90,7 +90,7 @@ impl Link {
     }
 
     /// Bytes go to the analyzer; what comes back to the host.
-    fn to_analyzer(&mut self, bytes: &[u8]) -> Vec<u8> {
+    fn deliver(&mut self, bytes: &[u8]) -> Vec<u8> {
         let mut replies = Vec::new();
         for byte in self.across(bytes) {
             let answer = self.analyzer.byte(LINE, byte);
