@@ -290,6 +290,50 @@ fn a_sending_ends_whatever_comes() {
 }
 
 #[test]
+fn our_eot_tells_whether_all_was_acknowledged() {
+    // By the byte that it answers: so a host knows, who sees no more than that.
+    let mut random = Random::new(35);
+    let mut ends = [0; 3];
+    for _ in 0..600 {
+        let longest = random.between(11, 200);
+        let text = right(&mut random, longest);
+        let mut world = started(&text);
+        let mut offered = Vec::new();
+        let mut acknowledged = Vec::new();
+        loop {
+            if record(&mut world).state == State::Pausing {
+                assert_eq!(pass(&mut world, 10), [ENQ]);
+            }
+            let acknowledges = random.once_in(2);
+            let byte = random.pick(if acknowledges {
+                &[ACK, ACK, EOT]
+            } else {
+                &[NAK, DC1, 0x00]
+            });
+            if acknowledges {
+                acknowledged.append(&mut offered);
+            }
+            let answer = world.event(LINE, Kind::Byte(byte));
+            if answer.number == 61 {
+                assert!(acknowledged.is_empty());
+                ends[0] += 1;
+                break;
+            }
+            if answer.reply == Some(EOT) {
+                assert_eq!(acknowledged == text, acknowledges);
+                ends[1 + usize::from(acknowledges)] += 1;
+                break;
+            }
+            offered = match &sent(&mut world, answer)[..] {
+                [STX, _, rest @ ..] => rest[..rest.len() - 5].to_vec(),
+                _ => Vec::new(),
+            };
+        }
+    }
+    assert!(ends.iter().all(|&count| count > 0), "{:?}", ends);
+}
+
+#[test]
 fn both_ends_want_to_send() {
     let mut world = started(MESSAGE);
     assert_eq!(world.event(LINE, Kind::Byte(ENQ)), Answer::plain(61));
