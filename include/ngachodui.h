@@ -2,15 +2,29 @@
  *
  * Analyzers send frames (ASTM E1381) with records (E1394) down eight serial lines. The host hands
  * each byte that comes in, and each second that passes, to the library; the library says what it
- * did, by the number of an answer, and which byte to send back. Whole messages wait in one
- * journal until the host takes them.
+ * did, by the number of an answer, and what to send to the analyzer. Whole messages wait in one
+ * journal until the host takes them. And the host sends messages of its own, work orders, down the
+ * same lines: it starts a sending, and goes on handing over bytes and seconds.
+ *
+ * What goes to the analyzer is told by the answer's `reply`: 0 for nothing; 06, 15, 05 or 04 for that one
+ * byte; and 02 for a whole frame, which begins with that byte. 02 is never sent alone: fetch the frame
+ * with ngachodui_on_outgoing before the line's next event, and send all of it.
+ *
+ *     uint8_t frame[NGACHODUI_FRAME_LIMIT];
+ *     if (answer.reply == NGACHODUI_STX)
+ *         send_bytes(line, frame, ngachodui_on_outgoing(&gateway, line, frame, sizeof frame).length);
+ *     else if (answer.reply != 0)
+ *         send_bytes(line, &answer.reply, 1);
+ *
+ * A host that starts no sending never gets 02, 04 or 05.
  *
  * The library keeps nothing between calls, allocates nothing, and calls nothing but memcpy, memmove
  * and memset; a call needs at most NGACHODUI_STACK_LIMIT bytes of stack. All that a gateway is lies in
  * memory of the host's: a ngachodui_gateway, which is three memories of fixed sizes and a state. A host
- * calls ngachodui_start on it once, then ngachodui_on_byte, ngachodui_on_seconds and ngachodui_on_take.
- * These lend state and memories to the library's own functions, which a host may call itself if it
- * keeps them in other places. Only the library changes them.
+ * calls ngachodui_start on it once, then ngachodui_on_byte, ngachodui_on_seconds and ngachodui_on_take, and
+ * to send messages ngachodui_on_send and ngachodui_on_outgoing. These lend state and memories to the
+ * library's own functions, which a host may call itself if it keeps them in other places. Only the library
+ * changes them.
  *
  * What the host owes at every call, since C cannot say it:
  *   - each pointer is valid for the length beside it, or for the array in its type, and aligned for
@@ -27,16 +41,28 @@
  *     around every call; one thread that waits for all ports needs none. No call waits for anything.
  *   - Time: the lines have no clock. The host tells each line the whole seconds since it last did, from
  *     a clock that nobody sets (CLOCK_MONOTONIC), and keeps the fraction for the next time. One timer
- *     of a second serves all eight. Of a byte and a timer that fall together either may come first.
+ *     of a second serves all eight. Of a byte and a timer that fall together either may come first. A
+ *     line that sends must be told its seconds: nothing else ends a wait for a reply that does not come.
  *   - Replies: 06 lets the analyzer forget what it has sent. So first what the call has left is saved,
  *     and then 06 is sent. After 4 the gateway's copy of the message is the only one.
+ *   - Sendings: the host keeps its message until the sending is over. Our EOT (`reply` 04) in answer to
+ *     the byte 06 or 04 says that every frame was acknowledged. In answer to seconds or to another byte it
+ *     says that not all were, and 61 says that none was sent. Then the host decides whether and when to
+ *     start again. The analyzer may have the message even so, where only a reply was lost on its way: what
+ *     is sent once more may be there twice. After 61 it may be the analyzer that wants to send, so the next
+ *     start should wait a while. In the 10 seconds behind a refusal the line hears nothing: the analyzer's
+ *     own ENQ is ignored then, and has to come again.
  *   - Takings: 8 takes the message out of the journal, and then the buffer's copy is the only one. It
  *     goes where it is to stay before the gateway is saved without it. A host that fails in between
  *     gets the message once more, and knows it by its line and serial.
  *   - Saving: NGACHODUI_VERSION, and behind it the whole ngachodui_gateway; all of it or nothing, as by
  *     writing a new file, flushing and renaming it. What has another number in front is not loaded. A
- *     host that does not save before every reply tells each line, once it has loaded, that 30 seconds
- *     have passed: no transfer then goes on with bytes missing, and the messages that wait stay.
+ *     host that does not save before everything that it sends tells each line, once it has loaded, that 30
+ *     seconds have passed, and sends what that gives: no transfer and no sending then goes on with bytes
+ *     missing, and the messages that wait stay. A sending ends so with our EOT, but one that paused asks once
+ *     more. Our ENQ, our EOT and frames let nobody forget anything: with these 30 seconds nothing has to be
+ *     saved before they are sent. What may have been sent before is not sent again by itself: a second reply
+ *     to one frame would be taken for the reply to the next.
  *
  * Link with libngachodui.a, which is for x86-64 Linux. An object that was compiled for another layout
  * of state and memories, or for other arguments, does not link with it: see NGACHODUI_VERSION. */
@@ -57,14 +83,14 @@ extern "C" {
  * another version, and what a host saved under one version is no state of another: save the number in
  * front of it. It stands here alone, for C: the library's ngachodui_fresh has it in its name, so that
  * an object of another version does not find it. */
-#define NGACHODUI_VERSION 1
+#define NGACHODUI_VERSION 2
 
 #define NGACHODUI_JOINED(name, version) name##_##version
 #define NGACHODUI_NAMED(name, version) NGACHODUI_JOINED(name, version)
 #define ngachodui_fresh NGACHODUI_NAMED(ngachodui_fresh, NGACHODUI_VERSION)
 
 /* These two took no delimiters once, under their names without a number: an object that still calls them
- * so does not link. What a host saves is as it was, and the version too. */
+ * so does not link. Their number is their own, and not that of the layout. */
 #define ngachodui_escape ngachodui_escape_2
 #define ngachodui_unescape ngachodui_unescape_2
 
@@ -72,13 +98,13 @@ extern "C" {
 
 enum {
     NGACHODUI_LINES = 8,                         /* the lines are numbered 0 to 7 */
-    NGACHODUI_NUMBERS = 8 * NGACHODUI_LINES,     /* the numbers of all lines, of 16 bits */
+    NGACHODUI_NUMBERS = 16 * NGACHODUI_LINES,    /* the numbers of all lines, of 16 bits */
     NGACHODUI_COUNTS = NGACHODUI_LINES + 1,      /* the counts: one for each line, one of them all */
     NGACHODUI_DELIMITERS = 4,                    /* the delimiters of a message */
 
     /* What is never exceeded: memory for so many is never too short. */
     NGACHODUI_TEXT_LIMIT = 4000,                 /* bytes of a message, for a taking */
-    NGACHODUI_FRAME_LIMIT = 247,                 /* bytes of a frame, from STX to LF */
+    NGACHODUI_FRAME_LIMIT = 247,                 /* bytes of a frame, from STX to LF, for one that is fetched */
     NGACHODUI_FRAME_PART = NGACHODUI_FRAME_LIMIT - 1,   /* without STX, as a line keeps it */
     NGACHODUI_RECORDS_LIMIT = 999,               /* records of a message, for reading */
     NGACHODUI_CUT_LIMIT = 10993,                 /* bytes of a message's frames: 4,000 in 999 frames */
@@ -97,9 +123,10 @@ enum {
 
 /* ---- Answers ---- */
 
-/* What an event or a taking is answered, by number: 22 is rule A22 of docs/RULES.md. With 1 to 4 the
- * byte to send back is ACK (06), with 20 to 31 and with a fault it is NAK (15), and with the others there
- * is none. Faults are those of enum ngachodui_fault but for 54, which comes on no line. */
+/* What an event, a start or a taking is answered, by number: 22 is rule A22 of docs/RULES.md. With 1 to 4
+ * the byte to send back is ACK (06); with 20 to 31, and with a fault that answers an event, it is NAK (15);
+ * with 9 there is a frame to send (02), our EOT (04), our ENQ (05), or nothing (0); and with the others
+ * nothing. Faults are those of enum ngachodui_fault; 54 answers no event, and a start may get it. */
 enum ngachodui_number {
     NGACHODUI_NOTHING = 0,          /* the byte was ignored or collected, or the seconds were counted */
     NGACHODUI_OPENED = 1,           /* ENQ: a transfer is open */
@@ -110,6 +137,7 @@ enum ngachodui_number {
     NGACHODUI_DROPPED = 6,          /* EOT: the transfer is over, and unfinished text was dropped */
     NGACHODUI_TIMED_OUT = 7,        /* 30 seconds without a judged frame: the transfer is over */
     NGACHODUI_TAKEN = 8,            /* a message is in the buffer, with its length and serial */
+    NGACHODUI_SENDING = 9,          /* the start or an event of a sending; `reply` says what is to be sent */
 
     NGACHODUI_BUSY = 20,            /* ENQ while a transfer is open */
     NGACHODUI_UNENDED = 21,         /* a frame of 246 bytes, and the last is no LF */
@@ -131,13 +159,28 @@ enum ngachodui_number {
     NGACHODUI_BEYOND_LIMITS = 42,   /* the line's record holds what no record can */
     NGACHODUI_BROKEN = 43,          /* the journal's bytes and counts do not agree */
     NGACHODUI_NOTHING_WAITING = 44, /* the line has no message to take */
-    NGACHODUI_BUFFER_SHORT = 45     /* the buffer is shorter than the message */
+    NGACHODUI_BUFFER_SHORT = 45,    /* the buffer is shorter than the message */
+    NGACHODUI_NOT_NEUTRAL = 60,     /* a start on a line that receives or sends */
+
+    /* No refusal: the line is neutral now. */
+    NGACHODUI_GIVEN_UP = 61         /* a sending is over and nothing is sent: our ENQ was answered by ENQ, or
+                                     * refused for the sixth time */
 };
 
-/* What a text function answers, by the numbers of the same table. */
+/* What `reply` may be, by name. */
+enum ngachodui_control {
+    NGACHODUI_STX = 0x02,           /* a frame is to be sent: fetch all of it with ngachodui_outgoing */
+    NGACHODUI_EOT = 0x04,           /* our EOT: the end of a sending */
+    NGACHODUI_ENQ = 0x05,           /* our ENQ: asks whether one may begin */
+    NGACHODUI_ACK = 0x06,
+    NGACHODUI_NAK = 0x15
+};
+
+/* What a text function answers, by the numbers of the same table; a start gets 46 too, and a frame that is
+ * fetched 40, 41, 42 and 47. */
 enum ngachodui_outcome {
     NGACHODUI_DONE = 0,             /* the output is written */
-    NGACHODUI_MALFORMED = 46,       /* to cut or read: over 4,000 bytes, or one that is not allowed;
+    NGACHODUI_MALFORMED = 46,       /* to cut, read or send: over 4,000 bytes, or one that is not allowed;
                                      * to unescape: a wrong escape */
     NGACHODUI_NOT_FITTING = 47      /* the output is longer than its memory */
 };
@@ -145,8 +188,8 @@ enum ngachodui_outcome {
 /* Why a text is no message: what is wrong with a record, answered with the place of that record, counted
  * from 1. A text is walked up to its first wrong record; of the first, 50 goes before 55 and 55 before 52,
  * and of those behind it 51 before 52 and 52 before 53. An event gets these but for 54 where it completes
- * the text, cutting and reading get all. Escaping and unescaping are given the delimiters, and so 55 has
- * no place there. */
+ * the text; cutting, reading and a start get all, and then nothing has changed and nothing is to be sent.
+ * Escaping and unescaping are given the delimiters, and so 55 has no place there. */
 enum ngachodui_fault {
     NGACHODUI_NO_HEADER = 50,       /* no H begins the first record, or it is too short to name four
                                      * delimiters behind it; or the text is empty */
@@ -159,19 +202,20 @@ enum ngachodui_fault {
                                      * 7E, or is a digit or a letter */
 };
 
-/* The answer to an event or a taking. */
+/* The answer to an event, a start or a taking. */
 typedef struct ngachodui_answered {
-    uint8_t number;    /* enum ngachodui_number, or enum ngachodui_fault */
-    uint8_t reply;     /* the byte to send to the analyzer: 0x06, 0x15, or 0 for none */
+    uint8_t number;    /* enum ngachodui_number, enum ngachodui_fault, or to a start 46 */
+    uint8_t reply;     /* the first byte to send to the analyzer, enum ngachodui_control, or 0 for nothing. 02
+                        * is the first of a frame, which is fetched and sent whole; the others are sent alone */
     uint16_t serial;   /* with answer 8 the message's serial, else 0 */
     uint16_t place;    /* with a fault the wrong record's place, from 1; else 0 */
     uint16_t digits;   /* 0 in this version */
     size_t length;     /* with answer 8 the message's length, else 0 */
 } ngachodui_answered;
 
-/* The answer of a text function. */
+/* The answer of a text function, and of ngachodui_outgoing. */
 typedef struct ngachodui_made {
-    uint8_t number;    /* enum ngachodui_outcome, or enum ngachodui_fault */
+    uint8_t number;    /* enum ngachodui_outcome, or enum ngachodui_fault; of ngachodui_outgoing 40 to 42 too */
     uint8_t spare;     /* 0 in this version */
     uint16_t place;    /* of a text that is cut or read and has a fault, the wrong record's place, from 1; else 0 */
     uint32_t value;    /* 0 in this version */
@@ -183,7 +227,10 @@ typedef struct ngachodui_made {
 enum ngachodui_line_state {
     NGACHODUI_NEUTRAL = 0,   /* no transfer */
     NGACHODUI_WAITING = 1,   /* a transfer is open, between frames */
-    NGACHODUI_INSIDE = 2     /* inside a frame */
+    NGACHODUI_INSIDE = 2,    /* inside a frame */
+    NGACHODUI_ASKING = 3,    /* in a sending: our ENQ awaits its reply */
+    NGACHODUI_PAUSING = 4,   /* in a sending: the 10 seconds behind a refusal of our ENQ */
+    NGACHODUI_OFFERING = 5   /* in a sending: a frame awaits its reply */
 };
 
 /* One line. A host may read it at any time, and may save state and memories and load them again. A
@@ -192,12 +239,16 @@ enum ngachodui_line_state {
 typedef struct ngachodui_line {
     uint16_t state;       /* enum ngachodui_line_state */
     uint16_t collected;   /* bytes of the frame so far, up to 245 */
-    uint16_t joined;      /* bytes of unfinished text, up to 4,000 */
-    uint16_t seconds;     /* since the transfer opened or a frame was judged, up to 29 */
-    uint16_t next;        /* the number of the next frame, up to 7 */
+    uint16_t joined;      /* bytes of unfinished text, or of the text that is being sent, up to 4,000 */
+    uint16_t seconds;     /* since the transfer opened or a frame was judged, or of the wait so far, up to 29 */
+    uint16_t next;        /* the number of the next frame, or of the frame that is offered, up to 7 */
     uint16_t last;        /* one more than the number of the last accepted frame, up to 8; 0 for none */
     uint16_t refusing;    /* 1: a message of this transfer was refused; else 0 */
     uint16_t serial;      /* of the line's next message; after 65,535 comes 0 */
+    uint16_t tries;       /* asking, pausing: how often our ENQ was refused, up to 5; offering: how often the
+                           * frame was sent, up to 6; else 0 */
+    uint16_t place;       /* offering: where the frame's text starts in the text, up to 4,000; else 0 */
+    uint16_t spare[6];    /* 0 when fresh; in this version no call looks at them or changes them */
 } ngachodui_line;
 
 /* The numbers: those of all lines. */
@@ -218,7 +269,7 @@ typedef struct ngachodui_state {
     ngachodui_counts counts;
 } ngachodui_state;
 
-/* A gateway with them: all that a host keeps of it. With 66,900 bytes it is large for a stack: make it
+/* A gateway with them: all that a host keeps of it. With 67,028 bytes it is large for a stack: make it
  * static. */
 typedef struct ngachodui_gateway {
     uint8_t journal[NGACHODUI_JOURNAL_SIZE];
@@ -262,12 +313,22 @@ void ngachodui_fresh(ngachodui_numbers *numbers, ngachodui_counts *counts);
 
 /* A byte has come in on a line.
  *
- * Answers 0 to 6, 20 to 31, 40 to 43, 50 to 53 and 55, tested in this order: 40, 41, 42, then the
- * byte's work. `reply` goes back to the analyzer, once what the call has left is saved.
+ * Answers 0 to 6, 9, 20 to 31, 40 to 43, 50 to 53, 55 and 61, tested in this order: 40, 41, 42, then the
+ * byte's work. What `reply` says goes to the analyzer, 06 once what the call has left is saved.
+ *
+ * On a line that sends, the byte is the analyzer's reply:
+ *   asking    06 sends the first frame; 05 gives the sending up (61); any other byte, 04 too, refuses our
+ *             ENQ: nothing is sent and the line pauses, and the sixth refusal gives the sending up (61)
+ *   pausing   it is ignored (0), the analyzer's own ENQ too
+ *   offering  06 and 04 send the next frame, or behind the last one our EOT; any other byte, 05 too, sends the
+ *             same frame again, and behind its sixth send our EOT
+ * All of these but 0 and 61 are answered 9.
  *
  * Changes, by the answer:
  *   0        at most this line's record, and its frame's next byte
- *   1, 5, 6  this line's record: its counts 0, next number 1, no last number, not refusing
+ *   1, 5, 6, 61   this line's record: its counts 0, next number 1, no last number, not refusing
+ *   9        this line's record: with our EOT as after 5; else its state, tries, place and next number, and
+ *            its second count, which is 0
  *   2        the record; the frame's last byte; the text behind the line's unfinished text
  *   4        as 2, and the entry at the journal's end, the line's used count, the bytes in use, the
  *            line's serial; the line has no unfinished text any more
@@ -285,15 +346,43 @@ ngachodui_answered ngachodui_byte(uint8_t line, uint8_t byte,
 
 /* So many seconds, 0 to 255, have passed on a line since the last call that said so.
  *
- * Answers 0, 7, and 40, 41, 42 in this order. 0 changes the line's second count, and nothing on a
- * neutral line; 7 makes the line neutral, as after 5; the others change nothing. The lines have no
- * clock in common: tell each one, as often as is convenient, at least every few seconds while its
- * transfer is open. [E8, E9, E10] */
+ * Answers 0, 7, 9, and 40, 41, 42 in this order. 0 changes the line's second count, and nothing on a
+ * neutral line; 7 makes the line neutral, as after 5; 40 to 42 change nothing. On a line that sends the
+ * answer is 9: at 15 seconds without a reply our EOT is sent and the line is neutral; at 10 seconds of a
+ * pause our ENQ is sent again; before that nothing is sent, and the second count grows. What is over 15 or
+ * 10 is not carried on. The lines have no clock in common: tell each one, as often as is convenient, at
+ * least every few seconds while its transfer is open or while it sends. [E8, E9, E10] */
 ngachodui_answered ngachodui_seconds(uint8_t line, uint8_t seconds,
                                      ngachodui_numbers *numbers, ngachodui_counts *counts,
                                      uint8_t *journal, size_t journal_length,
                                      uint8_t *unfinished, size_t unfinished_length,
                                      uint8_t *frames, size_t frames_length);
+
+/* Starts to send a message on a line: our ENQ is to be sent now (`reply` 05), and all that follows comes with
+ * the answers to the analyzer's replies and to the seconds that pass.
+ *
+ * Answers 9, and tested in this order 40, 41 (of all three memories), 42, 60, and then the text as
+ * ngachodui_cut tests it: 46, 50 to 55 with `place`. With 9 the text is copied over the start of the line's
+ * unfinished text, the host's own copy is not needed for the sending, and the line asks: its counts are 0
+ * but for `joined`, which is the text's length, next number 1, no last number, not refusing. The others change
+ * nothing, and `reply` is 0: nothing goes to the analyzer, with a fault neither. The journal and the frames
+ * are lent for their lengths alone. */
+ngachodui_answered ngachodui_send(uint8_t line, const uint8_t *text, size_t text_length,
+                                  ngachodui_numbers *numbers,
+                                  const uint8_t *journal, size_t journal_length,
+                                  uint8_t *unfinished, size_t unfinished_length,
+                                  const uint8_t *frames, size_t frames_length);
+
+/* The frame that a line offers, written over the start of the output: to be called, and all of it sent, each
+ * time that `reply` is 02. It is the one that ngachodui_cut would make there.
+ *
+ * Answers 0 with the frame's length, or with length 0 where the line offers no frame, which is never so where
+ * `reply` was 02; and 40, 41 (of the unfinished text), 42, 47 in this order. It changes nothing but the
+ * output's first `length` bytes: called again before the line's next event, it gives the same frame. An
+ * output of NGACHODUI_FRAME_LIMIT bytes is never too short. */
+ngachodui_made ngachodui_outgoing(uint8_t line, const ngachodui_numbers *numbers,
+                                  const uint8_t *unfinished, size_t unfinished_length,
+                                  uint8_t *out, size_t out_length);
 
 /* Takes a line's oldest message: its text goes to the start of the buffer, and it leaves the journal.
  *
@@ -345,6 +434,24 @@ static inline ngachodui_answered ngachodui_on_seconds(ngachodui_gateway *gateway
                              gateway->frames, sizeof gateway->frames);
 }
 
+/* As ngachodui_send. */
+static inline ngachodui_answered ngachodui_on_send(ngachodui_gateway *gateway, uint8_t line,
+                                                   const uint8_t *text, size_t text_length)
+{
+    return ngachodui_send(line, text, text_length, &gateway->state.numbers,
+                          gateway->journal, sizeof gateway->journal,
+                          gateway->unfinished, sizeof gateway->unfinished,
+                          gateway->frames, sizeof gateway->frames);
+}
+
+/* As ngachodui_outgoing. */
+static inline ngachodui_made ngachodui_on_outgoing(const ngachodui_gateway *gateway, uint8_t line,
+                                                   uint8_t *out, size_t out_length)
+{
+    return ngachodui_outgoing(line, &gateway->state.numbers,
+                              gateway->unfinished, sizeof gateway->unfinished, out, out_length);
+}
+
 /* As ngachodui_take. */
 static inline ngachodui_answered ngachodui_on_take(ngachodui_gateway *gateway, uint8_t line,
                                                    uint8_t *buffer, size_t buffer_length)
@@ -371,9 +478,9 @@ static inline ngachodui_answered ngachodui_on_take(ngachodui_gateway *gateway, u
 bool ngachodui_is_message(const uint8_t *text, size_t text_length);
 
 /* Cuts a message into the frames that send it: for each record pieces of 240 bytes, the last with
- * ETX, those before it with ETB, numbered from 1. To send it: ENQ, then these bytes, then EOT, with
- * an ACK from the other side after ENQ and after each frame. 46, 50 to 55: the text is no message. The
- * length is the text's and 7 for each frame: at most NGACHODUI_CUT_LIMIT. [C2, C3, C4, C6] */
+ * ETX, those before it with ETB, numbered from 1. A sending (ngachodui_send) sends these bytes, one frame
+ * after the other, between ENQ and EOT; this is for who wants to see them all. 46, 50 to 55: the text is no
+ * message. The length is the text's and 7 for each frame: at most NGACHODUI_CUT_LIMIT. [C2, C3, C4, C6] */
 ngachodui_made ngachodui_cut(const uint8_t *text, size_t text_length, uint8_t *out, size_t out_length);
 
 /* Reads a message: each record's type letter, where it starts in the text, its length without CR, and

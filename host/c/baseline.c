@@ -432,10 +432,11 @@ static bool has_room(const struct plain_ledger *ledger, unsigned line, uint32_t 
     return sum <= PLAIN_JOURNAL_SIZE;
 }
 
-static void store(struct plain_ledger *ledger, uint8_t *journal, unsigned line, const uint8_t *text, uint32_t n)
+static void store(struct plain_gateway *gateway, uint8_t *journal, unsigned line, const uint8_t *text, uint32_t n)
 {
+    struct plain_ledger *ledger = &gateway->ledger;
     uint8_t *entry = journal + ledger->in_use;
-    uint16_t serial = ledger->serials[line]++;
+    uint16_t serial = gateway->lines[line].serial++;
     entry[0] = (uint8_t)(line << 5 | n >> 8);
     entry[1] = (uint8_t)n;
     entry[2] = (uint8_t)(serial >> 8);
@@ -481,20 +482,32 @@ struct plain_answer plain_take(struct plain_gateway *gateway, uint8_t *journal, 
 
 /* ---- Lines ---- */
 
-static const struct plain_line at_rest = { .state = PLAIN_NEUTRAL, .next = 1, .last = PLAIN_NO_LAST };
-
 struct plain_gateway plain_fresh(void)
 {
     struct plain_gateway gateway = { 0 };
     for (int i = 0; i < PLAIN_LINES; i++)
-        gateway.lines[i] = at_rest;
+        gateway.lines[i].next = 1;
     return gateway;
 }
 
+/* A transfer opened or over. Tries and place are 0 already, and the serial and the spare numbers stay. */
+static void reset(struct plain_line *line, enum plain_state state)
+{
+    line->state = (uint16_t)state;
+    line->collected = 0;
+    line->joined = 0;
+    line->seconds = 0;
+    line->next = 1;
+    line->last = 0;
+    line->refusing = 0;
+}
+
+/* A line that sends is not within them: this gateway could not go on with it. */
 static bool within_limits(const struct plain_line *line)
 {
     return line->collected < PLAIN_FRAME && line->joined <= PLAIN_TEXT && line->seconds < PLAIN_SECONDS_LIMIT
-        && line->next <= 7 && (line->last <= 7 || line->last == PLAIN_NO_LAST) && line->state <= PLAIN_INSIDE;
+        && line->next <= 7 && line->last <= 8 && line->refusing <= 1 && line->state <= PLAIN_INSIDE
+        && (line->tries | line->place) == 0;
 }
 
 static bool right_sizes(const struct plain_memory *memory)
@@ -503,15 +516,18 @@ static bool right_sizes(const struct plain_memory *memory)
         && memory->frames_length == PLAIN_FRAMES_SIZE;
 }
 
+/* Kept out of plain_event, as are two more below: a collected byte, by far the most frequent event, shall
+ * not pay for the registers and the stack that others need. */
+__attribute__((noinline))
 static enum plain_number pass_seconds(struct plain_line *line, unsigned seconds)
 {
     if (line->state == PLAIN_NEUTRAL)
         return PLAIN_NOTHING;
     if (line->seconds + seconds >= PLAIN_SECONDS_LIMIT) {
-        *line = at_rest;
+        reset(line, PLAIN_NEUTRAL);
         return PLAIN_TIMED_OUT;
     }
-    line->seconds = (uint8_t)(line->seconds + seconds);
+    line->seconds = (uint16_t)(line->seconds + seconds);
     return PLAIN_NOTHING;
 }
 
@@ -549,9 +565,10 @@ static bool ends_with_l_record(const uint8_t *text, size_t n)
 }
 
 /* Answers 4, 30, 31, 43, 50 to 53 and 55: a complete text. A fault sets *place. */
-static enum plain_number decide(struct plain_ledger *ledger, uint8_t *journal, unsigned line, const uint8_t *text,
+static enum plain_number decide(struct plain_gateway *gateway, uint8_t *journal, unsigned line, const uint8_t *text,
                                 unsigned n, uint16_t *place)
 {
+    const struct plain_ledger *ledger = &gateway->ledger;
     struct plain_outcome checked = plain_check(text, n);
     if (checked.number == PLAIN_TEXT_MALFORMED)
         return PLAIN_NOT_A_MESSAGE;
@@ -564,7 +581,7 @@ static enum plain_number decide(struct plain_ledger *ledger, uint8_t *journal, u
         return PLAIN_JOURNAL_BROKEN;
     if (!has_room(ledger, line, PLAIN_HEADER + n))
         return PLAIN_NO_ROOM;
-    store(ledger, journal, line, text, n);
+    store(gateway, journal, line, text, n);
     return PLAIN_STORED;
 }
 
@@ -585,7 +602,7 @@ static enum plain_number join(struct plain_gateway *gateway, const struct plain_
         return PLAIN_ACCEPTED;
     }
 
-    enum plain_number answer = decide(&gateway->ledger, memory->journal, number, unfinished, joined, place);
+    enum plain_number answer = decide(gateway, memory->journal, number, unfinished, joined, place);
     if (answer == PLAIN_JOURNAL_BROKEN) {
         memcpy(behind, overwritten, n); /* 43 changes nothing at all */
         return answer;
@@ -609,7 +626,7 @@ static enum plain_number judge(struct plain_gateway *gateway, const struct plain
     unsigned frame_number = frame[0] - '0';
     if (line->refusing)
         return PLAIN_REFUSING;
-    if (frame_number == line->last)
+    if (frame_number + 1 == line->last)
         return PLAIN_REPEATED;
     if (frame_number != line->next)
         return PLAIN_NUMBER_OUT_OF_TURN;
@@ -627,14 +644,13 @@ static enum plain_number judge(struct plain_gateway *gateway, const struct plain
     }
     enum plain_number answer = join(gateway, memory, number, text, n, etx, place);
     if (answer == PLAIN_ACCEPTED || answer == PLAIN_STORED) {
-        line->last = (uint8_t)frame_number;
+        line->last = (uint16_t)(frame_number + 1);
         line->next = (line->next + 1) & 7;
     }
     return answer;
 }
 
-/* The last byte of a frame. Kept out of plain_event: a collected byte, by far the most frequent
- * event, shall not pay for the registers and the stack that judging needs. */
+/* The last byte of a frame. */
 __attribute__((noinline))
 static struct plain_answer end_frame(struct plain_gateway *gateway, const struct plain_memory *memory, unsigned number,
                                      uint8_t last_byte)
@@ -650,6 +666,32 @@ static struct plain_answer end_frame(struct plain_gateway *gateway, const struct
         line->state = PLAIN_WAITING;
     }
     return (struct plain_answer){ .number = (uint16_t)answer, .place = place };
+}
+
+/* A byte on a line that is not inside a frame. */
+__attribute__((noinline))
+static enum plain_number between_frames(struct plain_line *record, uint8_t value)
+{
+    if (record->state == PLAIN_NEUTRAL) {
+        if (value != ENQ)
+            return PLAIN_NOTHING;
+        reset(record, PLAIN_WAITING);
+        return PLAIN_OPENED;
+    }
+    switch (value) {
+    case STX:
+        record->state = PLAIN_INSIDE;
+        return PLAIN_NOTHING;
+    case EOT: {
+        enum plain_number answer = record->joined > 0 ? PLAIN_ENDED_UNFINISHED : PLAIN_ENDED;
+        reset(record, PLAIN_NEUTRAL);
+        return answer;
+    }
+    case ENQ:
+        return PLAIN_BUSY;
+    default:
+        return PLAIN_NOTHING;
+    }
 }
 
 struct plain_answer plain_event(struct plain_gateway *gateway, const struct plain_memory *memory,
@@ -671,27 +713,7 @@ struct plain_answer plain_event(struct plain_gateway *gateway, const struct plai
         memory->frames[line * PLAIN_FRAME + record->collected++] = value;
         return just(PLAIN_NOTHING);
     }
-    if (record->state == PLAIN_NEUTRAL) {
-        if (value != ENQ)
-            return just(PLAIN_NOTHING);
-        *record = at_rest;
-        record->state = PLAIN_WAITING;
-        return just(PLAIN_OPENED);
-    }
-    switch (value) {
-    case STX:
-        record->state = PLAIN_INSIDE;
-        return just(PLAIN_NOTHING);
-    case EOT: {
-        enum plain_number answer = record->joined > 0 ? PLAIN_ENDED_UNFINISHED : PLAIN_ENDED;
-        *record = at_rest;
-        return just(answer);
-    }
-    case ENQ:
-        return just(PLAIN_BUSY);
-    default:
-        return just(PLAIN_NOTHING);
-    }
+    return just(between_frames(record, value));
 }
 
 int plain_reply(unsigned number)

@@ -1,6 +1,10 @@
 /* The gateway in plain C: no proofs, written from the requirements. It is the
  * yardstick for the proved gateway: a second reading of the rules, and a measure of speed.
  *
+ * It is a receiver: it does not send messages. Its lines have the numbers that the library's have, and
+ * every event tests all of them that the library tests; but a line that sends is none here, and so
+ * its state is answered 42.
+ *
  * Nothing is allocated and nothing is kept between calls but what the caller lends. Every call
  * is answered with its number. A refusal of 40 to 47 changes nothing, nor does one of a text
  * function. */
@@ -25,7 +29,6 @@ enum {
     PLAIN_UNFINISHED_SIZE = PLAIN_LINES * PLAIN_TEXT,
     PLAIN_FRAMES_SIZE = PLAIN_LINES * PLAIN_FRAME,
 
-    PLAIN_NO_LAST = 255,  /* a line's last number before its first accepted frame */
     PLAIN_NO_REPLY = -1
 };
 
@@ -68,23 +71,27 @@ enum plain_number {
     PLAIN_BAD_DELIMITERS = 55     /* also of the four to escape or to unescape with, without a place */
 };
 
-enum plain_state { PLAIN_NEUTRAL, PLAIN_WAITING, PLAIN_INSIDE };
+enum plain_state { PLAIN_NEUTRAL, PLAIN_WAITING, PLAIN_INSIDE }; /* the states from 3 on send */
 enum plain_kind { PLAIN_BYTE, PLAIN_SECONDS };
 
+/* Sixteen numbers, as the library has them. */
 struct plain_line {
+    uint16_t state;       /* enum plain_state */
     uint16_t collected;   /* bytes of the open frame */
     uint16_t joined;      /* bytes of unfinished text */
-    uint8_t seconds;
-    uint8_t state;        /* enum plain_state */
-    uint8_t next;         /* frame number that is due */
-    uint8_t last;         /* last accepted frame number, or PLAIN_NO_LAST */
-    uint8_t refusing;     /* not 0: a message of this transfer was decided against */
+    uint16_t seconds;
+    uint16_t next;        /* frame number that is due */
+    uint16_t last;        /* one more than the last accepted frame number, or 0 */
+    uint16_t refusing;    /* 1: a message of this transfer was decided against; else 0 */
+    uint16_t serial;      /* of the line's next entry */
+    uint16_t tries;       /* of a sending; 0 here */
+    uint16_t place;       /* of a sending; 0 here */
+    uint16_t spare[6];    /* not looked at */
 };
 
 struct plain_ledger {
     uint32_t in_use;                /* journal bytes that hold entries */
     uint32_t used[PLAIN_LINES];     /* those of each line, headers counted */
-    uint16_t serials[PLAIN_LINES];  /* serial of each line's next entry */
 };
 
 struct plain_gateway {

@@ -38,6 +38,8 @@ static void stop(const char *why)
 
 /* ---- The two gateways ---- */
 
+_Static_assert(sizeof(ngachodui_numbers) == sizeof((struct plain_gateway){ 0 }.lines), "the lines' numbers lie alike");
+
 /* Each has its own records; the memories, which lie alike on both sides, are the library's. */
 static ngachodui_gateway library;
 static struct plain_gateway plain;
@@ -394,7 +396,7 @@ static void fill_journal(unsigned entries)
         library.state.counts.used[line] += (uint32_t)size;
         library.state.numbers.lines[line].serial++;
         plain.ledger.used[line] += (uint32_t)size;
-        plain.ledger.serials[line]++;
+        plain.lines[line].serial++;
     }
     library.state.counts.in_use = plain.ledger.in_use = (uint32_t)at;
     memcpy(saved_journal, library.journal, sizeof saved_journal);
@@ -661,7 +663,9 @@ int main(int argc, char **argv)
         run(side, o, 1);
     }
 
-    /* The counts and the memories, which lie alike on both sides. */
+    /* The lines' numbers, the counts and the memories, which lie alike on both sides. */
+    const void *numbers = side == LIBRARY ? (const void *)&library.state.numbers : (const void *)plain.lines;
+    note_bytes(numbers, sizeof library.state.numbers);
     for (unsigned line = 0; line < LINES; line++)
         note(side == LIBRARY ? library.state.counts.used[line] : plain.ledger.used[line]);
     note(side == LIBRARY ? library.state.counts.in_use : plain.ledger.in_use);

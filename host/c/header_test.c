@@ -242,12 +242,248 @@ static void test_faults(void)
     check_refused("H!~$%\rL!1\r", NGACHODUI_NOT_FITTING, 0);
 }
 
+/* ---- Sendings ---- */
+
+static uint8_t out_frame[NGACHODUI_FRAME_LIMIT + 1];
+
+static ngachodui_made fetch_from(uint8_t line, size_t out_length)
+{
+    memset(out_frame, 0xaa, sizeof out_frame);
+    return ngachodui_on_outgoing(&gateway, line, out_frame, out_length);
+}
+
+/* An answer of a sending: 9, and what is to be sent, which is one byte, or a frame, or with length 0 nothing. */
+static void check_sends(ngachodui_answered a, const char *bytes, size_t length, const char *what)
+{
+    check_number(a.number, NGACHODUI_SENDING, what);
+    check_number(a.reply, length == 0 ? 0 : (uint8_t)bytes[0], what);
+    check_number(a.place, 0, what);
+    if (length > 1) {
+        const ngachodui_made m = fetch_from(2, NGACHODUI_FRAME_LIMIT);
+        check_number(m.number, NGACHODUI_DONE, what);
+        check_number((unsigned)m.length, (unsigned)length, what);
+        check(memcmp(out_frame, bytes, length) == 0, what);
+        check_number(out_frame[length], 0xaa, "the output behind a frame");
+    }
+}
+
+#define SENDS(answer, s, what) check_sends(answer, s, sizeof(s) - 1, what)
+#define FIRST "\x02" "1H|\\^&\r" "\x03" "E5\r\n"
+#define SECOND "\x02" "2L|1|N\r" "\x03" "05\r\n"
+
+/* A fresh gateway whose line 2 has started to send the message. */
+static void start_sending(void)
+{
+    start();
+    SENDS(ngachodui_on_send(&gateway, 2, MESSAGE), "\x05", "a start");
+    check_number(lines[2].state, NGACHODUI_ASKING, "the state after a start");
+    check_number(lines[2].joined, 12, "the length of what is sent");
+    check(memcmp(gateway.unfinished + 2 * NGACHODUI_TEXT_LIMIT, MESSAGE) == 0, "the text is copied");
+}
+
+static void check_neutral(const char *what)
+{
+    static const ngachodui_line neutral = {NGACHODUI_NEUTRAL, 0, 0, 0, 1, 0, 0, 0, 0, 0, {0, 0, 0, 0, 0, 0}};
+    check(memcmp(&lines[2], &neutral, sizeof neutral) == 0, what);
+}
+
+/* Every reply is ACK; EOT does as well, but to our ENQ. */
+static void test_sent(void)
+{
+    start_sending();
+    SENDS(byte_on(2, 0x06), FIRST, "ACK to our ENQ");
+    check_number(lines[2].state, NGACHODUI_OFFERING, "the state with a frame");
+    check_number(lines[2].tries, 1, "a frame sent once");
+    check_number(lines[2].place, 0, "where its text starts");
+    SENDS(byte_on(2, 0x06), SECOND, "ACK to the first frame");
+    check_number(lines[2].place, 6, "where the second frame's text starts");
+    check_number(lines[2].next, 2, "its number");
+    SENDS(byte_on(2, 0x06), "\x04", "ACK to the last frame");
+    check_neutral("the line after our EOT");
+    check_number(byte_on(2, 0x06).number, NGACHODUI_NOTHING, "ACK on a neutral line");
+    check_number(counts->in_use, 0, "the journal is not touched");
+
+    start_sending();
+    SENDS(byte_on(2, 0x04), "", "EOT to our ENQ refuses it");
+    SENDS(seconds_on(2, 10), "\x05", "10 seconds later");
+    SENDS(byte_on(2, 0x06), FIRST, "ACK to our second ENQ");
+    SENDS(byte_on(2, 0x04), SECOND, "EOT to a frame");
+    SENDS(byte_on(2, 0x04), "\x04", "EOT to the last frame");
+    check_neutral("the line after these");
+}
+
+static void test_refused_sending(void)
+{
+    start_sending();
+    for (unsigned refusals = 1; refusals < 6; refusals++) {
+        SENDS(byte_on(2, 0x15), "", "NAK to our ENQ");
+        check_number(lines[2].state, NGACHODUI_PAUSING, "the state after it");
+        check_number(lines[2].tries, refusals, "the refusals");
+        const ngachodui_answered a = byte_on(2, 0x05);
+        check_number(a.number, NGACHODUI_NOTHING, "the analyzer's ENQ in the pause");
+        check_number(a.reply, 0, "no reply to it");
+        SENDS(seconds_on(2, 9), "", "9 seconds of the pause");
+        SENDS(seconds_on(2, 255), "\x05", "all of it");
+        check_number(lines[2].seconds, 0, "no second is carried on");
+    }
+    ngachodui_answered a = byte_on(2, 0x15);
+    check_number(a.number, NGACHODUI_GIVEN_UP, "the sixth NAK to our ENQ");
+    check_number(a.reply, 0, "nothing to send with 61");
+    check_neutral("the line after 61");
+
+    start_sending();
+    a = byte_on(2, 0x05);
+    check_number(a.number, NGACHODUI_GIVEN_UP, "ENQ to our ENQ");
+    check_number(a.reply, 0, "no reply to that ENQ");
+    check_neutral("the line after that");
+    check_number(byte_on(2, 0x05).number, NGACHODUI_OPENED, "ENQ once more");
+
+    start_sending();
+    byte_on(2, 0x06);
+    for (unsigned sends = 2; sends <= 6; sends++) {
+        SENDS(byte_on(2, sends % 2 ? 0x05 : 0x11), FIRST, "a frame refused");
+        check_number(lines[2].tries, sends, "how often it was sent");
+    }
+    SENDS(byte_on(2, 0x15), "\x04", "the sixth refusal of a frame");
+    check_neutral("the line after six sends");
+}
+
+static void test_unanswered_sending(void)
+{
+    start_sending();
+    SENDS(seconds_on(2, 0), "", "0 seconds");
+    SENDS(seconds_on(2, 14), "", "14 seconds without a reply");
+    SENDS(seconds_on(2, 1), "\x04", "15 seconds without a reply to our ENQ");
+    check_neutral("the line after these");
+
+    start_sending();
+    byte_on(2, 0x06);
+    SENDS(seconds_on(2, 14), "", "14 seconds without a reply to a frame");
+    SENDS(seconds_on(2, 255), "\x04", "more without a reply to a frame");
+    check_neutral("the line after these");
+}
+
+/* A start that is refused changes nothing, and nothing goes to the analyzer. */
+static void check_no_start(uint8_t line, const char *text, unsigned number, unsigned place)
+{
+    static ngachodui_gateway before;
+    before = gateway;
+    const ngachodui_answered a = ngachodui_on_send(&gateway, line, (const uint8_t *)text, strlen(text));
+    check_number(a.number, number, text);
+    check_number(a.place, place, "the place with it");
+    check_number(a.reply, 0, "nothing to send with a start that is refused");
+    check(memcmp(&before, &gateway, sizeof before) == 0, "a start that is refused");
+}
+
+static void test_starts(void)
+{
+    static const char *const right = "H|\\^&\rL|1|N\r";
+    start();
+    check_no_start(8, right, NGACHODUI_NO_LINE, 0);
+    for (unsigned state = NGACHODUI_WAITING; state <= NGACHODUI_OFFERING; state++) {
+        lines[2].state = (uint16_t)state;
+        check_no_start(2, right, NGACHODUI_NOT_NEUTRAL, 0);
+        check_no_start(2, "", NGACHODUI_NOT_NEUTRAL, 0);
+    }
+    lines[2].state = NGACHODUI_OFFERING + 1;
+    check_no_start(2, right, NGACHODUI_BEYOND_LIMITS, 0);
+    lines[2].state = NGACHODUI_NEUTRAL;
+    lines[2].tries = 1;
+    check_no_start(2, right, NGACHODUI_BEYOND_LIMITS, 0);
+    lines[2].tries = 0;
+    lines[2].place = 1;
+    check_no_start(2, right, NGACHODUI_BEYOND_LIMITS, 0);
+    lines[2].place = 0;
+    check_no_start(2, "", NGACHODUI_NO_HEADER, 1);
+    check_no_start(2, "H|\\^&\rX|1\rL|1\r", NGACHODUI_UNKNOWN_TYPE, 2);
+    check_no_start(2, "H|\\^&\rP|1\r", NGACHODUI_MISPLACED, 2);
+    check_no_start(2, "H|\\^&\rP|1\rO|2\rL|1\r", NGACHODUI_MISNUMBERED, 3);
+    check_no_start(2, "H|\\^&\rL|1", NGACHODUI_NO_FINAL_CR, 2);
+    check_no_start(2, "H|\\||\rL|1\r", NGACHODUI_BAD_DELIMITERS, 1);
+    check_no_start(2, "H|\\^&\nL|1\r", NGACHODUI_MALFORMED, 0);
+
+    /* A neutral record with counts is set anew; its serial and its spare numbers stay, and the text's rest too. */
+    memset(gateway.unfinished, 0x55, sizeof gateway.unfinished);
+    const ngachodui_line odd = {NGACHODUI_NEUTRAL, 245, 4000, 29, 7, 8, 1, 65535, 0, 0, {1, 2, 3, 4, 5, 65535}};
+    const ngachodui_line asking = {NGACHODUI_ASKING, 0, 12, 0, 1, 0, 0, 65535, 0, 0, {1, 2, 3, 4, 5, 65535}};
+    lines[2] = odd;
+    SENDS(ngachodui_on_send(&gateway, 2, MESSAGE), "\x05", "a start on a neutral line with counts");
+    check(memcmp(&lines[2], &asking, sizeof asking) == 0, "the record after it");
+    check_number(gateway.unfinished[2 * NGACHODUI_TEXT_LIMIT + 12], 0x55, "the byte behind the text");
+    check_number(gateway.unfinished[2 * NGACHODUI_TEXT_LIMIT - 1], 0x55, "the byte before it");
+}
+
+/* What is lent to the two at another size. */
+static void test_sending_sizes(void)
+{
+    start_sending();
+    byte_on(2, 0x06);
+    const ngachodui_state before = gateway.state;
+    for (int memory = 0; memory < 3; memory++) {
+        const ngachodui_answered a = ngachodui_send(3, MESSAGE, numbers, gateway.journal, sizeof gateway.journal - (memory == 0),
+                                                    gateway.unfinished, sizeof gateway.unfinished - (memory == 1),
+                                                    gateway.frames, sizeof gateway.frames - (memory == 2));
+        check_number(a.number, NGACHODUI_WRONG_SIZE, "a start, and a memory one byte short");
+        check_number(a.reply, 0, "nothing to send with 41");
+    }
+    ngachodui_made m = ngachodui_outgoing(2, numbers, gateway.unfinished, sizeof gateway.unfinished - 1, out_frame, sizeof out_frame);
+    check_number(m.number, NGACHODUI_WRONG_SIZE, "a frame, and the unfinished text one byte short");
+    check(memcmp(&before, &gateway.state, sizeof before) == 0, "the state after 41");
+
+    m = fetch_from(2, 12);
+    check_number(m.number, NGACHODUI_NOT_FITTING, "12 bytes for a frame of 13");
+    check_number((unsigned)m.length, 0, "the length with 47");
+    check_number(out_frame[0], 0xaa, "the output after 47");
+    m = fetch_from(2, 13);
+    check_number(m.number, NGACHODUI_DONE, "13 bytes for a frame of 13");
+    check_number((unsigned)m.length, 13, "its length");
+    m = fetch_from(3, 0);
+    check_number(m.number, NGACHODUI_DONE, "a line that offers no frame");
+    check_number((unsigned)m.length, 0, "no length there");
+    check_number(fetch_from(8, 0).number, NGACHODUI_NO_LINE, "a frame of line 8");
+    check(memcmp(&before, &gateway.state, sizeof before) == 0, "fetching changes nothing");
+    lines[2].tries = 7;
+    check_number(fetch_from(2, sizeof out_frame).number, NGACHODUI_BEYOND_LIMITS, "a frame sent 7 times");
+    lines[2].tries = 6;
+    lines[2].place = 4001;
+    check_number(fetch_from(2, sizeof out_frame).number, NGACHODUI_BEYOND_LIMITS, "a frame at 4,001");
+    lines[2].tries = 1;
+    lines[2].place = 4000;
+    m = fetch_from(2, 0);
+    check_number(m.number, NGACHODUI_DONE, "a place behind the text");
+    check_number((unsigned)m.length, 0, "no frame there");
+    SENDS(byte_on(2, 0x15), "\x04", "a refusal with no frame there");
+}
+
+/* A gateway saved in the middle of a sending, and loaded: 30 seconds end it, and a pause with its ENQ. */
+static void test_saved_sending(void)
+{
+    start_sending();
+    byte_on(2, 0x06);
+    SENDS(seconds_on(2, 30), "\x04", "30 seconds after loading, with a frame sent");
+    check_neutral("the line then");
+    start_sending();
+    byte_on(2, 0x15);
+    SENDS(seconds_on(2, 30), "\x05", "30 seconds after loading, in a pause");
+    SENDS(seconds_on(2, 30), "\x04", "and no reply");
+    check_neutral("the line then");
+}
+
+static void test_sendings(void)
+{
+    test_sent();
+    test_refused_sending();
+    test_unanswered_sending();
+    test_starts();
+    test_sending_sizes();
+}
+
 /* A gateway saved when a message was stored, and loaded: the last frame again is a repeat, 30 seconds end the
  * transfer, and the message waits. */
 static void test_saved(void)
 {
     static ngachodui_gateway saved;
-    check_number(sizeof gateway, 66900, "the size of a gateway");
+    check_number(sizeof gateway, 67028, "the size of a gateway");
     start();
     check_number(byte_on(6, 0x05).number, NGACHODUI_OPENED, "ENQ on line 6");
     check_number(send(6, BYTES("\x02" "1H|\\^&\r" "L|1|N\r" "\x03" "B5\r\n"), "a frame").number, NGACHODUI_STORED, "the message to save");
@@ -283,6 +519,7 @@ static void test_sizes(void)
     start();
     const ngachodui_layout layout = ngachodui_sizes();
     check_number(layout.version, NGACHODUI_VERSION, "the version");
+    check_number(layout.version, 2, "the version of a line of 16 numbers");
     check_number(layout.numbers, sizeof gateway.state.numbers / (sizeof(uint16_t)), "the numbers of the lines");
     check_number(layout.counts, sizeof gateway.state.counts / (sizeof(uint32_t)), "the counts");
     check_number(layout.journal, sizeof gateway.journal, "the journal's size");
@@ -312,9 +549,9 @@ static void test_refusals(void)
     check_number(seconds_on(8, 1).number, NGACHODUI_NO_LINE, "seconds on line 8");
     check_number(take_from(255, 0).number, NGACHODUI_NO_LINE, "a taking from line 255");
 
-    lines[1].state = 3;
+    lines[1].state = 6;
     memcpy(lines_before, lines, sizeof lines_before);
-    check_number(byte_on(1, 0x05).number, NGACHODUI_BEYOND_LIMITS, "a state of 3");
+    check_number(byte_on(1, 0x05).number, NGACHODUI_BEYOND_LIMITS, "a state of 6");
     check(memcmp(lines_before, lines, sizeof lines_before) == 0, "the numbers after 42");
     check_number(byte_on(0, 0x05).number, NGACHODUI_OPENED, "another line beside it");
 
@@ -453,6 +690,7 @@ static void work(void)
     test_dialogue();
     test_cut_and_sent();
     test_faults();
+    test_sendings();
     test_delimiters();
     test_texts();
 }
@@ -484,7 +722,9 @@ int main(void)
     test_dialogue();
     test_cut_and_sent();
     test_faults();
+    test_sendings();
     test_saved();
+    test_saved_sending();
     test_seconds();
     test_sizes();
     test_refusals();

@@ -1,10 +1,30 @@
 //! Both sides after an operation: every answer, every number, every byte.
 
-use crate::boundary::Answered;
+use crate::boundary::{Answered, Made};
 use crate::layout::{FIELDS, IN_USE};
-use crate::library::{last_number, state_number, Library};
+use crate::library::Library;
 use ngachodui_model::world::{Op, World};
-use ngachodui_model::{reply, Answer, LINES};
+use ngachodui_model::{Answer, LINES};
+
+/// A line's numbers by name.
+const NAMES: [&str; FIELDS] = [
+    "state",
+    "collected",
+    "joined",
+    "seconds",
+    "next",
+    "last",
+    "refusing",
+    "serial",
+    "tries",
+    "place",
+    "spare 0",
+    "spare 1",
+    "spare 2",
+    "spare 3",
+    "spare 4",
+    "spare 5",
+];
 
 /// Both sides of something that differs, in words.
 pub fn differs<T: std::fmt::Debug>(what: &str, model: T, library: T) -> String {
@@ -32,7 +52,7 @@ pub fn answer_difference(model: Option<Answer>, library: Option<Answered>) -> Op
     // The same operation, so both have an answer or none.
     let expected = model.map(|answer| Answered {
         number: answer.number,
-        reply: reply(answer.number).unwrap_or(0),
+        reply: answer.reply.unwrap_or(0),
         serial: answer.serial,
         place: answer.place as u16,
         digits: 0,
@@ -44,31 +64,29 @@ pub fn answer_difference(model: Option<Answer>, library: Option<Answered>) -> Op
     Some(differs("answer", expected, library))
 }
 
+/// What differs in a frame that was fetched: its outcome, or a byte of the whole output.
+fn fetched_difference(world: &World, library: &Library) -> Option<String> {
+    let model = &world.fetched;
+    let expected = Made {
+        number: model.outcome.err().unwrap_or(0),
+        spare: 0,
+        place: 0,
+        value: 0,
+        length: model.outcome.unwrap_or(0),
+    };
+    let found = &library.fetched;
+    if expected != found.made {
+        return Some(differs("fetching", expected, found.made));
+    }
+    byte_difference("frame fetched", &model.out, found.out.inside())
+}
+
 /// What differs in the records, the ledger or the memories: everything is looked at.
-pub fn state_difference(world: &World, library: &Library, op: Op) -> Option<String> {
-    let names = [
-        "state",
-        "collected",
-        "joined",
-        "seconds",
-        "next",
-        "last",
-        "refusing",
-        "serial",
-    ];
-    for (line, record) in world.model.lines.iter().enumerate() {
-        let expected = [
-            u32::from(state_number(record.state)),
-            record.collected as u32,
-            record.joined as u32,
-            record.seconds as u32,
-            u32::from(record.next),
-            u32::from(last_number(record.last)),
-            u32::from(record.refusing),
-            u32::from(world.model.ledger.serials[line]),
-        ];
-        for (field, name) in names.iter().enumerate() {
-            let found = u32::from(library.book.numbers[FIELDS * line + field]);
+pub fn state_difference(world: &World, library: &Library, op: &Op) -> Option<String> {
+    for line in 0..LINES {
+        let expected = world.model.numbers(line);
+        for (field, name) in NAMES.iter().enumerate() {
+            let found = library.book.numbers[FIELDS * line + field];
             if expected[field] != found {
                 let what = format!("line {}, {}", line, name);
                 return Some(differs(&what, expected[field], found));
@@ -101,11 +119,13 @@ pub fn state_difference(world: &World, library: &Library, op: Op) -> Option<Stri
             return Some(difference);
         }
     }
-    if let Op::Take { .. } = op {
-        let found = library.buffer.inside();
-        if let Some(difference) = byte_difference("buffer", &world.buffer, found) {
-            return Some(difference);
-        }
+    let difference = match op {
+        Op::Take { .. } => byte_difference("buffer", &world.buffer, library.buffer.inside()),
+        Op::Outgoing { .. } => fetched_difference(world, library),
+        _ => None,
+    };
+    if difference.is_some() {
+        return difference;
     }
     if !library.fences_stand() {
         return Some("library: written beside what was lent".to_string());

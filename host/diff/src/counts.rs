@@ -1,6 +1,6 @@
 //! What was run, counted: a comparison says something only of what it has met.
 
-use crate::boundary::Answered;
+use crate::boundary::{Answered, Made};
 use ngachodui_model::lines::Kind;
 use ngachodui_model::world::Op;
 use std::collections::BTreeMap;
@@ -8,21 +8,23 @@ use std::collections::BTreeMap;
 #[derive(Default)]
 pub struct Counts {
     pub runs: u64,
-    /// Bytes, seconds and takings.
+    /// Bytes, seconds, starts and takings.
     pub events: u64,
     kinds: BTreeMap<&'static str, u64>,
     answers: BTreeMap<u8, u64>,
-    /// By the function's name and its outcome.
+    /// By the function's name and its outcome; of answers 9 by the byte that goes out first.
     texts: BTreeMap<(&'static str, u8), u64>,
 }
 
 impl Counts {
-    pub fn operation(&mut self, op: Op, answer: Option<Answered>) {
+    pub fn operation(&mut self, op: &Op, answer: Option<Answered>) {
         let kind = match op {
             Op::Event { kind, .. } => match kind {
                 Kind::Byte(_) => "bytes",
                 Kind::Seconds(_) => "seconds",
             },
+            Op::Start { .. } => "starts",
+            Op::Outgoing { .. } => "frames fetched",
             Op::Take { .. } => "takings",
             Op::Fresh => "fresh starts",
             Op::Poke { .. } => "memory bytes set",
@@ -34,13 +36,28 @@ impl Counts {
             | Op::Seconds { .. }
             | Op::Next { .. }
             | Op::Last { .. }
-            | Op::Refusing { .. } => "record counts set",
+            | Op::Refusing { .. }
+            | Op::Tries { .. }
+            | Op::Place { .. }
+            | Op::Spare { .. } => "record counts set",
         };
         *self.kinds.entry(kind).or_default() += 1;
         if let Some(answer) = answer {
             self.events += 1;
             *self.answers.entry(answer.number).or_default() += 1;
+            match (op, answer.number) {
+                (Op::Start { .. }, number) => self.text("start", number),
+                (_, 9) => self.text("sending", answer.reply),
+                _ => {}
+            }
         }
+    }
+
+    /// A frame that was fetched, told from one that there is not.
+    pub fn fetched(&mut self, made: Made) {
+        let is_none = made.number == 0 && made.length == 0;
+        let function = if is_none { "no frame" } else { "outgoing" };
+        self.text(function, made.number);
     }
 
     /// An event on a record that the model cannot hold.
@@ -70,11 +87,11 @@ impl Counts {
     /// The answers and outcomes that have not come up.
     pub fn missing(&self) -> Vec<String> {
         let mut missing = Vec::new();
-        for number in (0..=8)
+        for number in (0..=9)
             .chain(20..=31)
-            .chain(40..=45)
-            .chain(50..=53)
-            .chain([55])
+            .chain(40..=46)
+            .chain(50..=55)
+            .chain([60, 61])
         {
             if !self.answers.contains_key(&number) {
                 missing.push(format!("answer {}", number));
@@ -86,6 +103,10 @@ impl Counts {
             ("escape", &[0, 47, 55]),
             ("unescape", &[0, 46, 47, 55]),
             ("is_message", &[0, 1]),
+            ("start", &[9, 40, 41, 42, 46, 50, 51, 52, 53, 54, 55, 60]),
+            ("sending", &[0, 2, 4, 5]),
+            ("outgoing", &[0, 40, 41, 42, 47]),
+            ("no frame", &[0]),
         ];
         for (function, numbers) in outcomes {
             for number in numbers {

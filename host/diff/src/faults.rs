@@ -55,10 +55,33 @@ pub enum Fault {
     RepeatTakenForComponent,
     ShortHeaderToldAs55,
     BarStillEndsAField,
+    SeventhSend,
+    EotAfterADrop,
+    SendingToldAsNothing,
+    TextOneByteLate,
+    BytesBehindTheTextChanged,
+    RefusedStartGetsNak,
+    StartedWhileOpen,
+    TextLookedAtBeforeTheState,
+    SecondsCarriedOn,
+    WaitOfAFrameGoesOn,
+    PauseOf15Seconds,
+    EnqHeardWhilePausing,
+    EnqPausesLikeANak,
+    SeventhRefusalWaitedFor,
+    EotRefusesAFrame,
+    SameNumberAgain,
+    TriesLeftBehind,
+    SpareNumberChanged,
+    FetchingCountsAsASend,
+    FrameWrittenThoughShort,
+    NoFrameWrittenAsOne,
+    RecordGoesOnWithEtx,
+    FrameOfANumberTooFar,
 }
 
 impl Fault {
-    pub const ALL: [Fault; 41] = [
+    pub const ALL: [Fault; 64] = [
         Fault::RepeatToldAsAccepted,
         Fault::NoRoomAcknowledged,
         Fault::SerialNotAdvanced,
@@ -100,13 +123,43 @@ impl Fault {
         Fault::RepeatTakenForComponent,
         Fault::ShortHeaderToldAs55,
         Fault::BarStillEndsAField,
+        Fault::SeventhSend,
+        Fault::EotAfterADrop,
+        Fault::SendingToldAsNothing,
+        Fault::TextOneByteLate,
+        Fault::BytesBehindTheTextChanged,
+        Fault::RefusedStartGetsNak,
+        Fault::StartedWhileOpen,
+        Fault::TextLookedAtBeforeTheState,
+        Fault::SecondsCarriedOn,
+        Fault::WaitOfAFrameGoesOn,
+        Fault::PauseOf15Seconds,
+        Fault::EnqHeardWhilePausing,
+        Fault::EnqPausesLikeANak,
+        Fault::SeventhRefusalWaitedFor,
+        Fault::EotRefusesAFrame,
+        Fault::SameNumberAgain,
+        Fault::TriesLeftBehind,
+        Fault::SpareNumberChanged,
+        Fault::FetchingCountsAsASend,
+        Fault::FrameWrittenThoughShort,
+        Fault::NoFrameWrittenAsOne,
+        Fault::RecordGoesOnWithEtx,
+        Fault::FrameOfANumberTooFar,
     ];
 
     /// An operation's answer, numbers and memories, as the fault leaves them; `before` are the numbers
     /// as they were.
-    pub fn spoil(self, op: Op, before: &Book, library: &mut Library, answer: &mut Answered) {
-        let line = match op {
-            Op::Event { line, .. } | Op::Take { line, .. } => usize::from(line),
+    pub fn spoil(self, op: &Op, before: &Book, library: &mut Library, answer: &mut Answered) {
+        let line = match *op {
+            Op::Start { line, ref text } => {
+                return self.spoil_start(line, &text.0, before, library, answer)
+            }
+            Op::Event { line, kind } => {
+                self.spoil_sending(line, kind, before, library, answer);
+                usize::from(line)
+            }
+            Op::Take { line, .. } => usize::from(line),
             _ => return,
         };
         let at = FIELDS * (line % LINES);

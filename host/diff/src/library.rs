@@ -1,12 +1,12 @@
 //! The library with memories of its own, driven by the model's operations.
 
-use crate::boundary::{self, Answered, Counts, Numbers};
+use crate::boundary::{self, Answered, Counts, Made, Numbers};
 use crate::fenced::Fenced;
 use crate::layout::{
-    COLLECTED, COUNTS, FIELDS, IN_USE, JOINED, LAST, NEXT, NUMBERS, REFUSING, SECONDS, SERIAL,
-    STATE,
+    COLLECTED, COUNTS, FIELDS, IN_USE, JOINED, LAST, NEXT, NUMBERS, PLACE, REFUSING, SECONDS,
+    SERIAL, SPARE as SPARE_NUMBER, STATE, TRIES,
 };
-use ngachodui_model::lines::{Kind, State};
+use ngachodui_model::lines::Kind;
 use ngachodui_model::world::{Memory, Op, BLANK, SPARE};
 
 const FENCE: u8 = 0x5A;
@@ -33,19 +33,19 @@ pub struct Library {
     lent: [usize; 3],
     /// The buffer of the last taking.
     pub buffer: Fenced<u8>,
+    /// The last frame that was fetched.
+    pub fetched: Fetched,
 }
 
-/// A state as the library numbers it.
-pub fn state_number(state: State) -> u16 {
-    match state {
-        State::Neutral => 0,
-        State::Waiting => 1,
-        State::Inside => 2,
-    }
+/// A frame that was fetched: the outcome, and the output as it was left.
+#[derive(Clone)]
+pub struct Fetched {
+    pub made: Made,
+    pub out: Fenced<u8>,
 }
 
 /// The last accepted number as the library keeps it: 0 for none, else one more.
-pub fn last_number(last: Option<u8>) -> u16 {
+fn last_number(last: Option<u8>) -> u16 {
     last.map_or(0, |number| u16::from(number) + 1)
 }
 
@@ -69,15 +69,27 @@ impl Library {
             frames: memory(Memory::Frames, front + 3),
             lent: [0; 3],
             buffer: Fenced::new(0, BLANK, 1, FENCE),
+            fetched: Fetched {
+                made: Made {
+                    number: 0,
+                    spare: 0,
+                    place: 0,
+                    value: 0,
+                    length: 0,
+                },
+                out: Fenced::new(0, BLANK, 1, FENCE),
+            },
         };
-        library.apply(Op::Fresh);
+        library.apply(&Op::Fresh);
         library
     }
 
-    /// Does one operation; events and takings give their answer.
-    pub fn apply(&mut self, op: Op) -> Option<Answered> {
-        match op {
+    /// Does one operation; events, starts and takings give their answer.
+    pub fn apply(&mut self, op: &Op) -> Option<Answered> {
+        match *op {
             Op::Event { line, kind } => return Some(self.event(line, kind)),
+            Op::Start { line, ref text } => return Some(self.start(line, &text.0)),
+            Op::Outgoing { line, room } => self.fetch(line, room),
             Op::Take { line, buffer } => return Some(self.take(line, buffer)),
             Op::Fresh => {
                 boundary::fresh(&mut self.book.numbers, &mut self.book.counts);
@@ -87,13 +99,16 @@ impl Library {
                     Memory::Frames.size(),
                 ];
             }
-            Op::State { line, state } => *self.number(line, STATE) = state_number(state),
+            Op::State { line, state } => *self.number(line, STATE) = state as u16,
             Op::Collected { line, count } => *self.number(line, COLLECTED) = count,
             Op::Joined { line, count } => *self.number(line, JOINED) = count,
             Op::Seconds { line, count } => *self.number(line, SECONDS) = u16::from(count),
             Op::Next { line, number } => *self.number(line, NEXT) = u16::from(number),
             Op::Last { line, number } => *self.number(line, LAST) = last_number(number),
             Op::Refusing { line, refusing } => *self.number(line, REFUSING) = u16::from(refusing),
+            Op::Tries { line, count } => *self.number(line, TRIES) = count,
+            Op::Place { line, place } => *self.number(line, PLACE) = place,
+            Op::Spare { line, which, value } => *self.number(line, SPARE_NUMBER + which) = value,
             Op::InUse { count } => self.book.counts[IN_USE] = count,
             Op::Used { line, count } => self.book.counts[usize::from(line)] = count,
             Op::Serial { line, serial } => *self.number(line, SERIAL) = serial,
@@ -122,6 +137,34 @@ impl Library {
             &mut self.unfinished.inside_mut()[..unfinished],
             &mut self.frames.inside_mut()[..frames],
         )
+    }
+
+    /// The text stands at an odd address between others, and is only read.
+    fn start(&mut self, line: u8, text: &[u8]) -> Answered {
+        let lent_text = Fenced::copy(text, 1, FENCE);
+        let [journal, unfinished, frames] = self.lent;
+        let answered = boundary::send(
+            line,
+            lent_text.inside(),
+            &mut self.book.numbers,
+            &self.journal.inside()[..journal],
+            &mut self.unfinished.inside_mut()[..unfinished],
+            &self.frames.inside()[..frames],
+        );
+        assert!(lent_text.inside() == text && lent_text.stands());
+        answered
+    }
+
+    fn fetch(&mut self, line: u8, room: usize) {
+        let lent = self.lent[Memory::Unfinished as usize];
+        let mut out = Fenced::new(room, BLANK, 1 + room % 7, FENCE);
+        let made = boundary::outgoing(
+            line,
+            &self.book.numbers,
+            &self.unfinished.inside()[..lent],
+            out.inside_mut(),
+        );
+        self.fetched = Fetched { made, out };
     }
 
     fn take(&mut self, line: u8, buffer: usize) -> Answered {
@@ -158,5 +201,6 @@ impl Library {
             && self.unfinished.stands()
             && self.frames.stands()
             && self.buffer.stands()
+            && self.fetched.out.stands()
     }
 }

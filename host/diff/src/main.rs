@@ -1,12 +1,12 @@
 //! Compares the library with the model, operation by operation.
 //!
-//!     diff 10000000 SEED     so many events: bytes, seconds and takings
+//!     diff 10000000 SEED     so many events: bytes, seconds, starts and takings
 //!     diff 5s SEED           so many seconds
 //!     diff --faults SEED     sees that faults put into what the library did are found
 //!
-//! After each operation everything is compared: the answer, its reply byte and its values, the eight
-//! records, the ledger, and every byte of every memory, those that are not lent and a fence around each
-//! included.
+//! After each operation everything is compared: the answer, its reply byte and its values, a frame that was
+//! fetched, the eight records, the ledger, and every byte of every memory, those that are not lent and a
+//! fence around each included.
 //! The same seed gives the same operations. Status 1: a difference, or an answer or an outcome that never
 //! came up, told on standard output. For what has not come up a run goes on, at most ten times as long.
 
@@ -21,6 +21,7 @@ mod headers;
 #[path = "../../rust/src/layout.rs"]
 mod layout;
 mod library;
+mod sending_faults;
 mod texts;
 
 use compare::{answer_difference, state_difference};
@@ -31,7 +32,7 @@ use library::Library;
 use ngachodui_model::lines::Kind;
 use ngachodui_model::traffic::random::Random;
 use ngachodui_model::traffic::{Mix, Traffic};
-use ngachodui_model::world::{Memory, Op, World};
+use ngachodui_model::world::{Memory, Op, Text, World, BLANK};
 use ngachodui_model::Answer;
 use std::process::exit;
 use std::time::{Duration, Instant};
@@ -53,7 +54,7 @@ const PATIENCE: u32 = 10;
 /// How many of the operations before a difference are told.
 const TOLD: usize = 12;
 
-const MIXES: [Mix; 15] = [
+const MIXES: [Mix; 17] = [
     Mix::Noise,
     Mix::Polite,
     Mix::Damaged,
@@ -63,13 +64,18 @@ const MIXES: [Mix; 15] = [
     Mix::Clock,
     Mix::Flood,
     Mix::Takings,
+    Mix::Sending,
     Mix::BrokenJournal,
     Mix::BeyondLimits,
+    Mix::OddSending,
     Mix::WrongSizes,
     Mix::WrongLines,
     Mix::FullJournal,
     Mix::Renewal,
 ];
+
+/// Lines that send, and now and then receive in between.
+const SENDINGS: [Mix; 4] = [Mix::Sending, Mix::Sending, Mix::Polite, Mix::OddSending];
 
 /// When to stop.
 #[derive(Clone, Copy)]
@@ -115,18 +121,24 @@ impl Pair {
 
     /// One operation on both sides.
     fn step(&mut self, op: Op, counts: &mut Counts) -> Result<(), String> {
-        self.past.push(op);
+        self.past.push(op.clone());
         let before = self.fault.map(|_| self.library.book.clone());
-        let expected = self.world.apply(op);
-        let mut found = self.library.apply(op);
-        if let (Some(fault), Some(before), Some(answer)) = (self.fault, before, found.as_mut()) {
-            fault.spoil(op, &before, &mut self.library, answer);
+        let expected = self.world.apply(&op);
+        let mut found = self.library.apply(&op);
+        if let (Some(fault), Some(before)) = (self.fault, before) {
+            match found.as_mut() {
+                Some(answer) => fault.spoil(&op, &before, &mut self.library, answer),
+                None => fault.spoil_fetched(&op, &mut self.library),
+            }
         }
-        counts.operation(op, found);
+        counts.operation(&op, found);
+        if let Op::Outgoing { .. } = op {
+            counts.fetched(self.library.fetched.made);
+        }
         if let Some(difference) = answer_difference(expected, found) {
             return Err(difference);
         }
-        match state_difference(&self.world, &self.library, op) {
+        match state_difference(&self.world, &self.library, &op) {
             Some(difference) => Err(difference),
             None => Ok(()),
         }
@@ -148,12 +160,12 @@ impl Pair {
         told
     }
 
-    /// An event on a record with a number that no record has: 42, and nothing changed. A memory of
-    /// another size is answered first.
+    /// An event or a start on a record with a number that no record has, or a frame of it that is fetched:
+    /// 42, and nothing changed. A memory of another size is answered first.
     fn odd_record(&mut self, counts: &mut Counts) -> Result<(), String> {
         let line = self.random.below(8) as u8;
         let (field, least) = self.random.pick(&[
-            (STATE, 3),
+            (STATE, 6),
             (SECONDS, 256),
             (NEXT, 256),
             (LAST, 257),
@@ -164,50 +176,76 @@ impl Pair {
             1 => 65_535,
             _ => self.random.between(least, 65_535),
         };
-        let kind = match self.random.below(4) {
-            0 => Kind::Seconds(self.random.byte()),
-            1 => Kind::Byte(self.random.byte()),
-            _ => Kind::Byte(self.random.pick(&[0x02, 0x04, 0x05, 0x0A])),
-        };
-        let op = Op::Event { line, kind };
+        let op = self.odd_call(line);
         let kept = *self.library.number(line, field);
         *self.library.number(line, field) = value as u16;
-        let found = self.library.apply(op);
+        let found = self.library.apply(&op);
         let after = *self.library.number(line, field);
         *self.library.number(line, field) = kept;
         counts.odd_record();
 
-        let right = Memory::ALL.map(Memory::size) == self.world.lent;
-        let number = if right { 42 } else { 41 };
-        let odd = format!(
-            "line {}, number {} set to {}, {:?}",
-            line, field, value, kind
-        );
-        if let Some(difference) = answer_difference(Some(Answer::plain(number)), found) {
+        let expected = self.odd_answer(&op);
+        let odd = format!("number {} set to {}, {:?}", field, value, op);
+        if let Some(difference) = answer_difference(expected, found) {
             return Err(format!("{}: {}", odd, difference));
         }
         if usize::from(after) != value {
             return Err(format!("{}: changed to {}", odd, after));
         }
-        match state_difference(&self.world, &self.library, op) {
+        match state_difference(&self.world, &self.library, &op) {
             Some(difference) => Err(format!("{}: {}", odd, difference)),
             None => Ok(()),
         }
     }
+
+    /// Something that is done with a line's record.
+    fn odd_call(&mut self, line: u8) -> Op {
+        let kind = match self.random.below(6) {
+            0 => Kind::Seconds(self.random.byte()),
+            1 => Kind::Byte(self.random.byte()),
+            2 => {
+                let text = Text(b"H|\\^&\rL|1\r".to_vec());
+                return Op::Start { line, text };
+            }
+            3 => return Op::Outgoing { line, room: 247 },
+            _ => Kind::Byte(self.random.pick(&[0x02, 0x04, 0x05, 0x06, 0x0A, 0x15])),
+        };
+        Op::Event { line, kind }
+    }
+
+    /// What it is answered. The model cannot be asked, so what it would have fetched is set here.
+    fn odd_answer(&mut self, op: &Op) -> Option<Answer> {
+        let of_memory = |right: bool| if right { 42 } else { 41 };
+        if let Op::Outgoing { room, .. } = *op {
+            let right = self.world.lent[Memory::Unfinished as usize] == Memory::Unfinished.size();
+            self.world.fetched.outcome = Err(of_memory(right));
+            self.world.fetched.out = vec![BLANK; room];
+            return None;
+        }
+        let right = Memory::ALL.map(Memory::size) == self.world.lent;
+        Some(Answer::plain(of_memory(right)))
+    }
 }
 
-/// One run from fresh, then full journals and texts. The mixes are all, or in every fourth run up to three of them.
+/// The traffic of a run: all mixes, or of four runs those of sendings in one and up to three mixes in another.
+fn traffic(run: u64, random: &mut Random) -> Traffic {
+    let seed = random.number();
+    match run % 4 {
+        1 => Traffic::of(seed, &SENDINGS),
+        3 => {
+            let mixes: Vec<Mix> = (0..random.between(1, 3))
+                .map(|_| random.pick(&MIXES))
+                .collect();
+            Traffic::of(seed, &mixes)
+        }
+        _ => Traffic::new(seed),
+    }
+}
+
+/// One run from fresh, then full journals and texts.
 fn run(seed: u64, fault: Option<Fault>, limit: Limit, counts: &mut Counts) -> Result<(), String> {
     let mut random = Random::new(seed);
-    let traffic_seed = random.number();
-    let mut traffic = if counts.runs % 4 == 3 {
-        let mixes: Vec<Mix> = (0..random.between(1, 3))
-            .map(|_| random.pick(&MIXES))
-            .collect();
-        Traffic::of(traffic_seed, &mixes)
-    } else {
-        Traffic::new(traffic_seed)
-    };
+    let mut traffic = traffic(counts.runs, &mut random);
     counts.runs += 1;
 
     let mut pair = Pair::fresh(random, fault);

@@ -4,21 +4,25 @@
 
 use crate::texts::{ACK, NAK};
 
-/// What an event or a taking gives. Length and serial are those of the entry taken with answer 8;
-/// place is that of the wrong record with a fault, counted from 1. They are 0 with every other number.
+/// What an event, a start or a taking gives. The reply is the first byte that goes to the analyzer, if
+/// any does: of a frame that is sent it is the STX. Length and serial are those of the entry taken with
+/// answer 8; place is that of the wrong record with a fault, counted from 1. They are 0 with every other
+/// number.
 #[derive(Clone, Copy, PartialEq, Eq, Debug)]
 pub struct Answer {
     pub number: u8,
+    pub reply: Option<u8>,
     pub length: usize,
     pub serial: u16,
     pub place: usize,
 }
 
 impl Answer {
-    /// An answer that is its number alone.
+    /// An answer that is its number alone, with the table's reply.
     pub fn plain(number: u8) -> Answer {
         Answer {
             number,
+            reply: reply(number),
             length: 0,
             serial: 0,
             place: 0,
@@ -34,16 +38,34 @@ impl Answer {
         }
     }
 
-    /// Answers 50 to 53 and 55.
+    /// Answers 50 to 53 and 55 to an event.
     pub fn faulty(number: u8, place: usize) -> Answer {
         Answer {
             place,
             ..Answer::plain(number)
         }
     }
+
+    /// Answer 9, with the first byte of what is sent, if anything is.
+    pub fn sending(first: Option<u8>) -> Answer {
+        Answer {
+            reply: first,
+            ..Answer::plain(9)
+        }
+    }
+
+    /// A start that is refused for its text: whatever the number, nothing goes to the analyzer, which
+    /// has asked for nothing.
+    pub fn refused(refusal: Refusal) -> Answer {
+        Answer {
+            reply: None,
+            place: refusal.place,
+            ..Answer::plain(refusal.number)
+        }
+    }
 }
 
-/// Why a text was not cut or read: 46, 47, or 50 to 55 with the place of the wrong record, counted
+/// Why a text was not cut, read or sent: 46, 47, or 50 to 55 with the place of the wrong record, counted
 /// from 1, which is 0 with the other two.
 #[derive(Clone, Copy, PartialEq, Eq, Debug)]
 pub struct Refusal {
@@ -63,7 +85,8 @@ impl Refusal {
     }
 }
 
-/// The table's third column: the byte sent back, or none. [O1]
+/// The table's third column: the byte sent back, or none. What goes out with 9 is not told by the number.
+/// [O1]
 pub fn reply(number: u8) -> Option<u8> {
     match number {
         1..=4 => Some(ACK),
@@ -91,6 +114,18 @@ mod tests {
                 None
             };
             assert_eq!(reply(number), expected, "answer {}", number);
+            assert_eq!(Answer::plain(number).reply, expected);
+            // A start that is refused is not replied to, since nothing was asked.
+            let refused = Answer::refused(Refusal::faulty(number, 3));
+            assert_eq!((refused.reply, refused.place), (None, 3));
+        }
+    }
+
+    #[test]
+    fn a_sending_tells_its_first_byte() {
+        for first in [None, Some(0x02), Some(0x04), Some(0x05)] {
+            let answer = Answer::sending(first);
+            assert_eq!((answer.number, answer.reply), (9, first));
         }
     }
 }

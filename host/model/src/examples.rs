@@ -314,7 +314,7 @@ fn no_room_is_final_for_the_transfer() {
 fn answers_40_to_42_in_their_order() {
     let mut world = opened();
     world.model.lines[2].collected = 246;
-    world.apply(Op::Lend {
+    world.apply(&Op::Lend {
         memory: Memory::Frames,
         length: 1_967,
     });
@@ -327,7 +327,7 @@ fn answers_40_to_42_in_their_order() {
     assert_eq!(world.seconds(2, 0), 41);
     // A taking is lent the journal alone.
     assert_eq!(world.take(2, 0).number, 44);
-    world.apply(Op::Lend {
+    world.apply(&Op::Lend {
         memory: Memory::Frames,
         length: 1_968,
     });
@@ -338,12 +338,12 @@ fn answers_40_to_42_in_their_order() {
     assert_eq!(world.take(2, 0).number, 44);
     for memory in Memory::ALL {
         for length in [0, memory.size() - 1, memory.size() + 1] {
-            world.apply(Op::Lend { memory, length });
+            world.apply(&Op::Lend { memory, length });
             assert_eq!(world.send(2, &[ENQ]), 41);
             let taking = if memory == Memory::Journal { 41 } else { 44 };
             assert_eq!(world.take(2, 0).number, taking);
         }
-        world.apply(Op::Lend {
+        world.apply(&Op::Lend {
             memory,
             length: memory.size(),
         });
@@ -444,7 +444,7 @@ fn records_that_no_run_reaches_follow_the_words() {
     assert_eq!(world.model.lines[2].next, 1);
     assert_eq!(world.model.lines[2].last, Some(0));
     // A neutral line with counts ignores all but ENQ.
-    world.apply(Op::Fresh);
+    world.apply(&Op::Fresh);
     world.model.lines[2].joined = 9;
     assert_eq!(world.send(2, &[EOT]), 0);
     assert_eq!(world.seconds(2, 255), 0);

@@ -5,10 +5,94 @@
 use crate::answers::Answer;
 use crate::lines::{Kind, Line, State};
 use crate::traffic::Traffic;
-use crate::world::{Op, World, BLANK};
+use crate::world::{Fetched, Op, World, BLANK};
+
+/// The world after an event of a sending: its record, and no memory.
+fn after_sending(before: &World, line: u8, kind: Kind, reply: Option<u8>) -> World {
+    let mut world = before.clone();
+    let record = &mut world.model.lines[usize::from(line)];
+    let old = *record;
+    match (reply, kind) {
+        // Our EOT: as after 5.
+        (Some(0x04), _) => *record = Line::fresh(),
+        // Our ENQ once more, as often refused as before.
+        (Some(0x05), _) => {
+            record.state = State::Asking;
+            record.seconds = 0;
+        }
+        // A frame: the first, the next one, or the same again.
+        (Some(_), Kind::Byte(byte)) => {
+            record.state = State::Offering;
+            record.seconds = 0;
+            record.tries = 1;
+            if old.state == State::Asking {
+                record.next = 1;
+            } else if matches!(byte, 0x04 | 0x06) {
+                record.next = (old.next + 1) % 8;
+                record.place = place_behind(before, line);
+            } else {
+                record.tries = old.tries + 1;
+            }
+        }
+        (Some(_), Kind::Seconds(_)) => unreachable!("no seconds send a frame"),
+        (None, Kind::Seconds(seconds)) => record.seconds += usize::from(seconds),
+        // A refusal of our ENQ.
+        (None, Kind::Byte(_)) => {
+            record.state = State::Pausing;
+            record.seconds = 0;
+            record.tries += 1;
+        }
+    }
+    world
+}
+
+/// Where the text goes on behind the frame that is offered: behind its first CR, or 240 bytes further.
+fn place_behind(before: &World, line: u8) -> usize {
+    let record = before.model.lines[usize::from(line)];
+    let mut place = record.place;
+    loop {
+        let byte = before.unfinished[4_000 * usize::from(line) + place];
+        place += 1;
+        if byte == b'\r' || place == record.place + 240 {
+            return place;
+        }
+    }
+}
+
+/// The world after a start that was given this answer.
+fn after_start(before: &World, line: u8, text: &[u8], answer: Answer) -> World {
+    let mut world = before.clone();
+    if answer.number != 9 {
+        assert_eq!(answer.reply, None);
+        return world;
+    }
+    let n = usize::from(line);
+    world.unfinished[4_000 * n..4_000 * n + text.len()].copy_from_slice(text);
+    world.model.lines[n] = Line {
+        state: State::Asking,
+        joined: text.len(),
+        ..Line::fresh()
+    };
+    world
+}
+
+/// The world after a frame was fetched: nothing is changed but what was fetched, and only its start.
+fn after_fetching(before: &World, after: &World, room: usize) -> World {
+    let mut world = before.clone();
+    let outcome = after.fetched.outcome;
+    let length = outcome.unwrap_or(0);
+    let mut out = vec![BLANK; room];
+    out[..length].copy_from_slice(&after.fetched.out[..length]);
+    world.fetched = Fetched { outcome, out };
+    world
+}
 
 /// The world after an event that was given this answer.
-fn after_event(before: &World, line: u8, kind: Kind, number: u8) -> World {
+fn after_event(before: &World, line: u8, kind: Kind, answer: Answer) -> World {
+    let number = answer.number;
+    if number == 9 {
+        return after_sending(before, line, kind, answer.reply);
+    }
     let mut world = before.clone();
     // Refusals of the call, and a second ENQ: nothing.
     if matches!(number, 20 | 40..=45) {
@@ -17,8 +101,8 @@ fn after_event(before: &World, line: u8, kind: Kind, number: u8) -> World {
     let n = usize::from(line);
     let record = &mut world.model.lines[n];
     let old = *record;
-    // A transfer opened or over: the record, and no memory.
-    if matches!(number, 1 | 5 | 6 | 7) {
+    // A transfer opened or over, a sending given up: the record, and no memory.
+    if matches!(number, 1 | 5 | 6 | 7 | 61) {
         *record = Line::fresh();
         if number == 1 {
             record.state = State::Waiting;
@@ -38,6 +122,11 @@ fn after_event(before: &World, line: u8, kind: Kind, number: u8) -> World {
     };
     match old.state {
         State::Neutral => return world,
+        State::Asking | State::Pausing | State::Offering => {
+            // Of all bytes of a sending only those of a pause are ignored.
+            assert_eq!((number, old.state), (0, State::Pausing));
+            return world;
+        }
         State::Waiting => {
             // A byte between frames: STX moves the line inside, others do nothing.
             if byte == 0x02 {
@@ -136,26 +225,32 @@ fn each_answer_leaves_what_the_rules_say() {
     for _ in 0..60_000 {
         let op = traffic.next(&world);
         let before = world.clone();
-        let answer = world.apply(op);
-        let expected = match (op, answer) {
-            (Op::Event { line, kind }, Some(answer)) => {
-                after_event(&before, line, kind, answer.number)
+        let answer = world.apply(&op);
+        let expected = match (&op, answer) {
+            (Op::Event { line, kind }, Some(answer)) => after_event(&before, *line, *kind, answer),
+            (Op::Start { line, text }, Some(answer)) => {
+                after_start(&before, *line, &text.0, answer)
             }
             (Op::Take { line, buffer }, Some(answer)) => {
-                after_taking(&before, line, buffer, answer)
+                after_taking(&before, *line, *buffer, answer)
+            }
+            (Op::Outgoing { room, .. }, None) => {
+                let expected = after_fetching(&before, &world, *room);
+                assert!(world == expected, "{:?}", op);
+                continue;
             }
             _ => continue,
         };
-        let answer = answer.expect("an event or a taking");
+        let answer = answer.expect("an event, a start or a taking");
         let number = answer.number;
         seen[usize::from(number)] += 1;
         assert!(world == expected, "{:?} with answer {}", op, number);
         // A record's place, counted from 1, comes with its fault alone.
-        let has_place = matches!(number, 50..=53 | 55);
+        let has_place = matches!(number, 50..=55);
         assert_eq!(answer.place > 0, has_place, "{:?}: {:?}", op, answer);
     }
-    let known = (0..=8).chain(20..=31).chain(40..=45).chain(50..=53);
-    for number in known.chain([55]) {
+    let known = (0..=9).chain(20..=31).chain(40..=46).chain(50..=55);
+    for number in known.chain([60, 61]) {
         assert!(seen[number] > 0, "answer {} did not occur", number);
     }
 }

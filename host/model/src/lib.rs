@@ -1,5 +1,5 @@
-//! A model of the rules in docs/RULES.md: the eight lines, their frames and messages, the journal with its
-//! shares, cutting, escaping and the replay listing.
+//! A model of the rules in docs/RULES.md: the eight lines, their frames and messages, the sending of
+//! messages, the journal with its shares, cutting, escaping and the replay listing.
 //!
 //! It is written without the crates, for reading beside that page: answers are their
 //! numbers, a comment names the subject of each rule where it is applied, and where the rules leave
@@ -19,6 +19,7 @@ pub mod lines;
 pub mod listing;
 pub mod model;
 pub mod records;
+pub mod sender;
 pub mod texts;
 pub mod traffic;
 pub mod world;
@@ -49,3 +50,5 @@ mod dialogues;
 mod examples;
 #[cfg(test)]
 mod left;
+#[cfg(test)]
+mod sendings;

@@ -2,12 +2,50 @@
 
 use crate::texts::{ENQ, EOT, LF, STX};
 
-/// Where a line is: without a transfer, in one between frames, or in a frame. [E2]
+/// Where a line is: without a transfer, in one between frames, or in a frame [E2]; or, in a sending, where
+/// our ENQ awaits its reply, in the 10 seconds behind a refusal, or where a frame awaits its reply.
 #[derive(Clone, Copy, PartialEq, Eq, Debug)]
 pub enum State {
     Neutral,
     Waiting,
     Inside,
+    Asking,
+    Pausing,
+    Offering,
+}
+
+impl State {
+    /// By their numbers, from 0.
+    pub const ALL: [State; 6] = [
+        State::Neutral,
+        State::Waiting,
+        State::Inside,
+        State::Asking,
+        State::Pausing,
+        State::Offering,
+    ];
+
+    pub fn is_sending(self) -> bool {
+        matches!(self, State::Asking | State::Pausing | State::Offering)
+    }
+
+    /// The most tries that a record in this state may have: refusals of our ENQ while it asks or pauses,
+    /// sends of the frame while it offers one, none while nothing is sent.
+    pub fn most_tries(self) -> usize {
+        match self {
+            State::Neutral | State::Waiting | State::Inside => 0,
+            State::Asking | State::Pausing => 5,
+            State::Offering => 6,
+        }
+    }
+
+    /// The most that its place may be: where a frame is offered, anywhere in the longest text.
+    pub fn most_place(self) -> usize {
+        match self {
+            State::Offering => JOINED_LIMIT,
+            _ => 0,
+        }
+    }
 }
 
 /// What can happen on a line. [E4]
@@ -23,16 +61,20 @@ pub struct Line {
     pub state: State,
     /// How many bytes of the open frame stand in the line's part of the frames.
     pub collected: usize,
-    /// How many bytes of unfinished text stand in the line's part.
+    /// How many bytes of unfinished text stand in the line's part; in a sending, of the text that is sent.
     pub joined: usize,
-    /// Seconds since the transfer opened or a frame was judged.
+    /// Seconds since the transfer opened or a frame was judged; in a sending, since the wait began.
     pub seconds: usize,
-    /// The number the next frame must have.
+    /// The number the next frame must have; where one is offered, its number.
     pub next: u8,
     /// The number of the last accepted frame of this transfer.
     pub last: Option<u8>,
     /// A message was decided against in this transfer.
     pub refusing: bool,
+    /// How often our ENQ was refused, or the frame that is offered was sent.
+    pub tries: usize,
+    /// Where the text of the frame that is offered starts in the line's text.
+    pub place: usize,
 }
 
 /// The limits of a record; each value itself is within. [E11]
@@ -50,11 +92,14 @@ pub enum Step {
     Collect,
     /// The byte is collected and the frame is judged.
     Judge,
+    /// The line sends: `sender` has the rules.
+    Send,
 }
 
 impl Line {
-    /// What the start and the end of a transfer leave of a record, besides its state. [L5, L6]
-    fn cleared(state: State) -> Line {
+    /// What the start and the end of a transfer or a sending leave of a record, besides its state.
+    /// [L5, L6]
+    pub fn cleared(state: State) -> Line {
         Line {
             state,
             collected: 0,
@@ -63,6 +108,8 @@ impl Line {
             next: 1,
             last: None,
             refusing: false,
+            tries: 0,
+            place: 0,
         }
     }
 
@@ -71,13 +118,16 @@ impl Line {
         Line::cleared(State::Neutral)
     }
 
-    /// Answer 42 is given where this fails. State and counts need not agree. [E11]
+    /// Answer 42 is given where this fails. State and counts need not agree, nor a place and the text's
+    /// length; tries and place belong to states of a sending, and are 0 in the others. [E11]
     pub fn is_within_limits(&self) -> bool {
         self.collected <= COLLECTED_LIMIT
             && self.joined <= JOINED_LIMIT
             && self.seconds <= SECONDS_LIMIT
             && self.next <= NUMBER_LIMIT
             && self.last.unwrap_or(0) <= NUMBER_LIMIT
+            && self.tries <= self.state.most_tries()
+            && self.place <= self.state.most_place()
     }
 
     /// One event on a record within its limits. A frame is not judged here, only called for.
@@ -88,7 +138,8 @@ impl Line {
             (State::Inside, Kind::Byte(byte)) => self.byte_inside(byte),
             // Seconds are counted while a transfer is open, so not here.
             (State::Neutral, Kind::Seconds(_)) => Step::Done(0),
-            (_, Kind::Seconds(seconds)) => self.pass(seconds),
+            (State::Waiting | State::Inside, Kind::Seconds(seconds)) => self.pass(seconds),
+            (State::Asking | State::Pausing | State::Offering, _) => Step::Send,
         }
     }
 
@@ -264,6 +315,42 @@ mod tests {
             ..waiting()
         };
         assert_eq!(line.step(Kind::Seconds(255)), Step::Done(7));
+    }
+
+    #[test]
+    fn tries_and_place_have_limits_of_their_own_in_each_state() {
+        let limits = [(0, 0), (0, 0), (0, 0), (5, 0), (5, 0), (6, 4_000)];
+        for (state, (tries, place)) in State::ALL.into_iter().zip(limits) {
+            let at = Line {
+                state,
+                tries,
+                place,
+                ..Line::fresh()
+            };
+            assert!(at.is_within_limits(), "{:?}", at);
+            let tries = tries + 1;
+            assert!(!Line { tries, ..at }.is_within_limits(), "{:?}", state);
+            let place = place + 1;
+            assert!(!Line { place, ..at }.is_within_limits(), "{:?}", state);
+            // As few as it says: a frame that no run has sent, at a place past the text.
+            let least = Line { tries: 0, ..at };
+            assert!(least.is_within_limits());
+        }
+    }
+
+    #[test]
+    fn a_line_that_sends_is_left_to_the_sender() {
+        for state in [State::Asking, State::Pausing, State::Offering] {
+            assert!(state.is_sending());
+            let mut line = Line {
+                state,
+                ..Line::fresh()
+            };
+            let before = line;
+            for kind in [Kind::Byte(ENQ), Kind::Byte(STX), Kind::Seconds(255)] {
+                assert_eq!((line.step(kind), line), (Step::Send, before));
+            }
+        }
     }
 
     #[test]

@@ -1,6 +1,6 @@
 //! The replay listing: a trace in, one row for each event out (docs/RULES.md, T).
 
-use crate::answers::{reply, Answer};
+use crate::answers::Answer;
 use crate::lines::Kind;
 use crate::model::Model;
 use crate::{FRAMES, JOURNAL, UNFINISHED};
@@ -62,7 +62,7 @@ fn last_column(answer: Answer) -> String {
     if answer.number == 8 {
         return answer.length.to_string();
     }
-    match reply(answer.number) {
+    match answer.reply {
         Some(byte) => format!("{:02X}", byte),
         None => String::from("--"),
     }

@@ -1,19 +1,26 @@
-//! The gateway as a whole: the order in which an event and a taking are tested, the judging of a
-//! frame, and what each answer leaves.
+//! The gateway as a whole: the order in which an event, a start, a fetched frame and a taking are tested,
+//! the judging of a frame, and what each answer leaves.
 
 use crate::answers::Answer;
 use crate::frames::{after, take_apart, Frame};
 use crate::journal::Ledger;
 use crate::lines::{Kind, Line, State, Step, JOINED_LIMIT};
 use crate::records::{last_record_begins_with, read};
-use crate::texts::CR;
+use crate::sender;
+use crate::texts::{CR, ENQ};
 use crate::{FRAMES, FRAME_PART, JOURNAL, LINES, UNFINISHED, UNFINISHED_PART};
+
+/// How many numbers a host keeps for each line, and how many of them are spare.
+pub const FIELDS: usize = 16;
+pub const SPARE_FIELDS: usize = 6;
 
 /// All that is kept between calls, beside the three memories that the caller lends.
 #[derive(Clone, PartialEq, Eq, Debug)]
 pub struct Model {
     pub lines: [Line; LINES],
     pub ledger: Ledger,
+    /// Each line's spare numbers: 0 when fresh; no call looks at them or changes them.
+    pub spare: [[u16; SPARE_FIELDS]; LINES],
 }
 
 impl Model {
@@ -22,7 +29,26 @@ impl Model {
         Model {
             lines: [Line::fresh(); LINES],
             ledger: Ledger::fresh(),
+            spare: [[0; SPARE_FIELDS]; LINES],
         }
+    }
+
+    /// A line's numbers, as hosts keep them. [H1, H2]
+    pub fn numbers(&self, line: usize) -> [u16; FIELDS] {
+        let record = &self.lines[line];
+        let mut numbers = [0; FIELDS];
+        numbers[0] = record.state as u16;
+        numbers[1] = record.collected as u16;
+        numbers[2] = record.joined as u16;
+        numbers[3] = record.seconds as u16;
+        numbers[4] = record.next.into();
+        numbers[5] = record.last.map_or(0, |number| u16::from(number) + 1);
+        numbers[6] = record.refusing.into();
+        numbers[7] = self.ledger.serials[line];
+        numbers[8] = record.tries as u16;
+        numbers[9] = record.place as u16;
+        numbers[FIELDS - SPARE_FIELDS..].copy_from_slice(&self.spare[line]);
+        numbers
     }
 
     /// One byte, or seconds passed, on one line. [O3]
@@ -34,20 +60,16 @@ impl Model {
         unfinished: &mut [u8],
         frames: &mut [u8],
     ) -> Answer {
-        // The order of an event's tests: line, memories, record.
+        if let Some(number) = self.objection(line, journal, unfinished, frames) {
+            return Answer::plain(number);
+        }
         let line = usize::from(line);
-        if line >= LINES {
-            return Answer::plain(40);
-        }
-        if journal.len() != JOURNAL || unfinished.len() != UNFINISHED || frames.len() != FRAMES {
-            return Answer::plain(41);
-        }
-        // No other line's record is looked at.
-        if !self.lines[line].is_within_limits() {
-            return Answer::plain(42);
-        }
         match (self.lines[line].step(kind), kind) {
             (Step::Done(number), _) => Answer::plain(number),
+            (Step::Send, _) => {
+                let text = &unfinished[line * UNFINISHED_PART..][..self.lines[line].joined];
+                sender::step(&mut self.lines[line], kind, text)
+            }
             // What is left, a byte inside a frame: it stands behind the others.
             (Step::Collect, Kind::Byte(byte)) => {
                 frames[line * FRAME_PART + self.lines[line].collected] = byte;
@@ -59,6 +81,69 @@ impl Model {
                 unreachable!("only bytes are collected")
             }
         }
+    }
+
+    /// What an event and a start are tested for first, in this order: line, memories, record. No other
+    /// line's record is looked at. [O3]
+    fn objection(&self, line: u8, journal: &[u8], unfinished: &[u8], frames: &[u8]) -> Option<u8> {
+        let line = usize::from(line);
+        if line >= LINES {
+            return Some(40);
+        }
+        if journal.len() != JOURNAL || unfinished.len() != UNFINISHED || frames.len() != FRAMES {
+            return Some(41);
+        }
+        (!self.lines[line].is_within_limits()).then_some(42)
+    }
+
+    /// The start of a sending. It is an event of its line, and tested as one; then the line must be
+    /// neutral, and then the text a message. A refusal leaves everything, and sends nothing.
+    pub fn start(
+        &mut self,
+        line: u8,
+        text: &[u8],
+        journal: &[u8],
+        unfinished: &mut [u8],
+        frames: &[u8],
+    ) -> Answer {
+        if let Some(number) = self.objection(line, journal, unfinished, frames) {
+            return Answer::plain(number);
+        }
+        let line = usize::from(line);
+        if self.lines[line].state != State::Neutral {
+            return Answer::plain(60);
+        }
+        if let Err(refusal) = read(text) {
+            return Answer::refused(refusal);
+        }
+        // What is left: the text at the start of the line's part, whose rest stays, and a record that asks.
+        unfinished[line * UNFINISHED_PART..][..text.len()].copy_from_slice(text);
+        self.lines[line] = sender::started(text.len());
+        Answer::sending(Some(ENQ))
+    }
+
+    /// The frame that a line offers, written to the start of `out`, and how many bytes it has: 0 where it
+    /// offers none. It is tested for 40, 41 of the unfinished text, 42, 47; nothing else is looked at, and
+    /// nothing but `out` is changed.
+    pub fn outgoing(&self, line: u8, unfinished: &[u8], out: &mut [u8]) -> Result<usize, u8> {
+        let line = usize::from(line);
+        if line >= LINES {
+            return Err(40);
+        }
+        if unfinished.len() != UNFINISHED {
+            return Err(41);
+        }
+        let record = &self.lines[line];
+        if !record.is_within_limits() {
+            return Err(42);
+        }
+        let text = &unfinished[line * UNFINISHED_PART..][..record.joined];
+        let frame = sender::outgoing(record, text);
+        if frame.len() > out.len() {
+            return Err(47);
+        }
+        out[..frame.len()].copy_from_slice(&frame);
+        Ok(frame.len())
     }
 
     /// The frame that ends with this byte: its answer, and what it leaves. [L7, L8, L10]

@@ -7,6 +7,7 @@ pub const ENQ: u8 = 0x05;
 pub const ACK: u8 = 0x06;
 pub const LF: u8 = 0x0A;
 pub const CR: u8 = 0x0D;
+pub const DC1: u8 = 0x11;
 pub const NAK: u8 = 0x15;
 pub const ETB: u8 = 0x17;
 
@@ -27,7 +28,7 @@ mod tests {
 
     #[test]
     fn no_byte_that_steers_a_line_is_text() {
-        for byte in [STX, ETX, EOT, ENQ, ACK, LF, NAK, ETB, 0x00, 0x7F, 0xFF] {
+        for byte in [STX, ETX, EOT, ENQ, ACK, LF, DC1, NAK, ETB, 0x00, 0x7F, 0xFF] {
             assert!(!is_allowed(byte), "{:02X}", byte);
         }
         assert!(is_allowed(CR));

@@ -15,7 +15,7 @@ pub mod random;
 
 use crate::delimiters::Delimiters;
 use crate::lines::Kind;
-use crate::world::{Op, World};
+use crate::world::{Op, Text, World};
 use crate::LINES;
 use random::Random;
 use std::collections::VecDeque;
@@ -46,12 +46,18 @@ pub enum Mix {
     Flood,
     /// Takings with buffers of 0, one too short, exact, longer: 8, 44, 45.
     Takings,
+    /// Starts with texts of all sorts on lines in every state, then replies and seconds of one temper after
+    /// the other, and frames fetched with room around what they need: 9, 46, 50 to 55, 60, 61.
+    Sending,
     /// Ledger counts and header bytes changed, then takings and a decided message: 43, and that
     /// harmless changes give none.
     BrokenJournal,
     /// A record's field at or beyond its limit, then events of all sorts: 42, and odd records
     /// within the limits by the words of the rules.
     BeyondLimits,
+    /// A sending set by hand, at its limits and beyond, over a text with CRs anywhere, then replies, seconds
+    /// and fetched frames: 9 and 61 by the words of the rules, 42, 47.
+    OddSending,
     /// A memory lent too short or too long: 41, and its place before 42 and behind 40.
     WrongSizes,
     /// Lines 8 to 255: 40.
@@ -64,9 +70,9 @@ pub enum Mix {
 }
 
 impl Mix {
-    /// Scripts for one line, and how many of each come in 31. The long ones are rare, or their
-    /// bytes would leave little room for the others.
-    const LINE: [(Mix, usize); 9] = [
+    /// Scripts for one line, and how many of each come in 43. The long ones are rare, or their
+    /// bytes would leave little room for the others; those of a sending are short, and often go on.
+    const LINE: [(Mix, usize); 10] = [
         (Mix::Noise, 2),
         (Mix::Polite, 4),
         (Mix::Damaged, 4),
@@ -76,12 +82,14 @@ impl Mix {
         (Mix::Clock, 2),
         (Mix::Flood, 1),
         (Mix::Takings, 6),
+        (Mix::Sending, 12),
     ];
 
-    /// Scripts for the whole gateway, and how many of each come in 12.
-    const GATEWAY: [(Mix, usize); 6] = [
+    /// Scripts for the whole gateway, and how many of each come in 15.
+    const GATEWAY: [(Mix, usize); 7] = [
         (Mix::BrokenJournal, 4),
         (Mix::BeyondLimits, 3),
+        (Mix::OddSending, 3),
         (Mix::WrongSizes, 1),
         (Mix::WrongLines, 1),
         (Mix::FullJournal, 2),
@@ -227,6 +235,15 @@ impl Script {
         self.ops.push(Op::Event { line, kind });
     }
 
+    pub fn start(&mut self, line: u8, text: Vec<u8>) {
+        let text = Text(text);
+        self.ops.push(Op::Start { line, text });
+    }
+
+    pub fn fetch(&mut self, line: u8, room: usize) {
+        self.ops.push(Op::Outgoing { line, room });
+    }
+
     pub fn take(&mut self, line: u8, buffer: usize) {
         self.ops.push(Op::Take { line, buffer });
     }
@@ -241,19 +258,24 @@ impl Script {
         for op in &self.ops {
             match *op {
                 Op::Event { line, .. }
+                | Op::Start { line, .. }
                 | Op::State { line, .. }
                 | Op::Collected { line, .. }
                 | Op::Joined { line, .. }
                 | Op::Seconds { line, .. }
                 | Op::Next { line, .. }
                 | Op::Last { line, .. }
-                | Op::Refusing { line, .. } => {
+                | Op::Refusing { line, .. }
+                | Op::Tries { line, .. }
+                | Op::Place { line, .. } => {
                     if usize::from(line) < LINES {
                         lines.push(usize::from(line));
                     }
                 }
                 Op::Fresh => lines.extend(0..LINES),
-                Op::Take { .. }
+                Op::Outgoing { .. }
+                | Op::Take { .. }
+                | Op::Spare { .. }
                 | Op::InUse { .. }
                 | Op::Used { .. }
                 | Op::Serial { .. }
@@ -273,7 +295,7 @@ mod tests {
         let mut counts = vec![0; 256];
         for _ in 0..operations {
             let op = traffic.next(world);
-            if let Some(answer) = world.apply(op) {
+            if let Some(answer) = world.apply(&op) {
                 counts[usize::from(answer.number)] += 1;
             }
         }
@@ -285,7 +307,7 @@ mod tests {
         let mut world = World::fresh(0x6B);
         let counts = counts(&mut Traffic::new(1), &mut world, 200_000);
         for (number, count) in counts.iter().enumerate() {
-            let known = matches!(number, 0..=8 | 20..=31 | 40..=45 | 50..=53 | 55);
+            let known = matches!(number, 0..=9 | 20..=31 | 40..=46 | 50..=55 | 60 | 61);
             assert_eq!(*count > 0, known, "answer {}: {} times", number, count);
         }
     }
@@ -298,7 +320,7 @@ mod tests {
             let mut ops = Vec::new();
             for _ in 0..20_000 {
                 let op = traffic.next(&world);
-                world.apply(op);
+                world.apply(&op);
                 ops.push(op);
             }
             (ops, world)
@@ -309,7 +331,7 @@ mod tests {
 
     #[test]
     fn each_mix_reaches_what_it_aims_at() {
-        let aims: [(Mix, &[usize]); 15] = [
+        let aims: [(Mix, &[usize]); 17] = [
             (Mix::Noise, &[0, 1, 5, 20, 22]),
             (Mix::Polite, &[0, 1, 2, 3, 4, 5, 20]),
             (Mix::Damaged, &[21, 22, 23, 24, 25, 27, 2]),
@@ -319,8 +341,10 @@ mod tests {
             (Mix::Clock, &[0, 7]),
             (Mix::Flood, &[4, 31, 26]),
             (Mix::Takings, &[44]),
+            (Mix::Sending, &[0, 1, 9, 46, 50, 51, 52, 53, 54, 55, 60, 61]),
             (Mix::BrokenJournal, &[43, 8, 52, 55]),
-            (Mix::BeyondLimits, &[42, 3, 6]),
+            (Mix::BeyondLimits, &[42, 3, 6, 9, 60, 61]),
+            (Mix::OddSending, &[0, 9, 42, 60, 61]),
             (Mix::WrongSizes, &[40, 41, 44]),
             (Mix::WrongLines, &[40]),
             (Mix::FullJournal, &[4, 31, 8, 52, 55]),
@@ -349,7 +373,7 @@ mod tests {
                 Some(written) => written,
                 None => continue,
             };
-            let answer = world.apply(op).expect("traces hold no edits");
+            let answer = world.apply(&op).expect("traces hold no edits");
             let last = match (answer.number, crate::reply(answer.number)) {
                 (8, _) => answer.length.to_string(),
                 (_, Some(0x06)) => "06".to_string(),
@@ -367,6 +391,71 @@ mod tests {
             assert!(expected.contains(&row_end), "{}", row_end);
         }
         assert!(crate::listing(trace.as_bytes()) == expected);
+    }
+
+    #[test]
+    fn a_sending_meets_its_whole_table() {
+        let mut world = World::fresh(0x6B);
+        let mut traffic = Traffic::of(5, &[Mix::Sending]);
+        let mut met = std::collections::BTreeSet::new();
+        for _ in 0..60_000 {
+            let op = traffic.next(&world);
+            let before = world.model.lines;
+            let answer = world.apply(&op);
+            if let (Op::Event { line, .. }, Some(answer)) = (op, answer) {
+                let before = before[usize::from(line)];
+                let after = world.model.lines[usize::from(line)];
+                if before.state.is_sending() {
+                    met.insert((before.state as u8, before.tries, answer.reply));
+                    // Numbers past 7 are met too.
+                    assert!(after.next <= 7);
+                    if after.next == 0 {
+                        met.insert((6, 0, None));
+                    }
+                }
+            }
+        }
+        let (stx, eot, enq) = (Some(0x02), Some(0x04), Some(0x05));
+        for tries in 0..=5 {
+            for reply in [None, stx, eot] {
+                assert!(met.contains(&(3, tries, reply)), "{} {:?}", tries, reply);
+            }
+        }
+        for tries in 1..=5 {
+            for reply in [None, enq] {
+                assert!(met.contains(&(4, tries, reply)), "{} {:?}", tries, reply);
+            }
+        }
+        for tries in 1..=6 {
+            for reply in [None, stx, eot] {
+                assert!(met.contains(&(5, tries, reply)), "{} {:?}", tries, reply);
+            }
+        }
+        assert!(met.contains(&(6, 0, None)), "no number past 7");
+    }
+
+    #[test]
+    fn frames_are_fetched_with_room_and_without() {
+        let mut world = World::fresh(0x6B);
+        let mut traffic = Traffic::new(2);
+        let mut met = std::collections::BTreeSet::new();
+        for _ in 0..200_000 {
+            let op = traffic.next(&world);
+            world.apply(&op);
+            if let Op::Outgoing { room, .. } = op {
+                met.insert(match world.fetched.outcome {
+                    Ok(0) => "none",
+                    Ok(length) if length == room => "exact",
+                    Ok(_) => "longer",
+                    Err(40) => "40",
+                    Err(41) => "41",
+                    Err(42) => "42",
+                    Err(_) => "47",
+                });
+            }
+        }
+        let all = ["40", "41", "42", "47", "exact", "longer", "none"];
+        assert_eq!(met.into_iter().collect::<Vec<_>>(), all);
     }
 
     #[test]

@@ -7,6 +7,7 @@ use crate::answers::Answer;
 use crate::lines::{Kind, State};
 use crate::model::Model;
 use crate::{FRAMES, JOURNAL, LINES, UNFINISHED};
+use std::fmt;
 
 /// One of the three memories.
 #[derive(Clone, Copy, PartialEq, Eq, Debug)]
@@ -29,15 +30,35 @@ impl Memory {
     }
 }
 
-/// One thing done to a gateway. The first two have an answer, the others set what stands there.
-/// A line in an edit is 0 to 7; counts are no wider than the named types, so that narrower
-/// records can hold them.
-#[derive(Clone, Copy, PartialEq, Eq, Debug)]
+/// A text that is to be sent. It is told as its bytes, those that cannot be printed by their numbers.
+#[derive(Clone, PartialEq, Eq)]
+pub struct Text(pub Vec<u8>);
+
+impl fmt::Debug for Text {
+    fn fmt(&self, f: &mut fmt::Formatter) -> fmt::Result {
+        write!(f, "\"{}\"", self.0.escape_ascii())
+    }
+}
+
+/// One thing done to a gateway. Events, starts and takings have an answer, a fetched frame has an outcome,
+/// and the others set what stands there. A line in an edit is 0 to 7; counts are no wider than the named
+/// types, so that narrower records can hold them.
+#[derive(Clone, PartialEq, Eq, Debug)]
 pub enum Op {
     /// A byte or seconds, on any line 0 to 255.
     Event {
         line: u8,
         kind: Kind,
+    },
+    /// The start of a sending.
+    Start {
+        line: u8,
+        text: Text,
+    },
+    /// The frame that the line offers is fetched into so many bytes, each of them `BLANK`.
+    Outgoing {
+        line: u8,
+        room: usize,
     },
     /// A taking with a buffer of this length, each byte of it `BLANK`.
     Take {
@@ -77,6 +98,20 @@ pub enum Op {
         line: u8,
         refusing: bool,
     },
+    Tries {
+        line: u8,
+        count: u16,
+    },
+    Place {
+        line: u8,
+        place: u16,
+    },
+    /// One of a line's spare numbers.
+    Spare {
+        line: u8,
+        which: usize,
+        value: u16,
+    },
 
     InUse {
         count: u32,
@@ -105,10 +140,10 @@ pub enum Op {
 }
 
 impl Op {
-    /// The line of a trace that asks for this, if a trace can: it knows no edits, no lines over 9
-    /// and no buffers over 4,000.
-    pub fn trace(self) -> Option<String> {
-        match self {
+    /// The line of a trace that asks for this, if a trace can: it knows no edits, no sendings, no lines
+    /// over 9 and no buffers over 4,000.
+    pub fn trace(&self) -> Option<String> {
+        match *self {
             Op::Event { line, kind } if line <= 9 => Some(match kind {
                 Kind::Byte(byte) => format!("{} B {:02X}\n", line, byte),
                 Kind::Seconds(seconds) => format!("{} S {}\n", line, seconds),
@@ -121,11 +156,18 @@ impl Op {
     }
 }
 
-/// What a buffer holds before a taking.
+/// What a buffer holds before a taking, and before a frame is fetched into it.
 pub const BLANK: u8 = 0xB5;
 
 /// How many bytes a memory has beyond its right size, so that more than that can be lent.
 pub const SPARE: usize = 16;
+
+/// A frame that was fetched: how many bytes it has, or why it was refused; and what is in the buffer then.
+#[derive(Clone, PartialEq, Eq, Debug)]
+pub struct Fetched {
+    pub outcome: Result<usize, u8>,
+    pub out: Vec<u8>,
+}
 
 /// A model, its memories, and how much of them is lent.
 #[derive(Clone, PartialEq, Eq, Debug)]
@@ -139,6 +181,8 @@ pub struct World {
     pub lent: [usize; 3],
     /// The buffer of the last taking, as the taking left it.
     pub buffer: Vec<u8>,
+    /// The last frame that was fetched.
+    pub fetched: Fetched,
 }
 
 impl World {
@@ -151,15 +195,21 @@ impl World {
             frames: vec![contents; FRAMES + SPARE],
             lent: [JOURNAL, UNFINISHED, FRAMES],
             buffer: Vec::new(),
+            fetched: Fetched {
+                outcome: Ok(0),
+                out: Vec::new(),
+            },
         }
     }
 
-    /// Does one operation; events and takings give their answer.
-    pub fn apply(&mut self, op: Op) -> Option<Answer> {
+    /// Does one operation; events, starts and takings give their answer.
+    pub fn apply(&mut self, op: &Op) -> Option<Answer> {
         let records = &mut self.model.lines;
         let ledger = &mut self.model.ledger;
-        match op {
+        match *op {
             Op::Event { line, kind } => return Some(self.event(line, kind)),
+            Op::Start { line, ref text } => return Some(self.start(line, &text.0)),
+            Op::Outgoing { line, room } => self.fetch(line, room),
             Op::Take { line, buffer } => return Some(self.take(line, buffer)),
             Op::Fresh => {
                 self.model = Model::fresh();
@@ -174,6 +224,11 @@ impl World {
             Op::Next { line, number } => records[usize::from(line)].next = number,
             Op::Last { line, number } => records[usize::from(line)].last = number,
             Op::Refusing { line, refusing } => records[usize::from(line)].refusing = refusing,
+            Op::Tries { line, count } => records[usize::from(line)].tries = usize::from(count),
+            Op::Place { line, place } => records[usize::from(line)].place = usize::from(place),
+            Op::Spare { line, which, value } => {
+                self.model.spare[usize::from(line)][which] = value;
+            }
             Op::InUse { count } => ledger.in_use = count as usize,
             Op::Used { line, count } => ledger.used[usize::from(line)] = count as usize,
             Op::Serial { line, serial } => ledger.serials[usize::from(line)] = serial,
@@ -197,6 +252,26 @@ impl World {
             &mut self.unfinished[..unfinished],
             &mut self.frames[..frames],
         )
+    }
+
+    /// One start with what is lent now.
+    pub fn start(&mut self, line: u8, text: &[u8]) -> Answer {
+        let [journal, unfinished, frames] = self.lent;
+        self.model.start(
+            line,
+            text,
+            &self.journal[..journal],
+            &mut self.unfinished[..unfinished],
+            &self.frames[..frames],
+        )
+    }
+
+    /// The frame that a line offers, with what is lent now, into a blank buffer.
+    pub fn fetch(&mut self, line: u8, room: usize) {
+        let mut out = vec![BLANK; room];
+        let lent = &self.unfinished[..self.lent[Memory::Unfinished as usize]];
+        let outcome = self.model.outgoing(line, lent, &mut out);
+        self.fetched = Fetched { outcome, out };
     }
 
     /// One taking with what is lent now and a blank buffer.

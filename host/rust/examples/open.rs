@@ -8,9 +8,10 @@ fn main() {
     let mut gateway = Gateway::fresh();
     let line = 0;
     let answer = gateway.byte(line, ENQ);
-    match answer.reply() {
-        Some(reply) => println!("answer {}, reply {:02X}", answer.number(), reply),
-        None => println!("answer {}, no reply", answer.number()),
+    print!("answer {}, reply", answer.number());
+    for byte in answer.outgoing() {
+        print!(" {:02X}", byte);
     }
+    println!();
     assert_eq!(answer, Answer::Opened);
 }

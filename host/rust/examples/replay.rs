@@ -86,10 +86,11 @@ fn main() -> Result<()> {
         };
         events += 1;
         write!(out, "{} {} {} ", events, line, answer.number())?;
-        match (answer, answer.reply()) {
+        // A trace starts no sending, so one byte at most goes out.
+        match (&answer, answer.outgoing()) {
             (Answer::Taken { length, .. }, _) => writeln!(out, "{}", length)?,
-            (_, Some(reply)) => writeln!(out, "{:02X}", reply)?,
-            (_, None) => writeln!(out, "--")?,
+            (_, [reply, ..]) => writeln!(out, "{:02X}", reply)?,
+            (_, []) => writeln!(out, "--")?,
         }
     }
     writeln!(out, "{} events", events)?;

@@ -1,14 +1,21 @@
-//! Answers by name, faults of records, and refusals of the text functions.
+//! Answers by name, what goes to the analyzer with each, faults of records, and refusals of texts.
 
 use crate::boundary::Answered;
 use std::error::Error;
 use std::fmt;
 
-/// What an event or a taking was answered: each answer with its number, which is that of its rule in `docs/RULES.md`.
+pub(crate) const STX: u8 = 0x02;
+pub(crate) const EOT: u8 = 0x04;
+pub(crate) const ACK: u8 = 0x06;
+const NAK: u8 = 0x15;
+
+/// What an event, a start or a taking was answered: each answer with its number, which is that of its rule in
+/// `docs/RULES.md`.
 ///
-/// [`Answer::reply`] is the byte to send back to the analyzer. With [`Answer::Busy`], and with
-/// [`Answer::NoLine`] to [`Answer::BufferShort`], nothing has changed.
-#[derive(Clone, Copy, PartialEq, Eq, Debug)]
+/// [`Answer::outgoing`] is all that goes to the analyzer with it. With [`Answer::Busy`], with
+/// [`Answer::NoLine`] to [`Answer::BufferShort`], with [`Answer::NotNeutral`] and with [`Answer::NotSent`]
+/// nothing has changed.
+#[derive(Clone, PartialEq, Eq, Debug)]
 pub enum Answer {
     /// 0: the byte was ignored or collected, or the seconds were counted.
     Nothing,
@@ -32,6 +39,17 @@ pub enum Answer {
         length: usize,
         /// Its place among its line's messages; after 65,535 comes 0.
         serial: u16,
+    },
+    /// 9: the start or an event of a sending, which goes on.
+    Sending {
+        /// What is to be sent now: our ENQ, a whole frame, or nothing.
+        outgoing: Box<[u8]>,
+    },
+    /// 9: our EOT is to be sent. The sending is over, and the line neutral.
+    SendingEnded {
+        /// Whether the analyzer has acknowledged every frame. Where not, because it refused one six times or
+        /// did not reply in 15 seconds, it may have the message even so: a reply may have been lost.
+        acknowledged: bool,
     },
     /// 20: ENQ while a transfer is open.
     Busy,
@@ -77,11 +95,18 @@ pub enum Answer {
         /// Which record is wrong, counted from 1.
         place: u16,
     },
+    /// 46, 50 to 55: the text to send is not a message, so no sending is started.
+    NotSent(Refusal),
+    /// 60: a line that receives or sends cannot start to send.
+    NotNeutral,
+    /// 61: a sending is over, and nothing is to be sent: our ENQ was answered by ENQ, or refused for the sixth
+    /// time. The line is neutral.
+    GivenUp,
 }
 
 impl Answer {
     /// The answer's number.
-    pub fn number(self) -> u8 {
+    pub fn number(&self) -> u8 {
         match self {
             Answer::Nothing => 0,
             Answer::Opened => 1,
@@ -92,6 +117,7 @@ impl Answer {
             Answer::Dropped => 6,
             Answer::TimedOut => 7,
             Answer::Taken { .. } => 8,
+            Answer::Sending { .. } | Answer::SendingEnded { .. } => 9,
             Answer::Busy => 20,
             Answer::Unended => 21,
             Answer::Torn => 22,
@@ -111,20 +137,36 @@ impl Answer {
             Answer::NothingWaiting => 44,
             Answer::BufferShort => 45,
             Answer::Faulty { fault, .. } => fault.number(),
+            Answer::NotSent(refusal) => refusal.number(),
+            Answer::NotNeutral => 60,
+            Answer::GivenUp => 61,
         }
     }
 
-    /// The byte to send back to the analyzer: ACK (06) with 1 to 4, NAK (15) with 20 to 31 and with a
-    /// fault, else none.
-    pub fn reply(self) -> Option<u8> {
-        match self.number() {
-            1..=4 => Some(0x06),
-            20..=31 | 50..=55 => Some(0x15),
-            _ => None,
+    /// All that goes to the analyzer with this answer, from its first byte to its last: ACK (06) with 1 to
+    /// 4, NAK (15) with 20 to 31 and with [`Answer::Faulty`], our ENQ (05), our EOT (04) or a whole frame
+    /// with 9. It is empty where nothing is to be sent.
+    ///
+    /// ```
+    /// let mut gateway = ngachodui::Gateway::fresh();
+    /// assert_eq!(gateway.byte(3, 0x05).outgoing(), [0x06]); // ENQ, and the transfer is open
+    /// assert_eq!(gateway.byte(3, 0x05).outgoing(), [0x15]); // ENQ once more
+    /// assert_eq!(gateway.byte(3, 0x04).outgoing(), []); // EOT
+    /// ```
+    pub fn outgoing(&self) -> &[u8] {
+        match self {
+            Answer::Sending { outgoing } => outgoing,
+            Answer::SendingEnded { .. } => &[EOT],
+            Answer::NotSent(_) => &[],
+            answer => match answer.number() {
+                1..=4 => &[ACK],
+                20..=31 | 50..=55 => &[NAK],
+                _ => &[],
+            },
         }
     }
 
-    /// The answer that the library gave.
+    /// The answer that the library gave to an event that is none of a sending, or to a taking.
     pub(crate) fn of(answered: Answered) -> Answer {
         let answer = match answered.number {
             0 => Answer::Nothing,
@@ -157,6 +199,8 @@ impl Answer {
             43 => Answer::Broken,
             44 => Answer::NothingWaiting,
             45 => Answer::BufferShort,
+            60 => Answer::NotNeutral,
+            61 => Answer::GivenUp,
             number => match Fault::of(number) {
                 Some(fault) => Answer::Faulty {
                     fault,
@@ -166,8 +210,23 @@ impl Answer {
             },
         };
         debug_assert_eq!(answer.number(), answered.number);
-        debug_assert_eq!(answer.reply().unwrap_or(0), answered.reply);
+        debug_assert_eq!(answer.first(), answered.reply);
         answer
+    }
+
+    /// The answer that the library gave to a start, where none was made.
+    pub(crate) fn not_started(answered: Answered) -> Answer {
+        let answer = match Refusal::of(answered.number, answered.place) {
+            Some(refusal) => Answer::NotSent(refusal),
+            None => return Answer::of(answered),
+        };
+        debug_assert_eq!((answer.first(), answered.reply), (0, 0));
+        answer
+    }
+
+    /// The first byte that goes out, as the library tells it: 0 for nothing.
+    fn first(&self) -> u8 {
+        self.outgoing().first().copied().unwrap_or(0)
     }
 }
 
@@ -232,17 +291,17 @@ impl fmt::Display for Fault {
     }
 }
 
-/// Why a text was not cut, read, escaped or unescaped. Nothing was written.
+/// Why a text was not cut, read, sent, escaped or unescaped. Nothing was written.
 #[derive(Clone, Copy, PartialEq, Eq, Debug)]
 pub enum Refusal {
-    /// 46: the text to cut or read has over 4,000 bytes or one that is not allowed, or the one to
+    /// 46: the text to cut, read or send has over 4,000 bytes or one that is not allowed, or the one to
     /// unescape has a wrong escape.
     Malformed,
     /// 47: the output is longer than its memory.
     NotFitting,
     /// 55: the delimiters to escape or unescape with are not allowed.
     BadDelimiters,
-    /// 50 to 55: the text to cut or read is not a message.
+    /// 50 to 55: the text to cut, read or send is not a message.
     Faulty {
         /// What is wrong with it first.
         fault: Fault,
@@ -259,6 +318,17 @@ impl Refusal {
             Refusal::NotFitting => 47,
             Refusal::BadDelimiters => Fault::BadDelimiters.number(),
             Refusal::Faulty { fault, .. } => fault.number(),
+        }
+    }
+
+    /// The refusal of a text that the library named by this number and place, if it is one.
+    pub(crate) fn of(number: u8, place: u16) -> Option<Refusal> {
+        match (number, place) {
+            (46, _) => Some(Refusal::Malformed),
+            (47, _) => Some(Refusal::NotFitting),
+            // Delimiters that were given and not read: there is no record to name.
+            (55, 0) => Some(Refusal::BadDelimiters),
+            _ => Fault::of(number).map(|fault| Refusal::Faulty { fault, place }),
         }
     }
 }
@@ -280,32 +350,68 @@ impl Error for Refusal {}
 mod tests {
     use super::*;
 
+    fn answered(number: u8, reply: u8) -> Answered {
+        Answered {
+            number,
+            reply,
+            serial: 7,
+            place: 5,
+            digits: 0,
+            length: 9,
+        }
+    }
+
     #[test]
     fn each_answer_has_the_librarys_number_and_reply() {
-        for number in (0..=8).chain(20..=31).chain(40..=45).chain(50..=55) {
+        let events = (0..=8).chain(20..=31).chain(40..=45).chain(50..=55);
+        for number in events.chain([60, 61]) {
             let reply = match number {
                 1..=4 => 0x06,
                 20..=31 | 50..=55 => 0x15,
                 _ => 0,
             };
-            let answer = Answer::of(Answered {
-                number,
-                reply,
-                serial: 7,
-                place: 5,
-                digits: 0,
-                length: 9,
-            });
+            let answer = Answer::of(answered(number, reply));
             assert_eq!(answer.number(), number);
-            assert_eq!(answer.reply().unwrap_or(0), reply);
+            let sent = &[reply][..usize::from(reply != 0)];
+            assert_eq!(answer.outgoing(), sent);
             let taken = Answer::Taken {
                 length: 9,
                 serial: 7,
             };
             assert_eq!(answer == taken, number == 8);
             let has_place = matches!(answer, Answer::Faulty { place: 5, .. });
-            assert_eq!(has_place, number >= 50);
+            assert_eq!(has_place, (50..=55).contains(&number));
         }
+    }
+
+    #[test]
+    fn a_start_that_is_refused_sends_nothing() {
+        for number in (40..=42).chain([46]).chain(50..=55).chain([60]) {
+            let answer = Answer::not_started(answered(number, 0));
+            assert_eq!(answer.number(), number);
+            assert_eq!(answer.outgoing(), []);
+            let is_text = matches!(answer, Answer::NotSent(_));
+            assert_eq!(is_text, number == 46 || (50..=55).contains(&number));
+            let has_place = matches!(answer, Answer::NotSent(Refusal::Faulty { place: 5, .. }));
+            assert_eq!(has_place, (50..=55).contains(&number));
+        }
+    }
+
+    #[test]
+    fn a_sending_has_its_bytes_with_it() {
+        let outgoing: Box<[u8]> = Box::from(*b"\x021\r\x0341\r\n");
+        let answer = Answer::Sending { outgoing };
+        assert_eq!((answer.number(), answer.outgoing().len()), (9, 8));
+        for acknowledged in [false, true] {
+            let answer = Answer::SendingEnded { acknowledged };
+            assert_eq!((answer.number(), answer.outgoing()), (9, &[0x04][..]));
+        }
+    }
+
+    #[test]
+    fn an_answer_is_small() {
+        // It is handed on for every byte that comes in: a frame lies elsewhere.
+        assert!(std::mem::size_of::<Answer>() <= 24);
     }
 
     #[test]

@@ -78,6 +78,26 @@ extern "C" {
         frames: *mut u8,
         frames_length: usize,
     ) -> Answered;
+    fn ngachodui_send(
+        line: u8,
+        text: *const u8,
+        text_length: usize,
+        numbers: *mut u16,
+        journal: *const u8,
+        journal_length: usize,
+        unfinished: *mut u8,
+        unfinished_length: usize,
+        frames: *const u8,
+        frames_length: usize,
+    ) -> Answered;
+    fn ngachodui_outgoing(
+        line: u8,
+        numbers: *const u16,
+        unfinished: *const u8,
+        unfinished_length: usize,
+        out: *mut u8,
+        out_length: usize,
+    ) -> Made;
     fn ngachodui_take(
         line: u8,
         numbers: *const u16,
@@ -187,6 +207,43 @@ pub fn seconds(
             unfinished.len(),
             frames.as_mut_ptr(),
             frames.len(),
+        )
+    }
+}
+
+pub fn send(
+    line: u8,
+    text: &[u8],
+    numbers: &mut Numbers,
+    journal: &[u8],
+    unfinished: &mut [u8],
+    frames: &[u8],
+) -> Answered {
+    unsafe {
+        ngachodui_send(
+            line,
+            text.as_ptr(),
+            text.len(),
+            numbers.as_mut_ptr(),
+            journal.as_ptr(),
+            journal.len(),
+            unfinished.as_mut_ptr(),
+            unfinished.len(),
+            frames.as_ptr(),
+            frames.len(),
+        )
+    }
+}
+
+pub fn outgoing(line: u8, numbers: &Numbers, unfinished: &[u8], out: &mut [u8]) -> Made {
+    unsafe {
+        ngachodui_outgoing(
+            line,
+            numbers.as_ptr(),
+            unfinished.as_ptr(),
+            unfinished.len(),
+            out.as_mut_ptr(),
+            out.len(),
         )
     }
 }

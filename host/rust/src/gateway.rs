@@ -1,15 +1,20 @@
 //! A gateway that owns its memories.
 
-use crate::answers::Answer;
-use crate::boundary::{self, Counts, Numbers};
-use crate::layout::{COUNTS, FRAMES_SIZE, JOURNAL_SIZE, LINES, NUMBERS, UNFINISHED_SIZE};
+use crate::answers::{Answer, ACK, EOT, STX};
+use crate::boundary::{self, Answered, Counts, Numbers};
+use crate::layout::{
+    COUNTS, FRAMES_SIZE, FRAME_LIMIT, JOURNAL_SIZE, LINES, NUMBERS, UNFINISHED_SIZE,
+};
+
+/// The number of what answers a sending.
+const SENDING: u8 = 9;
 
 /// Eight serial lines and one journal, with all the memory that they need.
 ///
-/// Give each byte that comes in to [`byte`](Gateway::byte) and send back what the answer's
-/// [`reply`](Answer::reply) says; tell each line the time with [`seconds`](Gateway::seconds); fetch
-/// messages with [`take`](Gateway::take). Lines are numbered 0 to 7; with any other the answer is
-/// [`Answer::NoLine`] and nothing changes.
+/// Give each byte that comes in to [`byte`](Gateway::byte) and tell each line the time with
+/// [`seconds`](Gateway::seconds); send to the analyzer what the answer's [`outgoing`](Answer::outgoing) says,
+/// all of it. Fetch messages with [`take`](Gateway::take). Send messages with [`send`](Gateway::send). Lines
+/// are numbered 0 to 7; with any other the answer is [`Answer::NoLine`] and nothing changes.
 ///
 /// ```
 /// use ngachodui::{Answer, Gateway};
@@ -23,7 +28,7 @@ use crate::layout::{COUNTS, FRAMES_SIZE, JOURNAL_SIZE, LINES, NUMBERS, UNFINISHE
 ///     answer = gateway.byte(3, *byte);
 /// }
 /// assert_eq!(answer, Answer::Stored);
-/// assert_eq!(answer.reply(), Some(0x06)); // ACK: from now on the copy here is the only one
+/// assert_eq!(answer.outgoing(), [0x06]); // ACK: from now on the copy here is the only one
 ///
 /// let mut buffer = [0; ngachodui::TEXT_LIMIT];
 /// let answer = gateway.take(3, &mut buffer);
@@ -78,7 +83,7 @@ impl Gateway {
     ///     answer = gateway.byte(3, *byte);
     /// }
     /// assert_eq!(answer, Answer::Faulty { fault: Fault::Misnumbered, place: 3 });
-    /// assert_eq!(answer.reply(), Some(0x15)); // NAK
+    /// assert_eq!(answer.outgoing(), [0x15]); // NAK
     /// if let Answer::Faulty { fault, place } = answer {
     ///     println!("answer {}, record {}: {}", answer.number(), place, fault);
     ///     // answer 53, record 3: a wrong sequence number
@@ -86,7 +91,7 @@ impl Gateway {
     /// ```
     pub fn byte(&mut self, line: u8, byte: u8) -> Answer {
         let memory = &mut *self.memory;
-        Answer::of(boundary::byte(
+        let answered = boundary::byte(
             line,
             byte,
             &mut memory.numbers,
@@ -94,14 +99,20 @@ impl Gateway {
             &mut memory.journal,
             &mut memory.unfinished,
             &mut memory.frames,
-        ))
+        );
+        match answered.number {
+            // Our EOT behind one of these two says that there was no frame left to acknowledge.
+            SENDING => self.sending(line, answered, matches!(byte, ACK | EOT)),
+            _ => Answer::of(answered),
+        }
     }
 
     /// So many seconds have passed on a line since the last call that said so. After 30 without a
-    /// judged frame its transfer is over. The lines have no clock in common: tell each one.
+    /// judged frame its transfer is over; after 15 without a reply, and at the end of a pause of 10, its
+    /// sending goes on or is over. The lines have no clock in common: tell each one.
     pub fn seconds(&mut self, line: u8, seconds: u8) -> Answer {
         let memory = &mut *self.memory;
-        Answer::of(boundary::seconds(
+        let answered = boundary::seconds(
             line,
             seconds,
             &mut memory.numbers,
@@ -109,7 +120,92 @@ impl Gateway {
             &mut memory.journal,
             &mut memory.unfinished,
             &mut memory.frames,
-        ))
+        );
+        match answered.number {
+            SENDING => self.sending(line, answered, false),
+            _ => Answer::of(answered),
+        }
+    }
+
+    /// Starts to send a message on a line, which has to be neutral. The text is copied. What is to be sent
+    /// comes with this answer, our ENQ, and with those to the analyzer's replies and to the seconds that
+    /// pass, until it is [`Answer::SendingEnded`] or [`Answer::GivenUp`]. Then the host decides whether and
+    /// when to start again.
+    ///
+    /// ```
+    /// use ngachodui::{Answer, Gateway};
+    ///
+    /// let mut gateway = Gateway::fresh();
+    /// let line = 3;
+    /// let answer = gateway.send(line, b"H|\\^&\rL|1|N\r");
+    /// assert_eq!(answer.outgoing(), [0x05]); // our ENQ
+    /// // Each time that the analyzer replies with ACK, the next frame is to be sent:
+    /// assert_eq!(gateway.byte(line, 0x06).outgoing(), b"\x021H|\\^&\r\x03E5\r\n");
+    /// assert_eq!(gateway.byte(line, 0x06).outgoing(), b"\x022L|1|N\r\x0305\r\n");
+    /// let answer = gateway.byte(line, 0x06);
+    /// assert_eq!(answer.outgoing(), [0x04]); // our EOT
+    /// assert_eq!(answer, Answer::SendingEnded { acknowledged: true });
+    /// ```
+    ///
+    /// A refusal of our ENQ is followed by a pause in which nothing is heard, one of a frame by the same frame
+    /// again; each may be refused six times. Without a reply the sending is over after 15 seconds:
+    ///
+    /// ```
+    /// # use ngachodui::{Answer, Gateway};
+    /// # let mut gateway = Gateway::fresh();
+    /// # let line = 3;
+    /// gateway.send(line, b"H|\\^&\rL|1|N\r");
+    /// assert_eq!(gateway.byte(line, 0x15).outgoing(), []); // NAK: the line pauses
+    /// assert_eq!(gateway.byte(line, 0x05), Answer::Nothing); // even the analyzer's ENQ is ignored
+    /// assert_eq!(gateway.seconds(line, 10).outgoing(), [0x05]); // our ENQ again
+    /// let answer = gateway.seconds(line, 15);
+    /// assert_eq!(answer, Answer::SendingEnded { acknowledged: false });
+    /// ```
+    ///
+    /// A text that is no message is refused with [`Answer::NotSent`], and nothing is to be sent:
+    ///
+    /// ```
+    /// use ngachodui::{Answer, Fault, Gateway, Refusal};
+    ///
+    /// let answer = Gateway::fresh().send(3, b"H|\\^&\rP|1\rO|2\rL|1|N\r");
+    /// let refusal = Refusal::Faulty { fault: Fault::Misnumbered, place: 3 };
+    /// assert_eq!(answer, Answer::NotSent(refusal));
+    /// assert_eq!(answer.outgoing(), []);
+    /// ```
+    pub fn send(&mut self, line: u8, text: &[u8]) -> Answer {
+        let memory = &mut *self.memory;
+        let answered = boundary::send(
+            line,
+            text,
+            &mut memory.numbers,
+            &memory.journal,
+            &mut memory.unfinished,
+            &memory.frames,
+        );
+        match answered.number {
+            SENDING => self.sending(line, answered, false),
+            _ => Answer::not_started(answered),
+        }
+    }
+
+    /// Answer 9, with all that is to be sent.
+    fn sending(&self, line: u8, answered: Answered, acknowledged: bool) -> Answer {
+        let outgoing: Box<[u8]> = match answered.reply {
+            EOT => return Answer::SendingEnded { acknowledged },
+            STX => self.frame(line),
+            0 => Box::default(),
+            byte => Box::new([byte]),
+        };
+        Answer::Sending { outgoing }
+    }
+
+    /// The frame that a line offers.
+    fn frame(&self, line: u8) -> Box<[u8]> {
+        let mut frame = [0; FRAME_LIMIT];
+        let memory = &*self.memory;
+        let made = boundary::outgoing(line, &memory.numbers, &memory.unfinished, &mut frame);
+        debug_assert_eq!((made.number, frame[0]), (0, STX));
+        Box::from(&frame[..made.length])
     }
 
     /// Takes a line's oldest message out of the journal and puts its text at the start of the buffer;
@@ -237,6 +333,118 @@ mod tests {
             assert_eq!(gateway.byte(2, 0x04), Answer::Ended);
         }
         assert_eq!(gateway.used(2), 0);
+    }
+
+    /// What a line is sent by ACKs alone, and how its sending ends.
+    fn acknowledged(gateway: &mut Gateway, line: u8) -> (Vec<u8>, Answer) {
+        let mut sent = Vec::new();
+        loop {
+            match gateway.byte(line, ACK) {
+                Answer::Sending { outgoing } => sent.extend_from_slice(&outgoing),
+                answer => return (sent, answer),
+            }
+        }
+    }
+
+    #[test]
+    fn a_message_is_sent_as_it_is_cut() {
+        let mut gateway = Gateway::fresh();
+        let long = [b"H|\\^&", &[b'x'; 3_989][..], b"\rL|1|\r"].concat();
+        for text in [TEXT, &long] {
+            assert_eq!(gateway.send(7, text).outgoing(), [0x05]);
+            let (sent, end) = acknowledged(&mut gateway, 7);
+            let mut out = [0; crate::CUT_LIMIT];
+            let length = cut(text, &mut out).expect("a message");
+            assert_eq!(sent, out[..length]);
+            assert_eq!(end, Answer::SendingEnded { acknowledged: true });
+        }
+        assert_eq!(long.len(), crate::TEXT_LIMIT);
+    }
+
+    #[test]
+    fn six_refusals_end_a_sending() {
+        let mut gateway = Gateway::fresh();
+        // Of our ENQ: nothing is sent then.
+        gateway.send(0, TEXT);
+        for _ in 0..5 {
+            assert_eq!(gateway.byte(0, 0x15).outgoing(), []);
+            assert_eq!(gateway.seconds(0, 9).outgoing(), []);
+            assert_eq!(gateway.seconds(0, 1).outgoing(), [0x05]);
+        }
+        let answer = gateway.byte(0, 0x15);
+        assert_eq!((&answer, answer.outgoing()), (&Answer::GivenUp, &[][..]));
+        // Of a frame: the same frame each time, and our EOT.
+        gateway.send(0, TEXT);
+        let frame = gateway.byte(0, ACK);
+        for _ in 0..5 {
+            assert_eq!(gateway.byte(0, 0x15), frame);
+        }
+        let end = gateway.byte(0, 0x15);
+        assert_eq!(
+            end,
+            Answer::SendingEnded {
+                acknowledged: false
+            }
+        );
+        // The line is free again, and a start that is refused leaves it so.
+        assert_eq!(gateway.send(0, b"").number(), 50);
+        assert_eq!(gateway.byte(0, 0x05), Answer::Opened);
+        assert_eq!(gateway.send(0, TEXT), Answer::NotNeutral);
+        assert_eq!(gateway.send(8, TEXT), Answer::NoLine);
+    }
+
+    /// A gateway whose line 1 has sent its last frame for the sixth time.
+    fn at_the_last_send() -> Gateway {
+        let mut gateway = Gateway::fresh();
+        gateway.send(1, b"H|\\^&\rL|1\r");
+        gateway.byte(1, ACK);
+        gateway.byte(1, ACK);
+        for _ in 0..5 {
+            gateway.byte(1, 0x15);
+        }
+        gateway
+    }
+
+    #[test]
+    fn our_eot_tells_whether_all_was_acknowledged() {
+        for (byte, acknowledged) in [(ACK, true), (EOT, true), (0x05, false), (0x15, false)] {
+            let end = at_the_last_send().byte(1, byte);
+            assert_eq!(end, Answer::SendingEnded { acknowledged });
+        }
+        let end = at_the_last_send().seconds(1, 15);
+        let acknowledged = false;
+        assert_eq!(end, Answer::SendingEnded { acknowledged });
+    }
+
+    #[test]
+    fn both_ends_want_to_send() {
+        let mut gateway = Gateway::fresh();
+        gateway.send(4, TEXT);
+        assert_eq!(gateway.byte(4, 0x05), Answer::GivenUp);
+        assert_eq!(gateway.byte(4, 0x05), Answer::Opened);
+    }
+
+    #[test]
+    fn two_gateways() {
+        let mut host = Gateway::fresh();
+        let mut analyzer = Gateway::fresh();
+        let mut bytes = host.send(5, TEXT).outgoing().to_vec();
+        while !bytes.is_empty() {
+            let mut back = Vec::new();
+            for byte in bytes {
+                back.extend_from_slice(analyzer.byte(2, byte).outgoing());
+            }
+            bytes = Vec::new();
+            for byte in back {
+                bytes.extend_from_slice(host.byte(5, byte).outgoing());
+            }
+        }
+        let mut buffer = [0; 100];
+        let length = TEXT.len();
+        let taken = Answer::Taken { length, serial: 0 };
+        assert_eq!(analyzer.take(2, &mut buffer), taken);
+        assert_eq!(&buffer[..length], TEXT);
+        assert_eq!(analyzer.take(2, &mut buffer), Answer::NothingWaiting);
     }
 
     #[test]

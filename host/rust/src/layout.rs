@@ -6,7 +6,7 @@
 /// fresh has its name, so that a program of another version does not link.
 macro_rules! version {
     () => {
-        1
+        2
     };
 }
 pub(crate) use version;
@@ -17,8 +17,8 @@ pub const VERSION: u32 = version!();
 /// The lines are numbered from 0.
 pub const LINES: usize = 8;
 
-/// How many numbers a line has, and where each stands among them.
-pub const FIELDS: usize = 8;
+/// How many numbers a line has, and where each stands among them; those behind the last are spare.
+pub const FIELDS: usize = 16;
 pub const STATE: usize = 0;
 pub const COLLECTED: usize = 1;
 pub const JOINED: usize = 2;
@@ -27,6 +27,9 @@ pub const NEXT: usize = 4;
 pub const LAST: usize = 5;
 pub const REFUSING: usize = 6;
 pub const SERIAL: usize = 7;
+pub const TRIES: usize = 8;
+pub const PLACE: usize = 9;
+pub const SPARE: usize = 10;
 
 /// How many numbers all lines have.
 pub const NUMBERS: usize = LINES * FIELDS;

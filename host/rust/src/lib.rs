@@ -1,8 +1,8 @@
 //! Ngachodui for hosts in Rust: a gateway between laboratory analyzers and a results dashboard.
 //!
 //! Analyzers send frames (ASTM E1381) with records (E1394) down eight serial lines. A [`Gateway`]
-//! takes the bytes as they come, says which byte to send back, and keeps each whole message until the
-//! host takes it. [`cut`], [`read`], [`escape`], [`unescape`] and [`is_message`] work on texts alone; each
+//! takes the bytes as they come, says what to send to the analyzer, and keeps each whole message until the
+//! host takes it. It also sends messages of the host's, work orders, down the same lines. [`cut`], [`read`], [`escape`], [`unescape`] and [`is_message`] work on texts alone; each
 //! message names its own [`Delimiters`].
 //!
 //! The work is done by a library whose every function is proved to do what its contract says. This

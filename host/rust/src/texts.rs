@@ -1,6 +1,6 @@
 //! Messages cut, read, escaped and unescaped: no gateway needed.
 
-use crate::answers::{Fault, Refusal};
+use crate::answers::Refusal;
 use crate::boundary::{self, Made};
 
 /// One record of a message.
@@ -70,16 +70,12 @@ impl Delimiters {
 }
 
 fn outcome(made: Made) -> Result<usize, Refusal> {
-    match (made.number, made.place) {
-        (0, _) => Ok(made.length),
-        (46, _) => Err(Refusal::Malformed),
-        (47, _) => Err(Refusal::NotFitting),
-        // Delimiters that were given and not read: there is no record to name.
-        (55, 0) => Err(Refusal::BadDelimiters),
-        (number, place) => match Fault::of(number) {
-            Some(fault) => Err(Refusal::Faulty { fault, place }),
-            None => unreachable!("no text is answered {}", number),
-        },
+    if made.number == 0 {
+        return Ok(made.length);
+    }
+    match Refusal::of(made.number, made.place) {
+        Some(refusal) => Err(refusal),
+        None => unreachable!("no text is answered {}", made.number),
     }
 }
 
@@ -98,7 +94,8 @@ pub fn is_message(text: &[u8]) -> bool {
 }
 
 /// Cuts a message into the frames that send it and says how many bytes they are, at most
-/// [`CUT_LIMIT`](crate::CUT_LIMIT); the rest of `out` keeps its bytes.
+/// [`CUT_LIMIT`](crate::CUT_LIMIT); the rest of `out` keeps its bytes. To send a message use
+/// [`Gateway::send`](crate::Gateway::send): it sends these frames, each when its turn has come.
 ///
 /// ```
 /// let mut out = [0; 26];
@@ -228,6 +225,7 @@ pub fn unescape(
 #[cfg(test)]
 mod tests {
     use super::*;
+    use crate::Fault;
 
     const TEXT: &[u8] = b"H|\\^&\rP|1\rO|1\rR|1|^^^GLU|5.2\rC|1\rL|1|N\r";
 

@@ -22,6 +22,7 @@ use crate::frames::{frame, next_number, ENQ, EOT, ETX};
 use crate::layout::*;
 use crate::library::{numbered, Gateway, Memory};
 use crate::script::{decimal, each_step, hex, spelt, unknown, Step};
+use crate::shown::{digest, record};
 
 /// Each memory has so much more than its right size, and can be lent too long.
 const SPARE: usize = 1;
@@ -213,35 +214,4 @@ fn told(answer: Answered) -> String {
         (0, 0) => format!("{} {}", number, reply),
         (length, serial) => format!("{} {} {} {}", number, reply, length, serial),
     }
-}
-
-/// State, collected, joined, seconds, next, last, and R where the line refuses.
-fn record(numbers: &[u16]) -> String {
-    let last = match numbers[LAST] {
-        0 => "-".to_string(),
-        number => (number - 1).to_string(),
-    };
-    format!(
-        "{} {} {} {} {} {} {}",
-        ["N", "W", "I"]
-            .get(usize::from(numbers[STATE]))
-            .unwrap_or(&"?"),
-        numbers[COLLECTED],
-        numbers[JOINED],
-        numbers[SECONDS],
-        numbers[NEXT],
-        last,
-        ["-", "R"]
-            .get(usize::from(numbers[REFUSING]))
-            .unwrap_or(&"?")
-    )
-}
-
-/// The bytes as one number behind a 1, modulo the largest prime below 2^32, so that a change of any
-/// byte shows.
-fn digest(bytes: &[u8]) -> String {
-    let sum = bytes.iter().fold(1, |sum, &byte| {
-        (sum * 256 + u64::from(byte)) % 4_294_967_291
-    });
-    format!("{:08x}", sum)
 }

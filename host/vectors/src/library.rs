@@ -1,6 +1,6 @@
 //! The library with the memory that a host lends it.
 
-use crate::boundary::{self, Answered, Counts, Numbers};
+use crate::boundary::{self, Answered, Counts, Made, Numbers};
 use crate::layout::{COUNTS, FIELDS, IN_USE, LINES, NUMBERS, SERIAL};
 
 /// An answer's number, and where it has one the place of the record that is wrong.
@@ -12,6 +12,7 @@ pub fn numbered(number: u8, place: u16) -> String {
 }
 
 /// A memory, of which the first bytes are lent.
+#[derive(Clone)]
 pub struct Memory {
     pub bytes: Vec<u8>,
     pub lent: usize,
@@ -20,6 +21,10 @@ pub struct Memory {
 impl Memory {
     fn lend(&mut self) -> &mut [u8] {
         &mut self.bytes[..self.lent]
+    }
+
+    fn show(&self) -> &[u8] {
+        &self.bytes[..self.lent]
     }
 
     /// Changes one byte by hand.
@@ -36,6 +41,7 @@ impl From<Vec<u8>> for Memory {
     }
 }
 
+#[derive(Clone)]
 pub struct Gateway {
     pub numbers: Numbers,
     pub counts: Counts,
@@ -87,6 +93,21 @@ impl Gateway {
         )
     }
 
+    pub fn send(&mut self, line: u8, text: &[u8]) -> Answered {
+        boundary::send(
+            line,
+            text,
+            &mut self.numbers,
+            self.journal.show(),
+            self.unfinished.lend(),
+            self.frames.show(),
+        )
+    }
+
+    pub fn outgoing(&self, line: u8, out: &mut [u8]) -> Made {
+        boundary::outgoing(line, &self.numbers, self.unfinished.show(), out)
+    }
+
     pub fn take(&mut self, line: u8, buffer: &mut [u8]) -> Answered {
         boundary::take(
             line,
@@ -97,7 +118,7 @@ impl Gateway {
         )
     }
 
-    /// A line's numbers: its record, and its next serial as the last.
+    /// A line's numbers: its record, and its next serial among them.
     pub fn line(&self, line: usize) -> &[u16] {
         &self.numbers[FIELDS * line..][..FIELDS]
     }

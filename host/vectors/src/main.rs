@@ -1,7 +1,8 @@
-//! Runs a script of bytes, seconds, takings, cuttings, readings and escapings through the library, and shows
-//! what each step comes to.
+//! Runs a script of bytes, seconds, takings, starts, cuttings, readings and escapings through the library, and
+//! shows what each step comes to.
 //!
 //!     vectors gateway < SCRIPT       steps one by one, with every record and memory they leave
+//!     vectors sending < SCRIPT       lines that send, with all that goes to the analyzer
 //!     vectors cutting < SCRIPT       messages cut into frames, sent and taken again, and read
 //!     vectors delimiters < SCRIPT    texts escaped and unescaped, and every byte where a delimiter stands
 //!     vectors stretches < SCRIPT     whole traces, run and told again stretch by stretch
@@ -20,6 +21,8 @@ mod gateway;
 mod layout;
 mod library;
 mod script;
+mod sending;
+mod shown;
 mod stretches;
 
 use std::env::args;
@@ -31,10 +34,11 @@ fn main() {
     let run: fn(&str) -> Result<bool, String> =
         match (arguments.next().as_deref(), arguments.next()) {
             (Some("gateway"), None) => gateway::run,
+            (Some("sending"), None) => sending::run,
             (Some("cutting"), None) => cutting::run,
             (Some("delimiters"), None) => delimiters::run,
             (Some("stretches"), None) => stretches::run,
-            _ => refuse("usage: vectors gateway|cutting|delimiters|stretches < SCRIPT"),
+            _ => refuse("usage: vectors gateway|sending|cutting|delimiters|stretches < SCRIPT"),
         };
     let mut script = String::new();
     if let Err(error) = stdin().read_to_string(&mut script) {

@@ -6,9 +6,10 @@ use super::{Mix, Script};
 use crate::frames::{after, write};
 use crate::journal::{header, Entry, HEADER, SHARE, TEXT_LIMIT};
 use crate::lines::{State, COLLECTED_LIMIT, JOINED_LIMIT, NUMBER_LIMIT, SECONDS_LIMIT};
-use crate::texts::{ENQ, EOT, ETB, ETX, LF, STX};
+use crate::model::SPARE_FIELDS;
+use crate::texts::{ACK, CR, DC1, ENQ, EOT, ETB, ETX, LF, NAK, STX};
 use crate::world::{Memory, Op, World, SPARE};
-use crate::{JOURNAL, LINES};
+use crate::{JOURNAL, LINES, UNFINISHED_PART};
 
 /// A script of this mix for a gateway as it stands.
 pub fn script(mix: Mix, random: &mut Random, world: &World) -> Script {
@@ -19,6 +20,7 @@ pub fn script(mix: Mix, random: &mut Random, world: &World) -> Script {
     match mix {
         Mix::BrokenJournal => writer.broken_journal(world),
         Mix::BeyondLimits => writer.beyond_limits(world),
+        Mix::OddSending => writer.odd_sending(),
         Mix::WrongSizes => writer.wrong_sizes(world),
         Mix::WrongLines => writer.wrong_lines(),
         Mix::FullJournal => writer.full_journal(),
@@ -103,6 +105,8 @@ impl Writer<'_> {
 
     /// A line brought to neutral from any state, then a transfer up to a decided message.
     fn decided(&mut self, line: u8, text: &[u8]) {
+        // A line that pauses asks once more before it is done.
+        self.script.seconds(line, 255);
         self.script.seconds(line, 255);
         self.script.byte(line, ENQ);
         let mut number = 1;
@@ -267,14 +271,13 @@ impl Writer<'_> {
     fn beyond_limits(&mut self, world: &World) {
         let line = self.any_line();
         let record = world.model.lines[usize::from(line)];
+        let mut state = record.state;
         if self.random.once_in(2) {
-            let state = self
-                .random
-                .pick(&[State::Neutral, State::Waiting, State::Inside]);
-            self.script.push(Op::State { line, state });
+            state = self.random.pick(&State::ALL);
+            self.set_state(line, state);
         }
         // The field set, and how to put it back where it was set beyond its limit.
-        let (op, back) = match self.random.below(6) {
+        let (op, back) = match self.random.below(8) {
             0 => {
                 let count = self.random.pick(&[246, 247, 255, 256, 65_535, 245, 244]);
                 let old = record.collected as u16;
@@ -315,6 +318,18 @@ impl Writer<'_> {
                 };
                 (op, (number > NUMBER_LIMIT).then_some(back))
             }
+            5 => {
+                let count = self.random.pick(&[1, 5, 6, 7, 255, 256, 65_535]);
+                let back = Op::Tries { line, count: 0 };
+                let beyond = usize::from(count) > state.most_tries();
+                (Op::Tries { line, count }, beyond.then_some(back))
+            }
+            6 => {
+                let place = self.random.pick(&[1, 3_999, 4_000, 4_001, 65_535]);
+                let back = Op::Place { line, place: 0 };
+                let beyond = usize::from(place) > state.most_place();
+                (Op::Place { line, place }, beyond.then_some(back))
+            }
             _ => {
                 let refusing = !record.refusing;
                 (Op::Refusing { line, refusing }, None)
@@ -322,7 +337,7 @@ impl Writer<'_> {
         };
         self.script.push(op);
         for _ in 0..self.random.between(2, 6) {
-            match self.random.below(8) {
+            match self.random.below(10) {
                 0 => self.script.byte(line, ENQ),
                 1 => self.script.byte(line, EOT),
                 2 => self.script.byte(line, STX),
@@ -341,11 +356,114 @@ impl Writer<'_> {
                     let end = self.random.pick(&[ETB, ETX]);
                     self.script.bytes(line, &write(number, &text, end));
                 }
-                _ => self.script.take(line, 4_000),
+                7 => self.script.take(line, 4_000),
+                8 => {
+                    let text = right(self.random, 20);
+                    self.script.start(line, text);
+                }
+                _ => self.script.fetch(line, 247),
             }
         }
         // Beyond its limit the record was not changed by any event, so the old value fits again.
         self.script.ops.extend(back);
+    }
+
+    /// A line's state, with the tries and the place that every state may have.
+    fn set_state(&mut self, line: u8, state: State) {
+        self.script.push(Op::State { line, state });
+        self.script.push(Op::Tries { line, count: 0 });
+        self.script.push(Op::Place { line, place: 0 });
+    }
+
+    /// A sending that no run reaches, and what follows by the words of the rules.
+    fn odd_sending(&mut self) {
+        let line = self.any_line();
+        let state = self
+            .random
+            .pick(&[State::Asking, State::Pausing, State::Offering]);
+        self.set_state(line, state);
+        let joined = self
+            .random
+            .pick(&[0, 1, 5, 239, 240, 241, 300, 3_999, 4_000]);
+        let count = joined as u16;
+        self.script.push(Op::Joined { line, count });
+        self.set_text(line, joined);
+        let tries = self.random.pick(&[0, 1, 4, 5, 6, 7]);
+        let count = tries as u16;
+        self.script.push(Op::Tries { line, count });
+        let near = joined.saturating_sub(self.random.below(250));
+        let places = [0, 0, near, near, joined, joined + 1, 4_000, 4_001];
+        let place = self.random.pick(&places);
+        self.script.push(Op::Place {
+            line,
+            place: place as u16,
+        });
+        self.set_other_numbers(line);
+        self.odd_events(line);
+        if tries > state.most_tries() || place > state.most_place() || self.random.once_in(2) {
+            self.set_state(line, State::Neutral);
+        }
+    }
+
+    /// A text of any bytes, allowed or not, with a few CRs where a piece may end.
+    fn set_text(&mut self, line: u8, joined: usize) {
+        for _ in 0..self.random.below(6) {
+            let back = self.random.below(250.min(joined + 1));
+            let index = usize::from(line) * UNFINISHED_PART + joined.saturating_sub(back + 1);
+            let value = self.random.pick(&[CR, CR, b'x', 0x00, LF]);
+            self.script.push(Op::Poke {
+                memory: Memory::Unfinished,
+                index,
+                value,
+            });
+        }
+    }
+
+    /// What else a record holds: a sending changes it, or keeps it.
+    fn set_other_numbers(&mut self, line: u8) {
+        let number = self.random.below(8) as u8;
+        self.script.push(Op::Next { line, number });
+        if self.random.once_in(2) {
+            let count = self.random.pick(&[0, 1, 9, 10, 14, 15, 28, 29]);
+            self.script.push(Op::Seconds { line, count });
+        }
+        if self.random.once_in(4) {
+            let count = self.random.below(COLLECTED_LIMIT + 1) as u16;
+            self.script.push(Op::Collected { line, count });
+            let number = Some(self.random.below(8) as u8);
+            self.script.push(Op::Last { line, number });
+            let refusing = self.random.once_in(2);
+            self.script.push(Op::Refusing { line, refusing });
+        }
+        if self.random.once_in(2) {
+            let which = self.random.below(SPARE_FIELDS);
+            let value = self.random.pick(&[0, 1, 255, 65_535]);
+            self.script.push(Op::Spare { line, which, value });
+        }
+    }
+
+    fn odd_events(&mut self, line: u8) {
+        for _ in 0..self.random.between(2, 8) {
+            match self.random.below(8) {
+                0 | 1 => self.script.byte(line, ACK),
+                2 => {
+                    let byte = self.random.pick(&[NAK, ENQ, EOT, DC1, STX, 0x00, 0xFF]);
+                    self.script.byte(line, byte);
+                }
+                3 => {
+                    let seconds = self.random.pick(&[0, 1, 9, 10, 14, 15, 255]);
+                    self.script.seconds(line, seconds);
+                }
+                4 => {
+                    let text = right(self.random, 40);
+                    self.script.start(line, text);
+                }
+                _ => {
+                    let room = self.random.pick(&[0, 6, 7, 8, 20, 246, 247, 300]);
+                    self.script.fetch(line, room);
+                }
+            }
+        }
     }
 
     fn wrong_sizes(&mut self, world: &World) {
@@ -361,12 +479,20 @@ impl Writer<'_> {
         }
         for _ in 0..self.random.between(1, 4) {
             let line = if self.random.once_in(4) { 8 } else { line };
-            match self.random.below(4) {
+            match self.random.below(6) {
                 0 => self.script.byte(line, ENQ),
                 1 => self.script.seconds(line, 30),
                 2 => {
                     let byte = self.random.byte();
                     self.script.byte(line, byte);
+                }
+                3 => {
+                    let text = right(self.random, 20);
+                    self.script.start(line, text);
+                }
+                4 => {
+                    let room = self.random.pick(&[0, 247]);
+                    self.script.fetch(line, room);
                 }
                 _ => {
                     let buffer = self.random.pick(&[0, 4_000]);
@@ -387,13 +513,18 @@ impl Writer<'_> {
     fn wrong_lines(&mut self) {
         for _ in 0..self.random.between(1, 4) {
             let line = self.random.pick(&[8, 9, 15, 16, 127, 128, 136, 255]);
-            match self.random.below(4) {
+            match self.random.below(6) {
                 0 => self.script.byte(line, ENQ),
                 1 => self.script.seconds(line, 255),
                 2 => {
                     let byte = self.random.byte();
                     self.script.byte(line, byte);
                 }
+                3 => {
+                    let text = right(self.random, 20);
+                    self.script.start(line, text);
+                }
+                4 => self.script.fetch(line, 247),
                 _ => self.script.take(line, 4_000),
             }
         }

@@ -5,7 +5,8 @@ use super::random::Random;
 use super::{Mix, Script};
 use crate::frames::{after, write};
 use crate::lines::{Line, State};
-use crate::texts::{ACK, CR, ENQ, EOT, ETB, ETX, LF, NAK, STX};
+use crate::sender::outgoing;
+use crate::texts::{ACK, CR, DC1, ENQ, EOT, ETB, ETX, LF, NAK, STX};
 use crate::world::{Memory, Op, World};
 use crate::{JOURNAL, UNFINISHED_PART};
 
@@ -27,6 +28,7 @@ pub fn script(mix: Mix, random: &mut Random, line: u8, world: &World) -> Script 
         Mix::Clock => writer.clock(record),
         Mix::Flood => writer.flood(record),
         Mix::Takings => writer.takings(world),
+        Mix::Sending => writer.sending(record, world),
         _ => unreachable!("{:?} is for the whole gateway", mix),
     }
     writer.script
@@ -64,9 +66,18 @@ impl Writer<'_> {
                     self.seconds(255);
                 }
             }
+            State::Asking | State::Pausing | State::Offering => self.end_sending(record),
         }
         self.send(&[ENQ]);
         1
+    }
+
+    /// Seconds that end a sending. A line that pauses first asks once more.
+    fn end_sending(&mut self, record: &Line) {
+        if record.state == State::Pausing {
+            self.seconds(10);
+        }
+        self.seconds(15);
     }
 
     /// A text as frames from this number on: each record for itself, packed full, or cut anywhere.
@@ -381,6 +392,122 @@ impl Writer<'_> {
         }
     }
 
+    /// A start on a line that does not send, or the next events of one that does.
+    fn sending(&mut self, record: &Line, world: &World) {
+        if record.state.is_sending() {
+            self.fetch(world);
+        } else {
+            let text = self.order();
+            self.script.start(self.line, text);
+            if record.state != State::Neutral && self.random.once_in(2) {
+                self.open(record);
+                self.send(&[EOT]);
+            }
+        }
+        for _ in 0..self.random.below(4) {
+            let temper = self.random.pick(&Temper::ALL);
+            self.replies(temper);
+        }
+    }
+
+    /// The frame that the line offers now, with room around what it needs.
+    fn fetch(&mut self, world: &World) {
+        let line = usize::from(self.line);
+        let record = &world.model.lines[line];
+        let text =
+            &world.unfinished[line * UNFINISHED_PART..][..record.joined.min(UNFINISHED_PART)];
+        let needed = outgoing(record, text).len();
+        let room = match self.random.below(6) {
+            0 => 0,
+            1 => needed.saturating_sub(1),
+            2 => needed + 1,
+            3 => 300,
+            4 => 247,
+            _ => needed,
+        };
+        self.script.fetch(self.line, room);
+    }
+
+    /// A text to send: most often a message, now and then with a record that goes on in a second frame.
+    fn order(&mut self) -> Vec<u8> {
+        let longest = self.random.pick(&[11, 30, 100, 300, 700]);
+        match self.random.below(12) {
+            0..=2 => wrong(self.random, longest),
+            3 | 4 => self.not_a_text(),
+            5 => {
+                let record = self.random.pick(&[238, 239, 240, 241, 242, 480, 481]);
+                with_record_of(record)
+            }
+            6 if self.random.once_in(4) => {
+                let length = self.random.between(3_999, 4_001);
+                exact(self.random, length)
+            }
+            _ => right(self.random, longest),
+        }
+    }
+
+    /// A text with a byte that is not allowed, without a CR at its end, or with nothing in it.
+    fn not_a_text(&mut self) -> Vec<u8> {
+        let mut text = right(self.random, 60);
+        match self.random.below(4) {
+            0 => text.clear(),
+            1 => {
+                text.pop();
+            }
+            _ => {
+                let place = self.random.below(text.len());
+                text[place] = self.random.pick(&[0x00, STX, LF, 0x1F, 0x7F, 0xFF]);
+            }
+        }
+        text
+    }
+
+    /// Replies and seconds of one temper.
+    fn replies(&mut self, temper: Temper) {
+        for _ in 0..self.random.between(1, temper.patience()) {
+            match temper {
+                Temper::Willing => self.send(&[ACK]),
+                Temper::Refusing => {
+                    let byte = self.random.pick(&[NAK, NAK, DC1, EOT, 0x00, 0xFF]);
+                    self.send(&[byte]);
+                    if self.random.once_in(2) {
+                        self.seconds(10);
+                    }
+                }
+                Temper::Silent => self.wait(),
+                Temper::Any => self.reply(),
+            }
+            // What is offered then, if anything is, with room for any frame.
+            if self.random.once_in(3) {
+                self.script.fetch(self.line, 247);
+            }
+        }
+    }
+
+    /// One reply, of every kind.
+    fn reply(&mut self) {
+        match self.random.below(20) {
+            0..=11 => self.send(&[ACK]),
+            12 | 13 => self.send(&[NAK]),
+            14 => self.send(&[ENQ]),
+            15 => self.send(&[EOT]),
+            16 | 17 => {
+                let byte = match self.random.below(3) {
+                    0 => DC1,
+                    1 => self.random.pick(&[STX, LF, 0x00, 0xFF]),
+                    _ => self.random.byte(),
+                };
+                self.send(&[byte]);
+            }
+            _ => self.wait(),
+        }
+    }
+
+    fn wait(&mut self) {
+        let seconds = self.random.pick(&[0, 1, 1, 4, 5, 9, 10, 14, 15, 255]);
+        self.seconds(seconds);
+    }
+
     fn takings(&mut self, world: &World) {
         let ledger = &world.model.ledger;
         let oldest = ledger.oldest(&world.journal[..JOURNAL], usize::from(self.line));
@@ -396,6 +523,45 @@ impl Writer<'_> {
         };
         self.script.take(self.line, buffer);
     }
+}
+
+/// How an analyzer answers a sending for a while.
+#[derive(Clone, Copy)]
+enum Temper {
+    /// ACK and nothing else: frames go by, to our EOT.
+    Willing,
+    /// Bytes that refuse our ENQ, with pauses; one of them, EOT, acknowledges a frame.
+    Refusing,
+    /// Seconds alone.
+    Silent,
+    /// ACK in three of five, and everything else.
+    Any,
+}
+
+impl Temper {
+    const ALL: [Temper; 4] = [
+        Temper::Willing,
+        Temper::Refusing,
+        Temper::Silent,
+        Temper::Any,
+    ];
+
+    /// The most events that it lasts.
+    fn patience(self) -> usize {
+        match self {
+            Temper::Willing | Temper::Refusing => 10,
+            Temper::Silent => 3,
+            Temper::Any => 8,
+        }
+    }
+}
+
+/// A message whose first record has so many bytes, its CR counted.
+fn with_record_of(length: usize) -> Vec<u8> {
+    let mut text = b"H|\\^&".to_vec();
+    text.resize(length - 1, b'x');
+    text.extend_from_slice(b"\rL|1\r");
+    text
 }
 
 /// A frame whose number digit is any byte.
