@@ -1,6 +1,7 @@
 // The answers, their numbers, and the byte that goes out with each.
 ghost use mathlib.Core.Path.{_≡_};
 ghost use Rattle.answers.specs.Paper.{faultNumber, numberOf, placeOf, replyOf, parcelByte, firstOut};
+ghost use Rattle.answers.specs.declared.Answer.the-variants.{Nothing};
 ghost use Rattle.answers.specs.InNumbers.{replyByte, inNumbers as InNumbers·inNumbers, done as InNumbers·done, refusedWith};
 use characters::ENQ;
 use characters::EOT;
@@ -214,6 +215,20 @@ pub fn in_numbers(answer: Answer) -> Answered
         reply: reply_byte(answer.reply()),
         serial: 0,
         place: answer.place(),
+        digits: 0,
+        length: 0,
+    }
+}
+
+// The answer to an event that is ignored or only collected, or begins a frame: most events are, and need no look at the answers.
+pub fn nothing() -> Answered
+    ensures { λ r. ⌜ r ≡ InNumbers·inNumbers Nothing ⌝ }
+{
+    Answered {
+        number: 0,
+        reply: 0,
+        serial: 0,
+        place: 0,
         digits: 0,
         length: 0,
     }

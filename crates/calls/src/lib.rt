@@ -45,7 +45,7 @@ pub fn byte(
         return answers::in_numbers(Answer::WrongSize);
     }
     if numbers::collect(i, byte, numbers, frames) {
-        return answers::in_numbers(Answer::Nothing);
+        return answers::nothing();
     }
     let e = Event {
         line,
@@ -104,7 +104,7 @@ fn event(
     }
     let kind = e.kind;
     if numbers::begin(i, kind, numbers) {
-        return answers::in_numbers(Answer::Nothing);
+        return answers::nothing();
     }
     step(e, numbers, counts, journal, unfinished, frames)
 }

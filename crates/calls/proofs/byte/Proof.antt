@@ -55,7 +55,7 @@ returns-3 c =
     let collected = taken .before .before .before in
     let past = size collected in
     let start = entry (past .before) in
-    by-collected (kept start) (start .args .line) (start .args .byte) (on-line past) (sizes past) (collected .collect .ensures) (taken .if3 .taken) (c .in-numbers3 .ensures)
+    by-collected (kept start) (start .args .line) (start .args .byte) (on-line past) (sizes past) (collected .collect .ensures) (taken .if3 .taken) (c .nothing .ensures)
 
 event-requires : tie.Need-event-requires
 event-requires c κs =

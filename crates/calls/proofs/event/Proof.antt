@@ -38,7 +38,7 @@ returns-2 c =
     let begun = c .before .before in
     let past = begun .before .before in
     let start = entry (past .before) in
-    by-begun (kept start) (start .args .e) (start .pre .1) (within past) (begun .begin .ensures) (c .before .if2 .taken) (c .in-numbers2 .ensures)
+    by-begun (kept start) (start .args .e) (start .pre .1) (within past) (begun .begin .ensures) (c .before .if2 .taken) (c .nothing .ensures)
 
 step-requires : tie.Need-step-requires
 step-requires c κs =
