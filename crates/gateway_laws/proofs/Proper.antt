@@ -126,5 +126,5 @@ module _ (shares : List ℕ) (l : Line) (d : Ledger) (e : Event) (j u f : List �
   verdict-proper = by-found (verdictOf shares l d e j u f) (verdict-found shares l d e j u f)
     where
       by-found : (v : Verdict) → Found shares l d e j u f v → Proper v
-      by-found v (refused b q) = q
+      by-found v (refused b q n) = q
       by-found v (worked w) = subst Proper (sym (w .work)) (work-proper (w .ready))
