@@ -34,7 +34,7 @@ use Rattle.gateway_laws.specs.Classes.{against, sending, classOf}
 use Rattle.gateway_laws.specs.Inner.Classes.{actClass, Goes}
 use Rattle.gateway_laws.proofs.Found.{Found, refused, worked, verdict-found}
 
-parcel-sends : (s : Sending) → classOf (Sends (parcelOf s)) ≡ sending
+pub parcel-sends : (s : Sending) → classOf (Sends (parcelOf s)) ≡ sending
 parcel-sends (Asking n) = refl
 parcel-sends (Pausing n) = refl
 parcel-sends (Offering n at) = refl
