@@ -8,6 +8,7 @@ use borrow.Author.Tests.{lt-ltb, le-ltb, ltb-true, eq-eqb, ne-eqb}
 use lib.Dec.{ltb, eqb}
 use lib.ListN.{length, set}
 use Rattle.memory.specs.Sizes.{lines, frameLimit, framesSize}
+use Rattle.memory.specs.Tests.{is}
 use Rattle.characters.specs.Control.{lf}
 use Rattle.line.specs.Line.{mostCollected}
 use Rattle.memory.proofs.Tests.{and-left, and-right}
@@ -26,13 +27,18 @@ module _ (ns : List ℕ) (i b : ℕ) where
       and-false true = refl
       and-false false = refl
 
-  pub quick-rest : firstAt ns i ≡ inside → (b ≡ lf → ⊥) → withinNumbers ns i ≡ true → quick ns i b ≡ not (eqb (numberAt ns i 1) (frameLimit - 2))
+  pub quick-full : numberAt ns i 1 ≡ frameLimit - 2 → false ≡ quick ns i b
   unfolding onlyCollects mostCollected
-  quick-rest s n w = rw (s, ne-eqb b lf n, w) (and-true (not (eqb (numberAt ns i 1) (frameLimit - 2))))
+  quick-full e = rw (eq-eqb (numberAt ns i 1) (frameLimit - 2) e) (sym (both-false (eqb (firstAt ns i) inside) (not (is lf b)) (withinNumbers ns i)))
     where
-      and-true : (a : Bool) → a && true ≡ a
-      and-true true = refl
-      and-true false = refl
+      both-false : (a c d : Bool) → (a && (c && false)) && d ≡ false
+      both-false true true d = refl
+      both-false true false d = refl
+      both-false false c d = refl
+
+  pub quick-rest : firstAt ns i ≡ inside → (b ≡ lf → ⊥) → (numberAt ns i 1 ≡ frameLimit - 2 → ⊥) → quick ns i b ≡ withinNumbers ns i
+  unfolding onlyCollects mostCollected
+  quick-rest s n c = rw (s, ne-eqb b lf n, ne-eqb (numberAt ns i 1) (frameLimit - 2) c)
 
 -- a byte: not collected on no line, in frames of another size, or where it is not quick
 module _ (ns : List ℕ) (i b : ℕ) (f : List ℕ) where

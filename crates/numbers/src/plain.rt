@@ -45,7 +45,7 @@ struct Stated {
     place: u16,
 }
 
-// Whether a line's numbers are those of a record within its limits. Tries and place come early: both are then tested in one, while a register is free.
+// Whether a line's numbers are those of a record within its limits.
 pub fn is_within(numbers: &[u16; NUMBERS], i: usize) -> bool
     requires { ⌜ i < lines ⌝ }
     ensures { λ r. ⌜ r ≡ withinNumbers (now (numbers .entry)) i ⌝ }
@@ -97,7 +97,8 @@ fn sending_fits(state: u16, tries: u16, place: u16) -> bool
     place <= Line::MOST_JOINED
 }
 
-// Whether a byte is only collected, inside a frame that it does not end, and its line's numbers are within their limits: in this order none is compared twice.
+// Whether a byte is only collected, inside a frame that it does not end, and its line's numbers are within their limits: in this order none is compared twice once
+// it is compiled, and tries and place are tested while a register is free.
 pub fn is_quick(numbers: &[u16; NUMBERS], i: usize, byte: u8) -> bool
     requires { ⌜ i < lines ⌝ }
     ensures { λ r. ⌜ r ≡ quick (now (numbers .entry)) i byte ⌝ }
@@ -109,10 +110,13 @@ pub fn is_quick(numbers: &[u16; NUMBERS], i: usize, byte: u8) -> bool
     if byte == LF {
         return false;
     }
-    if !is_within(numbers, i) {
+    if !sending_fits(numbers[at], numbers[at + TRIES], numbers[at + PLACE]) {
         return false;
     }
-    numbers[at + COLLECTED] != Line::MOST_COLLECTED
+    if numbers[at + COLLECTED] == Line::MOST_COLLECTED {
+        return false;
+    }
+    is_within(numbers, i)
 }
 
 // The byte behind those collected, and one more collected.

@@ -1,14 +1,23 @@
 -- `numbers::plain::is_quick` meets its contract.
 -- Assumes nothing.
 use mathlib.Core.Path.{sym, _∙_}
-use borrow.Author.Needs.{needs}
+use native.Mathlib.Omega.{arith}
 use denote.Ref.{now}
-use borrow.Author.Tests.{not-true, not-false}
+use borrow.Author.Needs.{needs}
+use borrow.Author.Tests.{not-true}
 use Rattle.memory.proofs.Branches.{branches}
 use Rattle.numbers.specs.Plain.{onlyCollects}
-use Rattle.numbers.proofs.Changes.{quick-beyond, quick-rest}
+use Rattle.numbers.proofs.Numbers.{within-unfit}
+use Rattle.numbers.proofs.Changes.{quick-beyond, quick-full, quick-rest}
 use Rattle.numbers.proofs.plain.is_quick.Statement.{statement}
 use Rattle.numbers.proofs.plain.is_quick.Tie as tie
+
+-- behind the tests of state and byte, from behind that of tries and place
+abbrev text : tie.After-sending-fits → tie.Else2
+text c = c .before .before .before .before
+
+abbrev entry : tie.Else2 → tie.Start
+entry c = c .before .before .before
 
 returns : tie.Need-returns
 unfolding onlyCollects
@@ -20,18 +29,23 @@ returns-2 c = search branches
 
 returns-3 : tie.Need-returns-3
 returns-3 c =
-    let asked = c .before in
-    let a = asked .before .before .before .before .args in
-    quick-beyond (now (a .numbers)) (a .i) (a .byte) (sym (asked .is-within .ensures) ∙ not-true _ (c .if3 .taken))
+    let called = c .before in
+    let a = entry (text called) .args in
+    quick-beyond (now (a .numbers)) (a .i) (a .byte) (sym (within-unfit (now (a .numbers)) (a .i) (omega arith) (sym (called .sending-fits .ensures) ∙ not-true _ (c .if3 .taken))))
 
 returns-4 : tie.Need-returns-4
 returns-4 c =
+    let called = c .before .before .before in
+    let a = entry (text called) .args in
+    quick-full (now (a .numbers)) (a .i) (a .byte) (c .if4 .taken)
+
+returns-5 : tie.Need-returns-5
+returns-5 c =
     let past = c .before in
-    let asked = past .before in
-    let text = asked .before in
-    let first = text .before in
-    let a = first .before .before .args in
-    rw (quick-rest (now (a .numbers)) (a .i) (a .byte) (first .if1 .left) (text .if2 .left) (sym (asked .is-within .ensures) ∙ not-false _ (past .if3 .left))) (search needs)
+    let called = past .before .before .before in
+    let seen = text called in
+    let a = entry seen .args in
+    c .is-within .ensures ∙ sym (quick-rest (now (a .numbers)) (a .i) (a .byte) (seen .before .if1 .left) (seen .if2 .left) (past .if4 .left))
 
 pub is-quick-spec : {M : Type 1} → statement M
 is-quick-spec =
@@ -42,9 +56,19 @@ is-quick-spec =
     (λ c. search needs)
     returns
     returns-2
+    (λ c. search needs)
+    (λ c. search needs)
+    (λ c. search needs)
+    (λ c. search needs)
+    (λ c. search needs)
+    (λ c. search needs)
+    (λ c. search needs)
+    (λ c. search needs)
     (λ c κs. search needs)
     returns-3
     (λ c. search needs)
     (λ c. search needs)
     (λ c. search needs)
-    returns-4)
+    returns-4
+    (λ c κs. search needs)
+    returns-5)
