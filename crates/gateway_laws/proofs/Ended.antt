@@ -17,7 +17,7 @@ use Rattle.journal.specs.Verdicts.{judgeOf}
 use Rattle.journal.specs.declared.Ledger.{Ledger}
 use Rattle.journal.specs.declared.Verdict.{Verdict as Judgement}
 use Rattle.line.specs.declared.Line.{Line}
-use Rattle.answers.specs.Paper.{faultNumber, numberOf}
+use Rattle.answers.specs.Paper.{faultNumber, isFaulty, numberOf}
 use Rattle.answers.specs.declared.Answer.{Answer}
 use Rattle.answers.specs.declared.Fault.{Fault}
 use Rattle.answers.specs.declared.Fault.the-variants.{NoFinalCr}
@@ -35,27 +35,16 @@ use Rattle.looking.proofs.Joins.{LookJoins, look-joins}
 use Rattle.deciding.specs.Decisions.{objection, objectionTo, roomOutcome}
 use Rattle.deciding.proofs.Decisions.{outcome-cases}
 use Rattle.receiving.specs.Verdicts.{decided, ownWork, workOf, verdictOf}
-use Rattle.gateway_laws.specs.Classes.{Class, quiet, opening, closing, refusing, accepting, storing, against, taking, classOf}
 use Rattle.gateway_laws.proofs.Found.{Found, refused, worked, verdict-found}
 
 -- ---- answers
 
-abbrev isAgainst : Class → Bool
-isAgainst quiet = false
-isAgainst opening = false
-isAgainst closing = false
-isAgainst refusing = false
-isAgainst accepting = false
-isAgainst storing = false
-isAgainst against = true
-isAgainst taking = false
-
 abbrev pub is54 : Answer → Bool
 is54 a = eqb (numberOf a) 54
 
--- 54 is of those that decide against a text
-not-against : (a : Answer) → isAgainst (classOf a) ≡ false → is54 a ≡ false
-not-against a h = every-but (λ b. isAgainst (classOf b)) is54 (λ vs. refl) a h
+-- 54 is of a fault
+no-fault : (a : Answer) → isFaulty (numberOf a) ≡ false → is54 a ≡ false
+no-fault a h = every-but (λ b. isFaulty (numberOf b)) is54 (λ vs. refl) a h
 
 -- ---- a text that is complete
 
@@ -76,14 +65,14 @@ room-ended Judgement.NoLine = refl
 room-ended Judgement.WrongSize = refl
 room-ended Judgement.Malformed = refl
 
--- ---- a look decides against no text
+-- ---- a look finds no fault
 
-abbrev LookAgainst : Look → Type 0
-LookAgainst (Done v) = isAgainst (classOf (v .answer)) ≡ false
-LookAgainst (Decides n) = Unit {0}
+abbrev LookFaultless : Look → Type 0
+LookFaultless (Done v) = isFaulty (numberOf (v .answer)) ≡ false
+LookFaultless (Decides n) = Unit {0}
 
-never-against : (l : Line) → Cases LookAgainst l
-never-against l = record {
+faultless : (l : Line) → Cases LookFaultless l
+faultless l = record {
   ignored = refl;
   busy = refl;
   opens = refl;
@@ -105,6 +94,10 @@ never-against l = record {
   no-cr = refl;
   accepts = λ n t. refl;
   decides = λ n t. tt;
+  awaits = λ n h. refl;
+  goes = λ s n h k. refl;
+  over = refl;
+  given-up = refl;
 }
 
 module _ (shares : List ℕ) (l : Line) (d : Ledger) (e : Event) (j u f : List ℕ) where
@@ -113,10 +106,10 @@ module _ (shares : List ℕ) (l : Line) (d : Ledger) (e : Event) (j u f : List �
   work-ended r =
       let texts = textsOf (e .line) u in
       let frames = framesOf (e .line) f in
-      by-look texts frames (lookOf l (e .kind) texts frames) (every-look LookAgainst l (never-against l) texts frames (own-parts l (e .line) u f r) (e .kind)) (look-joins l texts frames (e .kind))
+      by-look texts frames (lookOf l (e .kind) texts frames) (every-look LookFaultless l (faultless l) texts frames (own-parts l (e .line) u f r) (e .kind)) (look-joins l texts frames (e .kind))
     where
-      by-look : (texts frames : List ℕ) (k : Look) → LookAgainst k → LookJoins k l texts frames → is54 (decided k shares l d (e .line) j texts frames .answer) ≡ false
-      by-look texts frames (Done v) a c = not-against (v .answer) a
+      by-look : (texts frames : List ℕ) (k : Look) → LookFaultless k → LookJoins k l texts frames → is54 (decided k shares l d (e .line) j texts frames .answer) ≡ false
+      by-look texts frames (Done v) a c = no-fault (v .answer) a
       by-look texts frames (Decides n) a c =
           let text = joinedText l n texts frames in
           outcome-cases shares d (e .line) text j (λ o. is54 (o .answer) ≡ false) (objection-ended text (c .1)) (room-ended (judgeOf d shares (e .line) (length text) j))
@@ -126,5 +119,5 @@ module _ (shares : List ℕ) (l : Line) (d : Ledger) (e : Event) (j u f : List �
   verdict-ended = by-found (verdictOf shares l d e j u f) (verdict-found shares l d e j u f)
     where
       by-found : (v : Verdict) → Found shares l d e j u f v → is54 (v .answer) ≡ false
-      by-found v (refused a q) = not-against a (ap isAgainst q)
+      by-found v (refused a q p) = no-fault a p
       by-found v (worked w) = subst (λ (x : Verdict). is54 (x .answer) ≡ false) (sym (w .work)) (work-ended (w .ready))

@@ -12,6 +12,7 @@ use Rattle.memory.specs.Tests.{unless}
 use Rattle.journal.specs.declared.Ledger.{Ledger}
 use Rattle.line.specs.Line.{withinLimits}
 use Rattle.line.specs.declared.Line.{Line}
+use Rattle.answers.specs.Paper.{isFaulty, numberOf}
 use Rattle.answers.specs.declared.Answer.{Answer}
 use Rattle.answers.specs.declared.Answer.the-variants.{NoLine, WrongSize, BeyondLimits}
 use Rattle.looking.specs.Views.{framesOf, textsOf, joinedText}
@@ -41,7 +42,7 @@ module _ (shares : List ℕ) (l : Line) (d : Ledger) (e : Event) (j u f : List �
     pub work : v ≡ workOf shares l d e j u f
 
   pub data Found : Verdict → Type 0 where
-    refused : (a : Answer) → classOf a ≡ quiet → Found (Left a)
+    refused : (a : Answer) → classOf a ≡ quiet → isFaulty (numberOf a) ≡ false → Found (Left a)
     worked : {v : Verdict} → Worked v → Found v
 
   pub work-fits : Ready l (e .line) u f → Fitting (workOf shares l d e j u f .act) l
@@ -61,13 +62,13 @@ module _ (shares : List ℕ) (l : Line) (d : Ledger) (e : Event) (j u f : List �
           let (size, texts, bytes) = lengths-facts (length j) (length u) (length f) s in
           let r : Ready l (e .line) u f = record { line = h; within = w; texts = texts; bytes = bytes } in
           worked (record { ready = r; size = size; fits = work-fits r; work = refl })
-      by-limits false h s w = refused BeyondLimits refl
+      by-limits false h s w = refused BeyondLimits refl refl
 
       by-sizes : (b : Bool) → e .line < lines → rightSizes j u f ≡ b → Found (unless b (Left WrongSize) (unless (withinLimits l) (Left BeyondLimits) (workOf shares l d e j u f)))
       by-sizes true h s = by-limits (withinLimits l) h s refl
-      by-sizes false h s = refused WrongSize refl
+      by-sizes false h s = refused WrongSize refl refl
 
       by-line : (b : Bool) → ltb (e .line) lines ≡ b
           → Found (unless b (Left NoLine) (unless (rightSizes j u f) (Left WrongSize) (unless (withinLimits l) (Left BeyondLimits) (workOf shares l d e j u f))))
       by-line true h = by-sizes (rightSizes j u f) (ltb-true (e .line) lines h) refl
-      by-line false h = refused NoLine refl
+      by-line false h = refused NoLine refl refl

@@ -132,7 +132,7 @@ module _ (shares : List ℕ) (l : Line) (d : Ledger) (e : Event) (m : Memory) wh
     where
       by-found : (v : Verdict) → found ≡ v → Found shares l d e (m .journal) (m .unfinished) (m .frames) v
           → (length (stepOf shares l d e m .memory .unfinished) ≡ length (m .unfinished)) × (length (stepOf shares l d e m .memory .frames) ≡ length (m .frames))
-      by-found v p (refused b q) = (ap (λ (x : AfterStep). length (x .memory .unfinished)) (step-is v p), ap (λ (x : AfterStep). length (x .memory .frames)) (step-is v p))
+      by-found v p (refused b q n) = (ap (λ (x : AfterStep). length (x .memory .unfinished)) (step-is v p), ap (λ (x : AfterStep). length (x .memory .frames)) (step-is v p))
       by-found v p (worked w) = (
         ap (λ (x : AfterStep). length (x .memory .unfinished)) (step-is v p) ∙ texts-length l (e .line) (m .unfinished) (m .frames) (w .ready) (v .act) (w .fits),
         ap (λ (x : AfterStep). length (x .memory .frames)) (step-is v p) ∙ frames-length l (e .line) (m .unfinished) (m .frames) (w .ready) (v .act) (e .kind),
@@ -156,7 +156,7 @@ module _ (shares : List ℕ) (l : Line) (d : Ledger) (e : Event) (m : Memory) wh
   limits-kept h = by-found found refl (verdict-found shares l d e (m .journal) (m .unfinished) (m .frames))
     where
       by-found : (v : Verdict) → found ≡ v → Found shares l d e (m .journal) (m .unfinished) (m .frames) v → withinLimits (stepOf shares l d e m .stepped .line) ≡ true
-      by-found v p (refused b q) = ap (λ (x : AfterStep). withinLimits (x .stepped .line)) (step-is v p) ∙ h
+      by-found v p (refused b q n) = ap (λ (x : AfterStep). withinLimits (x .stepped .line)) (step-is v p) ∙ h
       by-found v p (worked w) = ap (λ (x : AfterStep). withinLimits (x .stepped .line)) (step-is v p) ∙ within-of (lineAfter (v .act) l) (line-within (v .act) (within-facts l h) (w .fits))
 
   -- the parts of other lines are untouched
@@ -166,7 +166,7 @@ module _ (shares : List ℕ) (l : Line) (d : Ledger) (e : Event) (m : Memory) wh
     where
       by-found : (v : Verdict) → found ≡ v → Found shares l d e (m .journal) (m .unfinished) (m .frames) v
           → (textsOf k (stepOf shares l d e m .memory .unfinished) ≡ textsOf k (m .unfinished)) × (framesOf k (stepOf shares l d e m .memory .frames) ≡ framesOf k (m .frames))
-      by-found v p (refused b q) = (ap (λ (x : AfterStep). textsOf k (x .memory .unfinished)) (step-is v p), ap (λ (x : AfterStep). framesOf k (x .memory .frames)) (step-is v p))
+      by-found v p (refused b q n) = (ap (λ (x : AfterStep). textsOf k (x .memory .unfinished)) (step-is v p), ap (λ (x : AfterStep). framesOf k (x .memory .frames)) (step-is v p))
       by-found v p (worked w) = (
         ap (λ (x : AfterStep). textsOf k (x .memory .unfinished)) (step-is v p) ∙ texts-other l (e .line) (m .unfinished) (m .frames) (w .ready) (v .act) (w .fits) k n,
         ap (λ (x : AfterStep). framesOf k (x .memory .frames)) (step-is v p) ∙ frames-other l (e .line) (m .unfinished) (m .frames) (w .ready) (v .act) (e .kind) k n,

@@ -34,7 +34,7 @@ use Rattle.gateway_laws.specs.Classes.{against, sending, classOf}
 use Rattle.gateway_laws.specs.Inner.Classes.{actClass, Goes}
 use Rattle.gateway_laws.proofs.Found.{Found, refused, worked, verdict-found}
 
-parcel-sends : (s : Sending) → classOf (Sends (parcelOf s)) ≡ sending
+pub parcel-sends : (s : Sending) → classOf (Sends (parcelOf s)) ≡ sending
 parcel-sends (Asking n) = refl
 parcel-sends (Pausing n) = refl
 parcel-sends (Offering n at) = refl
@@ -126,5 +126,5 @@ module _ (shares : List ℕ) (l : Line) (d : Ledger) (e : Event) (j u f : List �
   verdict-proper = by-found (verdictOf shares l d e j u f) (verdict-found shares l d e j u f)
     where
       by-found : (v : Verdict) → Found shares l d e j u f v → Proper v
-      by-found v (refused b q) = q
+      by-found v (refused b q n) = q
       by-found v (worked w) = subst Proper (sym (w .work)) (work-proper (w .ready))

@@ -8,6 +8,7 @@ use Rattle.ngachodui_laws.proofs.Sound.{always-sound}
 use Rattle.ngachodui_laws.proofs.Outcomes.{one-outcome, the-outcome, fresh-outcome, refused-leaves, start-leaves, buffer-left, ignored-is-left, others-kept}
 use Rattle.ngachodui_laws.proofs.Deciding.{decided-exactly, wrong-at}
 use Rattle.ngachodui_laws.proofs.Sending.{sent, given-back}
+use Rattle.ngachodui_laws.proofs.Orders.{sent-whole, order-taken, fetched, six-sends, sending-ends}
 use Rattle.ngachodui_laws.proofs.FromFresh.{can-send}
 use Rattle.ngachodui_laws.proofs.Stretches.{stretches, stretches-met, stretches-all}
 use Rattle.ngachodui_laws.proofs.Rooms.{share-kept, no-space, space, freed-own, freed-others, alone-refused, alone-stored, acknowledged-stored, only-4-stores}
@@ -50,6 +51,11 @@ kept = record {
   nothing-lost = nothing-lost;
   only-messages = only-messages;
   read-never-refused = read-never-refused;
+  sent-whole = sent-whole;
+  order-taken = order-taken;
+  fetched = fetched;
+  six-sends = six-sends;
+  sending-ends = sending-ends;
   message-four = message-four;
   standard-stays = standard-stays;
   escaped-back = escaped-back;

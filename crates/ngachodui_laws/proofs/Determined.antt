@@ -16,7 +16,8 @@ use Rattle.journal.specs.declared.Ledger.{Ledger}
 use Rattle.line.specs.declared.Line.{Line}
 use Rattle.gateway.specs.Events.{lineAt}
 use Rattle.gateway.specs.Gateway.{Gateway}
-use Rattle.promises.specs.Machine.{State}
+use Rattle.journal_laws.specs.Runs.{State as Store}
+use Rattle.promises.specs.Machine.{State, storeOf}
 use Rattle.layout.specs.Layout.{fields, start, firstAt, numberAt}
 use Rattle.ledger.specs.Ledgers.{ledgerOf}
 use Rattle.numbers.specs.Plain.{stateNumber, triesNumber, placeNumber, lastNumber, flag, lineOf}
@@ -25,10 +26,11 @@ use Rattle.numbers.proofs.Numbers.{numbers-facts, StateBack, state-back, last-b
 use Rattle.calls.specs.Calls.{HostState}
 use Rattle.ngachodui_laws.specs.Hosting.{gatewayOf, Ordered}
 use Rattle.ngachodui_laws.specs.HostRuns.{gatewayState, InOrder}
+use Rattle.ngachodui_laws.specs.Outcomes.{StoreKept}
 use Rattle.ngachodui_laws.proofs.PutBack.{line-at, in-use-back}
 
 -- the counts are told by the ledger
-pub same-counts : (ns ns′ us us′ : List ℕ) → length us ≡ lines + 1 → length us′ ≡ lines + 1 → ledgerOf ns us ≡ ledgerOf ns′ us′ → us ≡ us′
+same-counts : (ns ns′ us us′ : List ℕ) → length us ≡ lines + 1 → length us′ ≡ lines + 1 → ledgerOf ns us ≡ ledgerOf ns′ us′ → us ≡ us′
 same-counts ns ns′ us us′ long long′ same =
     ext-getD 0 us us′ (long ∙ sym long′) each
   where
@@ -41,7 +43,7 @@ same-counts ns ns′ us us′ long long′ same =
     ]
 
 -- and so is each serial
-pub same-serial : (ns ns′ us us′ : List ℕ) (i : ℕ) → i < lines → ledgerOf ns us ≡ ledgerOf ns′ us′ → numberAt ns i 7 ≡ numberAt ns′ i 7
+same-serial : (ns ns′ us us′ : List ℕ) (i : ℕ) → i < lines → ledgerOf ns us ≡ ledgerOf ns′ us′ → numberAt ns i 7 ≡ numberAt ns′ i 7
 same-serial ns ns′ us us′ i h same = sym (serial-at ns us i h) ∙ ap (λ (d : Ledger). getD (d .serials) i 0) same ∙ serial-at ns′ us′ i h
 
 -- a line's numbers are told by its record and its serial: within their limits each stands for one value
@@ -97,3 +99,13 @@ same-host s t o o′ same =
     let counts = same-counts (s .numbers) (t .numbers) (s .counts) (t .counts) (o .counts) (o′ .counts) (ap (λ (x : Gateway). x .ledger) g) in
     let memory = ap (λ (x : State). x .memory) same in
     λ z. record { numbers = numbers z; counts = counts z; memory = memory z }
+
+-- and where what all lines share is the same, nothing was stored and nothing taken
+pub store-kept : (s t : HostState) → InOrder s → InOrder t → storeOf (gatewayState t) ≡ storeOf (gatewayState s) → StoreKept s t
+store-kept s t o o′ same =
+    let ledger = ap (λ (x : Store). x .ledger) same in
+    record {
+      counts = same-counts (t .numbers) (s .numbers) (t .counts) (s .counts) (o′ .counts) (o .counts) ledger;
+      serials = λ l q. same-serial (t .numbers) (s .numbers) (t .counts) (s .counts) l q ledger;
+      journal = ap (λ (x : Store). x .journal) same;
+    }

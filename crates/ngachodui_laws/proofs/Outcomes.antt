@@ -3,7 +3,7 @@
 use mathlib.Core.Path.{_≡_, refl, sym, ap, _∙_}
 use mathlib.Core.Logic.{_≢_}
 use mathlib.Core.Bool.{Bool, true, false, cond, not, _||_}
-use mathlib.Core.List.{List}
+use mathlib.Core.List.{List, [], _∷_}
 use Prim.Native.Nat.{ℕ, _<_}
 use native.Mathlib.Omega.{arith}
 use lib.Dec.{ltb}
@@ -38,7 +38,7 @@ use Rattle.looking.specs.Verdicts.{Left}
 use Rattle.receiving.specs.Verdicts.{decided, ownWork, workOf, verdictOf}
 use Rattle.receiving.specs.Steps.{Memory, AfterStep}
 use Rattle.gateway_laws.proofs.Laws.{parts-of-others}
-use Rattle.serial.specs.Serial.{event, taking}
+use Rattle.serial.specs.Serial.{event, taking, final, Every}
 use Rattle.gateway.specs.Out.{sends}
 use Rattle.orders.specs.declared.Start.{Start}
 use Rattle.orders.specs.declared.Start.the-variants.{Asks, Refused}
@@ -220,3 +220,16 @@ others-kept s (taking i b) l h n = record { numbers = λ m q. refl; used = by-li
     by-line : (t : Bool) → getD (unless t (s .counts) (withUsed (s .counts) i ledger)) l 0 ≡ getD (s .counts) l 0
     by-line true = used-other (s .counts) i l ledger h n
     by-line false = refl
+
+-- nor do calls of which none names the line
+pub run-keeps : (s : HostState) (es : List GatewayItem) (l : ℕ) → l < lines → Every (λ e. l ≢ lineIn e) es → LineKept l s (final hostStep s es)
+run-keeps s [] l h n = record { numbers = λ k q. refl; used = refl; text = refl; frame = refl }
+run-keeps s (e ∷ es) l h n =
+    let one = others-kept s e l h (n .0) in
+    let more = run-keeps (after s e) es l h (n .1) in
+    record {
+      numbers = λ k q. more .numbers k q ∙ one .numbers k q;
+      used = more .used ∙ one .used;
+      text = more .text ∙ one .text;
+      frame = more .frame ∙ one .frame;
+    }

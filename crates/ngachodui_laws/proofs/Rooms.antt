@@ -19,7 +19,6 @@ use Rattle.answers.specs.declared.Answer.the-variants.{Taken}
 use Rattle.answers.specs.declared.Reply.{Reply}
 use Rattle.answers.specs.declared.Reply.the-variants.{Silence, Byte}
 use Rattle.answers.proofs.Paper.{every-answer, paper-injective}
-use Rattle.journal_laws.specs.Runs.{State as Store}
 use Rattle.looking.specs.declared.Kind.{Kind}
 use Rattle.serial.specs.Serial.{taking, final, Every}
 use Rattle.promises.specs.Machine.{State, GatewayItem, came, step, storeOf, May}
@@ -37,7 +36,7 @@ use Rattle.ngachodui_laws.specs.Outcomes.{StoreKept}
 use Rattle.ngachodui_laws.specs.Freed.{takenThen, Frees, Alone}
 use Rattle.ngachodui_laws.specs.Inner.Hosting.{takenValue, inNumbersOf}
 use Rattle.ngachodui_laws.proofs.HostRuns.{one-call, ends-alike, stays-in-order, end-in-order, end-is, at-end, host-always-sound}
-use Rattle.ngachodui_laws.proofs.Determined.{same-counts, same-serial}
+use Rattle.ngachodui_laws.proofs.Determined.{store-kept}
 use Rattle.ngachodui_laws.proofs.Queue.{stored-alike, stored-from-fresh}
 
 -- the response of a host that stands for the gateway's state x
@@ -125,12 +124,7 @@ module _ (r : Run) where
           let kept = acknowledged.only-4-stores (r .memory) (r .sizes) (r .calls) (r .may) i k h (λ e. n (sym (number-is (came i k)) ∙ e)) in
           let store : storeOf (gatewayState t) ≡ storeOf (gatewayState s) =
           ap storeOf (c .state) ∙ ap (λ (x : State). storeOf ((step x (came i k)) .1)) (end-is r) ∙ kept ∙ ap storeOf (sym (end-is r)) in
-          let ledger = ap (λ (x : Store). x .ledger) store in
-          record {
-            counts = same-counts (t .numbers) (s .numbers) (t .counts) (s .counts) (c .in-order .counts) (end-in-order r .counts) ledger;
-            serials = λ l q. same-serial (t .numbers) (s .numbers) (t .counts) (s .counts) l q ledger;
-            journal = ap (λ (x : Store). x .journal) store;
-          }
+          store-kept s t (end-in-order r) (c .in-order) store
 
   -- freed room
   module _ (l : ℕ) (h : l < lines) (b : List ℕ) (n : ℕ) (fs : List GatewayItem) (may : Every May fs) (frees : Frees s l b n fs) where

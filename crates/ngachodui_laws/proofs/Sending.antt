@@ -19,9 +19,8 @@ use Rattle.answers.specs.Paper.{ack, replyOf}
 use Rattle.answers.specs.declared.Answer.the-variants.{Nothing}
 use Rattle.line.specs.Line.{freshLine}
 use Rattle.gateway.specs.Events.{lineAt}
-use Rattle.looking.specs.declared.Kind.the-variants.{Byte}
 use Rattle.serial.specs.Serial.{taking, annotate, final, Every}
-use Rattle.promises.specs.Machine.{State, Response, response, GatewayItem, came, step, May}
+use Rattle.promises.specs.Machine.{State, Response, response, GatewayItem, step, May}
 use Rattle.promises.specs.Sending.{bytesOn, sending, replies, sendingReplies, HasRoom}
 use Rattle.promises.specs.Sending as there
 use Rattle.promises.specs.Queue as queue
@@ -30,8 +29,8 @@ use Rattle.promises.proofs.InTurn as turns
 use Rattle.layout.specs.Layout.{serialAt, numberAt}
 use Rattle.ledger.proofs.Ledgers.{serial-at}
 use Rattle.calls.specs.Calls.{HostState}
-use Rattle.ngachodui_laws.specs.HostRuns.{gatewayState, InOrder, HostResponse, hostStep, after}
-use Rattle.ngachodui_laws.specs.Outcomes.{LineKept}
+use Rattle.ngachodui_laws.specs.HostRuns.{gatewayState, InOrder, HostResponse, hostStep}
+use Rattle.ngachodui_laws.specs.Outcomes.{lineIn}
 use Rattle.ngachodui_laws.specs.Sound.{Holds}
 use Rattle.ngachodui_laws.specs.Queue.{allTaken}
 use Rattle.ngachodui_laws.specs.Sending.{CanSend, sentTo, says, gives, toFrames, Delivered, GivesBack}
@@ -39,11 +38,11 @@ use Rattle.ngachodui_laws.specs.Inner.Hosting.{inNumbersOf, seenOf}
 use Rattle.ngachodui_laws.proofs.PutBack.{line-at}
 use Rattle.ngachodui_laws.proofs.HostRuns.{one-call, runs-alike, ends-alike, stays-in-order}
 use Rattle.ngachodui_laws.proofs.Sound.{intact}
-use Rattle.ngachodui_laws.proofs.Outcomes.{others-kept}
+use Rattle.ngachodui_laws.proofs.Outcomes.{run-keeps}
 use Rattle.ngachodui_laws.proofs.Queue.{taken-alike}
 
 -- the responses of a history as a host sees them
-seen-responses : (ys : List (GatewayItem × Response))
+pub seen-responses : (ys : List (GatewayItem × Response))
     → map (λ (x : GatewayItem × HostResponse). x .1) (map seenOf ys) ≡ map inNumbersOf (map (λ (x : GatewayItem × Response). x .1) ys)
 seen-responses [] = refl
 seen-responses (y ∷ ys) = ap (λ (xs : List HostResponse). inNumbersOf (y .1) ∷ xs) (seen-responses ys)
@@ -53,7 +52,7 @@ unfolding replyOf
 within-frame zero rs = refl
 within-frame (suc n) rs = ap (λ (xs : List HostResponse). says 0 0 ∷ xs) (within-frame n rs)
 
-seen-replies : (ps : List Piece) → map inNumbersOf (replies ps) ≡ toFrames ps
+pub seen-replies : (ps : List Piece) → map inNumbersOf (replies ps) ≡ toFrames ps
 unfolding replyOf
 seen-replies [] = refl
 seen-replies (p ∷ []) = within-frame (length (p .bytes) + leastCollected) _
@@ -66,17 +65,9 @@ unfolding replyOf
 seen-sending m = ap (λ (xs : List HostResponse). says 1 ack ∷ xs) (seen-replies (piecesOf frameLimit m))
 
 -- bytes on one line leave the others what they have
-bytes-keep : (s : HostState) (i : ℕ) (bs : List ℕ) (l : ℕ) → l < lines → l ≢ i → LineKept l s (final hostStep s (bytesOn i bs))
-bytes-keep s i [] l h n = record { numbers = λ k q. refl; used = refl; text = refl; frame = refl }
-bytes-keep s i (b ∷ bs) l h n =
-    let one = others-kept s (came i (Byte b)) l h n in
-    let more = bytes-keep (after s (came i (Byte b))) i bs l h n in
-    record {
-      numbers = λ k q. more .numbers k q ∙ one .numbers k q;
-      used = more .used ∙ one .used;
-      text = more .text ∙ one .text;
-      frame = more .frame ∙ one .frame;
-    }
+bytes-apart : (i : ℕ) (bs : List ℕ) (l : ℕ) → l ≢ i → Every (λ e. l ≢ lineIn e) (bytesOn i bs)
+bytes-apart i [] l n = tt
+bytes-apart i (b ∷ bs) l n = (n, bytes-apart i bs l n)
 
 module _ (s : HostState) (i : ℕ) (m : List ℕ) (c : CanSend s i m) where
   abbrev g : State
@@ -107,7 +98,7 @@ module _ (s : HostState) (i : ℕ) (m : List ℕ) (c : CanSend s i m) where
             ∙ seen-responses (annotate step g (bytesOn i (sending frameLimit m))) ∙ ap (map inNumbersOf) (d .answered) ∙ seen-sending m;
         holds = subst (λ (n : ℕ). Holds (sentTo s i m) (es ++ (record { line = i; serial = n; text = m } ∷ []))) serial-is
             (subst (λ (x : State). Held todaysShares (x .gateway .ledger) (x .memory .journal) (es ++ there.newEntries (g .gateway .ledger) i (m ∷ []))) (sym ends) (d .held));
-        others = bytes-keep s i (sending frameLimit m);
+        others = λ l h n. run-keeps s (bytesOn i (sending frameLimit m)) l h (bytes-apart i (sending frameLimit m) l n);
       }
 
   module _ (es : List GatewayItem) (may : Every May es) (as-many : length (allTaken i (annotate hostStep (sentTo s i m) es)) ≡ length (waiting i (c .intact .entries)))

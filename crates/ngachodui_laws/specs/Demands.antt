@@ -32,7 +32,7 @@ use Rattle.layout.specs.Layout.{Fresh, serialAt, numberAt}
 use Rattle.numbers.specs.Plain.{lineOf}
 use Rattle.calls.specs.Calls.{HostState}
 use Rattle.ngachodui_laws.specs.Hosting.{isRefusal}
-use Rattle.ngachodui_laws.specs.HostRuns.{gatewayState, InOrder, freshHost, HostResponse, hostStep, numberTo, replyTo, after, decides, Run, historyOf, endOf}
+use Rattle.ngachodui_laws.specs.HostRuns.{gatewayState, freshHost, HostResponse, hostStep, numberTo, replyTo, after, decides, Run, historyOf, endOf}
 use Rattle.ngachodui_laws.specs.Sound.{Intact, Sound}
 use Rattle.ngachodui_laws.specs.Outcomes.{Allows, ignores, lineIn, LineKept, StoreKept}
 use Rattle.ngachodui_laws.specs.Deciding.{DecidedExactly}
@@ -170,8 +170,9 @@ pub record Demands : Type 0 where
   pub order-taken : (s : HostState) (i : ℕ) (m : List ℕ) → CanStart s i m → (t : HostState) (l : ℕ) (c : CanSend t l m)
       → OrderTaken t l m (sentOn i s (orderedOn i m)) (c .intact .entries)
   --
-  -- What goes out with an answer is what the answer says, and where that is STX it is what is fetched.
-  pub fetched : (s : HostState) → InOrder s → (i : ℕ) → i < lines → (c : Coming) → replyTo s (event i c) ≡ stx → FetchedAs (after s (event i c)) i ((hostStep s (event i c)) .0 .buffer)
+  -- What goes out with an answer is what the answer says, and where that is STX it is what is fetched, after every run.
+  pub fetched : (r : Run) (i : ℕ) → i < lines → (c : Coming) → replyTo (endOf r) (event i c) ≡ stx
+      → FetchedAs (after (endOf r) (event i c)) i ((hostStep (endOf r) (event i c)) .0 .buffer)
   --
   -- In a sending, whatever comes, our ENQ goes out six times at most, and so does each frame.
   pub six-sends : (r : Run) (i : ℕ) → i < lines → (m : List ℕ) → numberTo (endOf r) (starting i m) ≡ sends → (es : List GatewayItem) → Every May es

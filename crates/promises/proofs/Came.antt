@@ -2,7 +2,7 @@
 -- Assumes nothing.
 use mathlib.Core.Path.{_≡_, refl, sym, ap, subst, _∙_}
 use mathlib.Core.Bool.{Bool, true, false, cond}
-use mathlib.Core.List.{List, []}
+use mathlib.Core.List.{List}
 use mathlib.Core.Option.{none, some}
 use Prim.Native.Nat.{ℕ, _<_}
 use lib.Dec.{eqb}
@@ -37,8 +37,8 @@ use Rattle.looking.proofs.Fits.{LookFits, look-fits}
 use Rattle.receiving.proofs.Fits.{quiet-keeps}
 use Rattle.deciding.proofs.Decisions.{objection-number, is-objection, is-room}
 use Rattle.gateway_laws.specs.Classes.{classOf}
-use Rattle.gateway_laws.proofs.Proper.{objection-against}
-use Rattle.promises.specs.Machine.{State, Response, response, step, isDecision, decides, Parts, partsOf, storeOf, came}
+use Rattle.gateway_laws.proofs.Proper.{parcel-sends, objection-against}
+use Rattle.promises.specs.Machine.{State, Response, step, isDecision, decides, Parts, partsOf, storeOf, came}
 use Rattle.promises.specs.Inner.ByParts.{left}
 use Rattle.promises.specs.Runs.{answered, isDamage, offered, offeredBy, hasSpace}
 use Rattle.promises.specs.Sending.{Intact}
@@ -73,6 +73,10 @@ harmless l = record {
   no-cr = (refl, refl);
   accepts = λ n t. (refl, refl);
   decides = λ n t. tt;
+  awaits = λ n h. (refl, refl);
+  goes = λ s n h k. (refl, ap isDecision (parcel-sends s));
+  over = (refl, refl);
+  given-up = (refl, refl);
 }
 
 module _ (s : State) (w : Intact s) (i : ℕ) (k : Kind) (line : i < lines) where
@@ -88,8 +92,8 @@ module _ (s : State) (w : Intact s) (i : ℕ) (k : Kind) (line : i < lines) wher
 
   -- the answer and the store, once the verdict is known
   module _ (v : Verdict) (is : work s w i k line ≡ v) where
-    told-is : (step s (came i k)) .0 ≡ response (v .answer) []
-    told-is = event-answer s w i k line ∙ ap (λ (x : Verdict). response (x .answer) []) is
+    told-is : (step s (came i k)) .0 ≡ (left v i own k (storeOf s)) .0
+    told-is = event-answer s w i k line ∙ ap (λ (x : Verdict). (left x i own k (storeOf s)) .0) is
 
     store-is : storeOf ((step s (came i k)) .1) ≡ (left v i own k (storeOf s)) .2
     store-is = event-journal s w i k line ∙ ap (λ (x : Verdict). (left x i own k (storeOf s)) .2) is

@@ -33,7 +33,7 @@ use Rattle.looking.specs.Looks.{lookOf}
 use Rattle.looking.specs.Inner.Ready.{Own}
 use Rattle.looking.specs.Inner.Fitting.{TextFits, Fitting}
 use Rattle.looking.specs.declared.Act.{Act}
-use Rattle.looking.specs.declared.Act.the-variants.{Leave, Open, Close, Begin, Count, Collect, Refuse, Accept, Store, Object}
+use Rattle.looking.specs.declared.Act.the-variants.{Leave, Open, Close, Begin, Count, Collect, Refuse, Accept, Store, Object, Await, Go}
 use Rattle.looking.specs.declared.Kind.{Kind}
 use Rattle.looking.specs.declared.Look.{Look}
 use Rattle.looking.specs.declared.Look.the-variants.{Done, Decides}
@@ -47,12 +47,13 @@ use Rattle.receiving.specs.Steps.{Memory}
 use Rattle.gateway.specs.Events.{noRecord, takeOf}
 use Rattle.gateway_laws.specs.Inner.Own.{ownTexts}
 use Rattle.serial.specs.Serial.{event, taking, final, Every}
-use Rattle.promises.specs.Machine.{State, GatewayItem, came, step, Parts, partsOf, storeOf, Sound, May}
+use Rattle.promises.specs.Machine.{State, GatewayItem, happens, starts, came, step, Parts, partsOf, storeOf, Sound, May}
 use Rattle.promises.specs.Inner.ByParts.{onEvent}
 use Rattle.promises.specs.Runs.{RightSizes, fresh, offeredBy, offered}
 use Rattle.promises.specs.Sending.{Intact}
 use Rattle.promises.specs.Clean.{unfinishedIn, Clean, CompleteText, WrongAt}
 use Rattle.promises.proofs.Sound.{sound-intact, work, ready, fitting, event-own, event-others}
+use Rattle.promises.proofs.Starts.{start-clean}
 use Rattle.promises.proofs.Kept.{keeps, fresh-sound}
 
 -- two texts of allowed bytes, joined
@@ -141,6 +142,8 @@ module _ (l : Line) (texts frames : List ℕ) (own : Own l texts frames) where
   act-clean (Accept n) t j c = joined-clean n t (j .clean) c
   act-clean (Store n) t j c = nothing (ownTexts (Store n) l texts frames)
   act-clean (Object n) t j c = nothing (ownTexts (Object n) l texts frames)
+  act-clean (Await n) t j c = c
+  act-clean (Go s n) t j c = c
 
 -- ---- items
 
@@ -182,7 +185,8 @@ unfolding takeOf
 taking-clean s c i b = c
 
 pub keeps-clean : (s : State) (e : GatewayItem) → Sound s → Clean s → May e → Clean ((step s e) .1)
-keeps-clean s (event i k) w c m = event-clean s (sound-intact s w) c i k m
+keeps-clean s (event i (happens k)) w c m = event-clean s (sound-intact s w) c i k m
+keeps-clean s (event i (starts text)) w c m = start-clean s (sound-intact s w) i text m c
 keeps-clean s (taking i b) w c m = taking-clean s c i b
 
 -- ---- runs

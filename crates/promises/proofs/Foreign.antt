@@ -22,11 +22,12 @@ use Rattle.gateway.specs.Events.{takeOf}
 use Rattle.receiving.specs.Steps.{Memory}
 use Rattle.looking.specs.declared.Kind.{Kind}
 use Rattle.serial.specs.Serial.{event, taking, annotate, Every}
-use Rattle.promises.specs.Machine.{State, GatewayItem, step, Sound, May}
+use Rattle.promises.specs.Machine.{State, Response, GatewayItem, happens, starts, step, Sound, May}
 use Rattle.promises.specs.Runs.{RightSizes, fresh, answered}
 use Rattle.promises.specs.Clean.{Clean}
 use Rattle.promises.specs.Inner.Came.{answer, Came, quiet, stored, crowded, against}
 use Rattle.promises.proofs.Sound.{sound-intact}
+use Rattle.promises.proofs.Starts.{start-mild, start-answer}
 use Rattle.promises.proofs.Came.{comes-to, undecided-not-30}
 use Rattle.promises.proofs.Kept.{keeps, fresh-sound}
 use Rattle.promises.proofs.Clean.{offered-faulty, keeps-clean, fresh-clean}
@@ -55,7 +56,10 @@ took-not-30 WrongSize = refl
 
 item-not-30 : (s : State) → Sound s → Clean s → (e : GatewayItem) → May e → eqb (answered ((step s e) .0)) 30 ≡ false
 unfolding takeOf
-item-not-30 s w c (event i k) m = came-not-30 s c i m k (comes-to s (sound-intact s w) i k m)
+item-not-30 s w c (event i (happens k)) m = came-not-30 s c i m k (comes-to s (sound-intact s w) i k m)
+item-not-30 s w c (event i (starts text)) m =
+    let v = sound-intact s w in
+    ap (λ (r : Response). eqb (answered r) 30) (start-answer s v i text m) ∙ start-mild s v i text m .not-30
 item-not-30 s w c (taking i b) m = took-not-30 (takeEntry (s .gateway .ledger) i (s .memory .journal) b .taking .answer)
 
 stays-not-30 : (s : State) (es : List GatewayItem) → Sound s → Clean s → Every May es → Every (λ x. eqb (answered (x .1)) 30 ≡ false) (annotate step s es)

@@ -28,11 +28,12 @@ use Rattle.looking.specs.declared.Kind.{Kind}
 use Rattle.gateway_laws.proofs.Laws.{line-within}
 use Rattle.gateway_laws.proofs.Others.{texts-length, frames-length}
 use Rattle.serial.specs.Serial.{event, taking}
-use Rattle.promises.specs.Machine.{State, onLine, afterEvent, step, GatewayItem, came, storeOf, Sound, May}
+use Rattle.promises.specs.Machine.{State, onLine, leftBy, step, GatewayItem, happens, starts, came, storeOf, Sound, May}
 use Rattle.promises.specs.Runs.{RightSizes, fresh}
 use Rattle.promises.specs.Sending.{Intact}
 use Rattle.promises.specs.Inner.Came.{store, Came, quiet, stored, crowded, against}
 use Rattle.promises.proofs.Sound.{sound-intact, work, ready, fitting, event-is}
+use Rattle.promises.proofs.Starts.{start-sound}
 use Rattle.promises.proofs.Came.{comes-to}
 
 -- the journal is whole and keeps every share, whatever it holds
@@ -62,7 +63,7 @@ module _ (s : State) (w : Sound s) where
   module _ (i : ℕ) (k : Kind) (h : i < lines) where
     -- what an event leaves
     abbrev after : State
-    after = (afterEvent (putBack (s .gateway) i (settle (work s v i k h) (lineAt (s .gateway) i) (s .gateway .ledger) (onLine i k) (s .memory)))) .1
+    after = leftBy (putBack (s .gateway) i (settle (work s v i k h) (lineAt (s .gateway) i) (s .gateway .ledger) (onLine i k) (s .memory)))
 
     own-within : withinLimits (lineAfter (work s v i k h .act) (lineAt (s .gateway) i)) ≡ true
     own-within =
@@ -76,11 +77,11 @@ module _ (s : State) (w : Sound s) where
     ]
 
     holds : Holds (storeOf after)
-    holds = subst (λ (x : AfterEvent). Holds (storeOf ((afterEvent x) .1))) (event-is s v i k h) (came-holds s w i k h (comes-to s v i k h))
+    holds = subst (λ (x : AfterEvent). Holds (storeOf (leftBy x))) (event-is s v i k h) (came-holds s w i k h (comes-to s v i k h))
 
     event-sound : Sound ((step s (came i k)) .1)
     event-sound =
-        subst (λ (x : AfterEvent). Sound ((afterEvent x) .1)) (sym (event-is s v i k h))
+        subst (λ (x : AfterEvent). Sound (leftBy x)) (sym (event-is s v i k h))
         (record {
           as-many = length-set (s .gateway .lines) i (lineAfter (work s v i k h .act) (lineAt (s .gateway) i)) ∙ w .as-many;
           within = each-within;
@@ -111,7 +112,8 @@ module _ (s : State) (w : Sound s) where
     taking-sound = taking-holds (take-cases todaysShares (s .gateway .ledger) i (s .memory .journal) b (w .entries) (w .held))
 
 pub keeps : (s : State) (e : GatewayItem) → Sound s → May e → Sound ((step s e) .1)
-keeps s (event i k) w m = event-sound s w i k m
+keeps s (event i (happens k)) w m = event-sound s w i k m
+keeps s (event i (starts text)) w m = start-sound s w i text m
 keeps s (taking i b) w m = taking-sound s w i b
 
 -- a fresh gateway is sound

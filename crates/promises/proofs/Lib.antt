@@ -1,5 +1,6 @@
 pub mod Every
 pub mod Sound
+pub mod Starts
 pub mod Came
 pub mod Kept
 pub mod Runs

@@ -23,7 +23,7 @@ use Rattle.journal_laws.specs.Runs.{Numbered, numbered, only, texts, waiting}
 use Rattle.receiving.specs.Steps.{Memory}
 use Rattle.looking.specs.declared.Kind.{Kind}
 use Rattle.serial.specs.Serial.{event, taking, final, Every}
-use Rattle.promises.specs.Machine.{State, GatewayItem, came, step, Sound, May}
+use Rattle.promises.specs.Machine.{State, GatewayItem, happens, starts, came, step, Sound, May}
 use Rattle.promises.specs.Runs.{RightSizes, fresh, answered}
 use Rattle.promises.specs.Queue.{completedIn, completed, storedOn, allStored, allTaken}
 use Rattle.promises.specs.OnlyMessages.{IsMessage, OnlyMessages, Readable}
@@ -48,11 +48,12 @@ stored-message s w i line k e =
     ap (λ (o : Option (List ℕ)). isMessage (completedIn o)) (x .complete) ∙ decided-exactly s w i line k (x .text) (x .complete) .stored .0 e .0
 
 stored-on : (l : ℕ) (s : State) (e : GatewayItem) → Sound s → May e → Every IsMessage (storedOn l s e)
-stored-on l s (event i k) w m = by-test (eqb i l && eqb (answered ((step s (came i k)) .0)) 4) refl
+stored-on l s (event i (happens k)) w m = by-test (eqb i l && eqb (answered ((step s (came i k)) .0)) 4) refl
   where
     by-test : (b : Bool) → eqb i l && eqb (answered ((step s (came i k)) .0)) 4 ≡ b → Every IsMessage (cond b (completed s i k ∷ []) [])
     by-test true q = (stored-message s w i m k (eqb-true _ _ (and-right (eqb i l) (eqb (answered ((step s (came i k)) .0)) 4) q)), tt)
     by-test false q = tt
+stored-on l s (event i (starts text)) w m = tt
 stored-on l s (taking i b) w m = tt
 
 all-stored : (l : ℕ) (s : State) (es : List GatewayItem) → Sound s → Every May es → Every IsMessage (allStored l s es)

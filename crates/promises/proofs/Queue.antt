@@ -27,11 +27,12 @@ use Rattle.gateway.specs.Events.{takeOf}
 use Rattle.taking.specs.Taking.{tookAnswer}
 use Rattle.looking.specs.declared.Kind.{Kind}
 use Rattle.serial.specs.Serial.{event, taking, final, Every}
-use Rattle.promises.specs.Machine.{State, response, GatewayItem, came, step, storeOf, Sound, May}
+use Rattle.promises.specs.Machine.{State, response, GatewayItem, happens, starts, came, step, storeOf, Sound, May}
 use Rattle.promises.specs.Runs.{RightSizes, fresh, answered, hasSpace}
 use Rattle.promises.specs.Inner.Came.{storedIn, answer, store, Settles, Came, quiet, stored, crowded, against}
 use Rattle.promises.specs.Queue.{completedIn, completed, gave, storedOn, takenOn, allStored, allTaken, NothingLost}
 use Rattle.promises.proofs.Sound.{sound-intact}
+use Rattle.promises.proofs.Starts.{start-store}
 use Rattle.promises.proofs.Came.{comes-to, undecided-other, objected}
 use Rattle.promises.proofs.Kept.{keeps, fresh-sound}
 
@@ -107,7 +108,8 @@ module _ (s : State) (w : Sound s) (i : ℕ) (k : Kind) (h : i < lines) where
   event-does (against t m x) = no-operation (objected t (answered (answer s i k)) (x .number) .not-4) (x .left)
 
 pub does : (s : State) (e : GatewayItem) → Sound s → May e → Does s e
-does s (event i k) w m = event-does s w i k m (comes-to s (sound-intact s w) i k m)
+does s (event i (happens k)) w m = event-does s w i k m (comes-to s (sound-intact s w) i k m)
+does s (event i (starts text)) w m = record { operation = none; store = start-store s (sound-intact s w) i text m; entering = λ l. refl; leaving = λ l. refl }
 does s (taking i b) w m = taking-does s i b
 
 -- ---- runs

@@ -26,10 +26,11 @@ use Rattle.gateway.specs.Events.{takeOf}
 use Rattle.taking.specs.Taking.{tookAnswer}
 use Rattle.looking.specs.declared.Kind.{Kind}
 use Rattle.serial.specs.Serial.{event, taking, annotate, final, Every}
-use Rattle.promises.specs.Machine.{State, GatewayItem, came, step, Sound, May}
+use Rattle.promises.specs.Machine.{State, Response, GatewayItem, happens, starts, came, step, Sound, May}
 use Rattle.promises.specs.Runs.{RightSizes, fresh, answered, isDamage, Overfull, NoSpace, Space}
 use Rattle.promises.specs.Inner.Came.{answer, Came, quiet, stored, crowded, against}
 use Rattle.promises.proofs.Sound.{sound-intact}
+use Rattle.promises.proofs.Starts.{start-mild, start-answer}
 use Rattle.promises.proofs.Came.{comes-to, undecided-other, objected}
 use Rattle.promises.proofs.Kept.{keeps, fresh-sound}
 
@@ -104,7 +105,10 @@ taking-undamaged s w i b = by-case (take-cases todaysShares (s .gateway .ledger)
 -- ---- runs
 
 undamaged : (s : State) (e : GatewayItem) → Sound s → May e → isDamage (answered ((step s e) .0)) ≡ false
-undamaged s (event i k) w m = came-undamaged s i k (comes-to s (sound-intact s w) i k m)
+undamaged s (event i (happens k)) w m = came-undamaged s i k (comes-to s (sound-intact s w) i k m)
+undamaged s (event i (starts text)) w m =
+    let v = sound-intact s w in
+    ap (λ (r : Response). isDamage (answered r)) (start-answer s v i text m) ∙ start-mild s v i text m .no-damage
 undamaged s (taking i b) w m = taking-undamaged s w i b
 
 pub stays-sound : (s : State) (es : List GatewayItem) → Sound s → Every May es → Sound (final step s es)

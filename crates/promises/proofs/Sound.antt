@@ -1,6 +1,6 @@
 -- An event of an intact state, and so of every state of a run: it is told by its line's parts and the store.
 -- Assumes nothing.
-use mathlib.Core.Path.{_≡_, sym, ap, _∙_}
+use mathlib.Core.Path.{_≡_, sym, ap, ap₂, _∙_}
 use mathlib.Core.Logic.{_≢_}
 use Prim.Native.Nat.{ℕ, _<_}
 use native.Mathlib.Omega.{arith}
@@ -22,7 +22,7 @@ use Rattle.looking.specs.declared.Verdict.{Verdict}
 use Rattle.gateway_laws.proofs.Found.{work-fits}
 use Rattle.gateway_laws.proofs.Others.{texts-other, frames-other}
 use Rattle.gateway_laws.proofs.View.{texts-own, frames-own}
-use Rattle.promises.specs.Machine.{State, onLine, afterEvent, step, Parts, partsOf, storeOf, Sound, came}
+use Rattle.promises.specs.Machine.{State, onLine, leftBy, step, Parts, partsOf, told, storeOf, Sound, came}
 use Rattle.promises.specs.Inner.ByParts.{onEvent}
 use Rattle.promises.specs.Sending.{Intact}
 
@@ -41,7 +41,7 @@ sound-intact s w = record {
   whole = w .held .whole;
 }
 
-same-parts : (p q : Parts) → p .line ≡ q .line → p .texts ≡ q .texts → p .frames ≡ q .frames → p ≡ q
+pub same-parts : (p q : Parts) → p .line ≡ q .line → p .texts ≡ q .texts → p .frames ≡ q .frames → p ≡ q
 same-parts p q l t f = λ z. record { line = l z; texts = t z; frames = f z }
 
 -- an event of an intact state is its work: 40 to 42 do not come
@@ -69,11 +69,8 @@ module _ (s : State) (w : Intact s) (i : ℕ) (k : Kind) (h : i < lines) where
         w .within i h,
       )
 
-  pub event-answer : (step s (came i k)) .0 ≡ (onEvent i (partsOf s i) k (storeOf s)) .0
-  event-answer = ap (λ (x : AfterEvent). (afterEvent x) .0) event-is
-
   pub event-journal : storeOf ((step s (came i k)) .1) ≡ (onEvent i (partsOf s i) k (storeOf s)) .2
-  event-journal = ap (λ (x : AfterEvent). storeOf ((afterEvent x) .1)) event-is
+  event-journal = ap (λ (x : AfterEvent). storeOf (leftBy x)) event-is
 
   -- its own line has what acting leaves of its parts
   pub event-own : partsOf ((step s (came i k)) .1) i ≡ (onEvent i (partsOf s i) k (storeOf s)) .1
@@ -81,7 +78,11 @@ module _ (s : State) (w : Intact s) (i : ℕ) (k : Kind) (h : i < lines) where
       let records = getD-set-same (s .gateway .lines) i (lineAfter (work .act) own) noRecord (omega (arith, w .as-many)) in
       let texts = texts-own own i (s .memory .unfinished) (s .memory .frames) ready (work .act) fitting in
       let frames = frames-own own i (s .memory .unfinished) (s .memory .frames) ready (work .act) k in
-      ap (λ (x : AfterEvent). partsOf ((afterEvent x) .1) i) event-is ∙ same-parts _ _ records texts frames
+      ap (λ (x : AfterEvent). partsOf (leftBy x) i) event-is ∙ same-parts _ _ records texts frames
+
+  -- with its answer goes out what is to be sent, by what the line then has
+  pub event-answer : (step s (came i k)) .0 ≡ (onEvent i (partsOf s i) k (storeOf s)) .0
+  event-answer = ap₂ told (ap (λ (x : AfterEvent). x .handled .answer) event-is) event-own
 
   -- and every other line what it had
   pub event-others : (l : ℕ) → l ≢ i → partsOf ((step s (came i k)) .1) l ≡ partsOf s l
@@ -89,4 +90,4 @@ module _ (s : State) (w : Intact s) (i : ℕ) (k : Kind) (h : i < lines) where
       let records = getD-set-other (s .gateway .lines) i l (lineAfter (work .act) own) noRecord n in
       let texts = texts-other own i (s .memory .unfinished) (s .memory .frames) ready (work .act) fitting l (λ q. n (sym q)) in
       let frames = frames-other own i (s .memory .unfinished) (s .memory .frames) ready (work .act) k l (λ q. n (sym q)) in
-      ap (λ (x : AfterEvent). partsOf ((afterEvent x) .1) l) event-is ∙ same-parts _ _ records texts frames
+      ap (λ (x : AfterEvent). partsOf (leftBy x) l) event-is ∙ same-parts _ _ records texts frames

@@ -1,6 +1,7 @@
 -- Demand 3, of the gateway: events of the eight lines and takings in any order, from fresh, told stretch by stretch, have the same answers and the same final state.
 -- Assumes nothing.
 use mathlib.Core.Path.{_≡_, refl, sym, ap, _∙_}
+use mathlib.Core.Logic.{_≢_}
 use mathlib.Core.Bool.{Bool, false}
 use mathlib.Core.List.{List}
 use Prim.Native.Nat.{ℕ, _<_}
@@ -11,15 +12,17 @@ use Rattle.memory.proofs.Tests.{never-both}
 use Rattle.receiving.specs.Steps.{Memory}
 use Rattle.gateway.specs.Events.{noRecord, takeOf}
 use Rattle.looking.specs.declared.Kind.{Kind}
-use Rattle.serial.specs.Serial.{taking, annotate, serialize, count, Every, OrderOf, GoesAlike}
+use Rattle.serial.specs.Serial.{event, taking, annotate, serialize, count, Every, OrderOf, GoesAlike}
 use Rattle.serial.specs.Inner.Machine.{Lined, NothingElse}
 use Rattle.serial.specs.Kept.{Rearranged}
 use Rattle.serial.proofs.Demand as serial
-use Rattle.promises.specs.Machine.{State, Response, GatewayItem, came, step, decides, Parts, partsOf, storeOf, Sound, May}
-use Rattle.promises.specs.Inner.ByParts.{onEvent, onTaking}
+use Rattle.promises.specs.Machine.{State, Response, Coming, happens, starts, GatewayItem, came, step, decides, Parts, partsOf, storeOf, Sound, May}
+use Rattle.promises.specs.Inner.ByParts.{onEvent, onComing, onTaking}
 use Rattle.promises.specs.Runs.{RightSizes, fresh}
+use Rattle.promises.specs.Sending.{Intact}
 use Rattle.promises.specs.Inner.Came.{Came, quiet as passing, stored, crowded, against}
 use Rattle.promises.proofs.Sound.{sound-intact, event-answer, event-own, event-others, event-journal}
+use Rattle.promises.proofs.Starts.{start-answer, start-own, start-others, start-store}
 use Rattle.promises.proofs.Came.{comes-to}
 use Rattle.promises.proofs.Kept.{keeps, fresh-sound}
 
@@ -37,6 +40,30 @@ quiet s u w i k h e = by-case (comes-to s (sound-intact s w) i k h)
     by-case (crowded t m room x) = never-both (decides ((step s (came i k)) .0)) (x .decided) undecided
     by-case (against t m x) = never-both (decides ((step s (came i k)) .0)) (x .decided) undecided
 
+-- what comes on a line, an event or a start, is told by its parts and the store, and leaves the other lines
+module _ (s : State) (w : Intact s) (i : ℕ) (h : i < lines) where
+  coming-answer : (k : Coming) → (step s (event i k)) .0 ≡ (onComing i (partsOf s i) k (storeOf s)) .0
+  coming-answer (happens k) = event-answer s w i k h
+  coming-answer (starts text) = start-answer s w i text h
+
+  coming-own : (k : Coming) → partsOf ((step s (event i k)) .1) i ≡ (onComing i (partsOf s i) k (storeOf s)) .1
+  coming-own (happens k) = event-own s w i k h
+  coming-own (starts text) = start-own s w i text h
+
+  pub coming-others : (k : Coming) (l : ℕ) → l ≢ i → partsOf ((step s (event i k)) .1) l ≡ partsOf s l
+  coming-others (happens k) l n = event-others s w i k h l n
+  coming-others (starts text) l n = start-others s w i text h l n
+
+  coming-store : (k : Coming) → storeOf ((step s (event i k)) .1) ≡ (onComing i (partsOf s i) k (storeOf s)) .2
+  coming-store (happens k) = event-journal s w i k h
+  coming-store (starts text) = start-store s w i text h
+
+-- a start leaves the store, whatever it is
+coming-quiet : (s u : State) (w : Sound s) (i : ℕ) (h : i < lines) (k : Coming) → decides ((onComing i (partsOf s i) k (storeOf s)) .0) ≡ false
+    → onComing i (partsOf s i) k (storeOf u) ≡ ((onComing i (partsOf s i) k (storeOf s)) .0, (onComing i (partsOf s i) k (storeOf s)) .1, storeOf u)
+coming-quiet s u w i h (happens k) e = quiet s u w i k h e
+coming-quiet s u w i h (starts text) e = refl
+
 -- a taking is told by the store alone
 taking-answer : (s : State) (i : ℕ) (b : List ℕ) → (step s (taking i b)) .0 ≡ (onTaking i b (storeOf s)) .0
 unfolding takeOf
@@ -51,18 +78,18 @@ unfolding takeOf
 taking-store s i b = refl
 
 -- the gateway is a machine with lines
-pub lined : Lined partsOf storeOf onEvent onTaking decides lines step Sound May
+pub lined : Lined partsOf storeOf onComing onTaking decides lines step Sound May
 lined = record {
   keeps = keeps;
   on-line = λ i k m. m;
-  event-answer = λ s i k w m. event-answer s (sound-intact s w) i k m;
-  event-own = λ s i k w m. event-own s (sound-intact s w) i k m;
-  event-others = λ s i k w m l n. event-others s (sound-intact s w) i k m l n;
-  event-journal = λ s i k w m. event-journal s (sound-intact s w) i k m;
+  event-answer = λ s i k w m. coming-answer s (sound-intact s w) i m k;
+  event-own = λ s i k w m. coming-own s (sound-intact s w) i m k;
+  event-others = λ s i k w m l n. coming-others s (sound-intact s w) i m k l n;
+  event-journal = λ s i k w m. coming-store s (sound-intact s w) i m k;
   taking-answer = λ s i b w m. taking-answer s i b;
   taking-lines = λ s i b w m l. taking-parts s i b l;
   taking-journal = λ s i b w m. taking-store s i b;
-  quiet = λ s i k w m e u wu. quiet s u w i k m e;
+  quiet = λ s i k w m e u wu. coming-quiet s u w i m k e;
 }
 
 -- records, ledger and every byte of the three memories: a sound state has nothing else

@@ -4,7 +4,7 @@
 use Prim.Native.Nat.{ℕ, _<_}
 use mathlib.Core.Path.{_≡_}
 use mathlib.Core.Bool.{Bool, true, false}
-use mathlib.Core.List.{List, []}
+use mathlib.Core.List.{List}
 use lib.ListN.{length}
 use Rattle.memory.specs.Sizes.{lines, frameLimit, unfinishedSize, framesSize}
 use Rattle.header.specs.Entry.{Entry}
@@ -62,11 +62,24 @@ onLine i k = record { line = i; kind = k }
 abbrev pub goesOut : Answer → Line → List ℕ → List ℕ
 goesOut a l texts = outBytes (numberOf a) (replyByte (firstOut a)) (frameNow frameLimit l (unfinishedText l texts))
 
+-- what line i has to itself: its record and its parts of the lent memory
+pub record Parts : Type 0 where
+  pub line : Line
+  pub texts : List ℕ
+  pub frames : List ℕ
+
+abbrev pub partsOf : State → ℕ → Parts
+partsOf s i = record { line = lineAt (s .gateway) i; texts = textsOf i (s .memory .unfinished); frames = framesOf i (s .memory .frames) }
+
+-- an answer with what goes out by it, where its line then has these parts
+abbrev pub told : Answer → Parts → Response
+told a p = response a (goesOut a (p .line) (p .texts))
+
+abbrev pub leftBy : AfterEvent → State
+leftBy r = record { gateway = r .handled .gateway; memory = r .memory }
+
 abbrev pub afterEvent : ℕ → AfterEvent → Response × State
-afterEvent i r = (
-  response (r .handled .answer) (goesOut (r .handled .answer) (lineAt (r .handled .gateway) i) (textsOf i (r .memory .unfinished))),
-  record { gateway = r .handled .gateway; memory = r .memory },
-)
+afterEvent i r = (told (r .handled .answer) (partsOf (leftBy r) i), leftBy r)
 
 abbrev pub afterTake : Memory → AfterTake → Response × State
 afterTake m r = (response (r .handled .answer) (r .buffer), record { gateway = r .handled .gateway; memory = memoryOf (r .journal) (m .unfinished) (m .frames) })
@@ -90,15 +103,6 @@ isDecision sending = false
 
 abbrev pub decides : Response → Bool
 decides t = isDecision (classOf (t .answer))
-
--- what line i has to itself: its record and its parts of the lent memory
-pub record Parts : Type 0 where
-  pub line : Line
-  pub texts : List ℕ
-  pub frames : List ℕ
-
-abbrev pub partsOf : State → ℕ → Parts
-partsOf s i = record { line = lineAt (s .gateway) i; texts = textsOf i (s .memory .unfinished); frames = framesOf i (s .memory .frames) }
 
 -- what all lines share: the ledger and the journal
 abbrev pub storeOf : State → Store

@@ -1,7 +1,7 @@
 -- An event or a start by its line's parts and the store alone, and a taking by the store alone: what the proof of stretches asks of a machine with lines.
 -- Assumes nothing.
 use Prim.Native.Nat.{ℕ}
-use mathlib.Core.List.{List, []}
+use mathlib.Core.List.{List}
 use Rattle.memory.specs.Sizes.{journalSize, unfinishedSize, framesSize}
 use Rattle.memory.specs.Parts.{splice}
 use Rattle.room.specs.Room.{todaysShares}
@@ -16,15 +16,19 @@ use Rattle.orders.specs.declared.Start.{Start}
 use Rattle.orders.specs.declared.Start.the-variants.{Asks, Refused}
 use Rattle.taking.specs.Taking.{tookAnswer}
 use Rattle.looking.specs.declared.Kind.{Kind}
+use Rattle.looking.specs.declared.Act.{Act}
 use Rattle.looking.specs.declared.Verdict.{Verdict}
 use Rattle.gateway_laws.specs.Inner.Own.{ownFrames, ownTexts}
-use Rattle.promises.specs.Machine.{Response, response, Coming, happens, starts, goesOut, Parts}
+use Rattle.promises.specs.Machine.{Response, response, Coming, happens, starts, Parts, told}
 
 -- an event by its line's parts and the store alone
+abbrev pub partsAfter : Act → Parts → Kind → Parts
+partsAfter a p k = record { line = lineAfter a (p .line); texts = ownTexts a (p .line) (p .texts) (p .frames); frames = ownFrames a k (p .line) (p .frames) }
+
 abbrev pub left : Verdict → ℕ → Parts → Kind → Store → Response × Parts × Store
 left v i p k j = (
-  response (v .answer) (goesOut (v .answer) (lineAfter (v .act) (p .line)) (ownTexts (v .act) (p .line) (p .texts) (p .frames))),
-  record { line = lineAfter (v .act) (p .line); texts = ownTexts (v .act) (p .line) (p .texts) (p .frames); frames = ownFrames (v .act) k (p .line) (p .frames) },
+  told (v .answer) (partsAfter (v .act) p k),
+  partsAfter (v .act) p k,
   record {
     ledger = ledgerAfter (v .act) (j .ledger) i (λ n. joinedText (p .line) n (p .texts) (p .frames));
     journal = journalAfter (v .act) (j .ledger) i (λ n. joinedText (p .line) n (p .texts) (p .frames)) (j .journal);
@@ -39,12 +43,11 @@ abbrev pub ownStarted : Start → List ℕ → List ℕ → List ℕ
 ownStarted Asks text texts = splice texts 0 text
 ownStarted (Refused a) text texts = texts
 
+abbrev pub partsStarted : Start → Parts → List ℕ → Parts
+partsStarted x p text = record { line = lineStarted x (p .line) text; texts = ownStarted x text (p .texts); frames = p .frames }
+
 abbrev pub startedBy : Start → Parts → List ℕ → Store → Response × Parts × Store
-startedBy x p text j = (
-  response (startAnswer x) (goesOut (startAnswer x) (lineStarted x (p .line) text) (ownStarted x text (p .texts))),
-  record { line = lineStarted x (p .line) text; texts = ownStarted x text (p .texts); frames = p .frames },
-  j,
-)
+startedBy x p text j = (told (startAnswer x) (partsStarted x p text), partsStarted x p text, j)
 
 abbrev pub onStart : ℕ → Parts → List ℕ → Store → Response × Parts × Store
 onStart i p text j = startedBy (startLook i (withinLimits (p .line)) (p .line .state) text journalSize unfinishedSize framesSize) p text j

@@ -1,0 +1,212 @@
+-- The start of a sending at an intact state, and so at every state of a run: it is told by its line's parts alone, it decides nothing, and what is not answered 9 changes nothing.
+-- Assumes nothing.
+use mathlib.Core.Path.{_≡_, refl, sym, ap, ap₂, subst, _∙_}
+use mathlib.Core.Logic.{_≢_}
+use mathlib.Core.Bool.{Bool, true, false, not}
+use mathlib.Core.List.{List}
+use Prim.Native.Nat.{ℕ, _+_, _≤_, _<_}
+use native.Mathlib.Decide.{ℕ-discrete}
+use native.Mathlib.Omega.{arith}
+use borrow.Author.Tests.{lt-ltb}
+use lib.Dec.{eqb}
+use lib.ListN.{length, length-set}
+use lib.Seq.{getD-set-other, getD-set-same, set-getD}
+use Rattle.memory.specs.Sizes.{lines, messageLimit, journalSize, unfinishedSize, framesSize}
+use Rattle.memory.specs.Parts.{splice}
+use Rattle.memory.specs.Tests.{all, unless}
+use Rattle.memory.proofs.Parts.{length-part, part-around, part-splice, length-splice}
+use Rattle.memory.proofs.Lines.{part-elsewhere}
+use Rattle.characters.specs.Allowed.{allowed}
+use Rattle.faults.specs.Message.{isMessage}
+use Rattle.faults.specs.Faults.{faultOf}
+use Rattle.faults.specs.declared.Checked.{Checked}
+use Rattle.faults.specs.declared.Checked.the-variants.{Message, NotText, Faulty}
+use Rattle.faults.proofs.Messages.{message-short, message-allowed}
+use Rattle.answers.specs.Paper.{isFaulty, numberOf}
+use Rattle.answers.specs.declared.Answer.{Answer}
+use Rattle.answers.specs.declared.Answer.the-variants.{Unsendable, NotNeutral}
+use Rattle.answers.proofs.Paper.{fault-number, fault-other, every-but}
+use Rattle.room.specs.Room.{todaysShares}
+use Rattle.journal_laws.specs.Held.{Held}
+use Rattle.journal_laws.specs.Runs.{State as Store}
+use Rattle.line.specs.Line.{withinLimits}
+use Rattle.line.proofs.Limits.{within-facts, within-of, asked-within}
+use Rattle.looking.specs.Views.{textStart, textsOf}
+use Rattle.orders.specs.Starts.{isNeutral, textLook, startLook, startAnswer, lineStarted, textsStarted}
+use Rattle.orders.specs.declared.Start.{Start}
+use Rattle.orders.specs.declared.Start.the-variants.{Asks, Refused}
+use Rattle.orders.proofs.Looks.{message-asks, Passed, asks-passed}
+use Rattle.gateway.specs.Events.{noRecord, AfterEvent, startedWith, startIn, startOf}
+use Rattle.gateway_laws.specs.Classes.{classOf}
+use Rattle.promises.specs.Machine.{State, leftBy, step, isDecision, decides, Parts, partsOf, told, storeOf, Sound, starting}
+use Rattle.promises.specs.Inner.ByParts.{ownStarted, partsStarted, onStart}
+use Rattle.promises.specs.Runs.{answered, isDamage}
+use Rattle.promises.specs.Sending.{Intact}
+use Rattle.promises.specs.Clean.{unfinishedIn, Clean}
+use Rattle.promises.proofs.Sound.{sound-intact, same-parts}
+
+-- ---- the answers
+
+-- what holds of the answer, whatever a start comes to past 40 to 42: only one that asks is answered 9
+pub record Mild (x : Start) : Type 0 where
+  pub undecided : isDecision (classOf (startAnswer x)) ≡ false
+  pub no-damage : isDamage (numberOf (startAnswer x)) ≡ false
+  pub not-30 : eqb (numberOf (startAnswer x)) 30 ≡ false
+  pub sends : numberOf (startAnswer x) ≡ 9 → x ≡ Asks
+
+abbrev plain : Answer → Bool
+plain a = not (isFaulty (numberOf a))
+
+text-mild : (x : Checked) → Mild (textLook x)
+text-mild Message = record { undecided = refl; no-damage = refl; not-30 = refl; sends = λ e. refl }
+text-mild NotText = record { undecided = refl; no-damage = refl; not-30 = refl; sends = λ e. absurd (omega (arith, e)) }
+text-mild (Faulty f place) = record {
+  undecided = refl;
+  no-damage = every-but plain (λ a. isDamage (numberOf a)) (λ vs. refl) (Unsendable f place) (ap not (fault-number f));
+  not-30 = every-but plain (λ a. eqb (numberOf a) 30) (λ vs. refl) (Unsendable f place) (ap not (fault-number f));
+  sends = λ e. absurd (fault-other f 9 refl e);
+}
+
+module _ (s : State) (w : Intact s) (i : ℕ) (text : List ℕ) (h : i < lines) where
+  abbrev own : Parts
+  own = partsOf s i
+
+  -- what it comes to: 60, or what the text comes to
+  abbrev pub start : Start
+  start = startLook i (withinLimits (own .line)) (own .line .state) text journalSize unfinishedSize framesSize
+
+  start-looks : start ≡ unless (isNeutral (own .line .state)) (Refused NotNeutral) (textLook (faultOf text))
+  unfolding startLook
+  start-looks = rw (lt-ltb i lines h, w .within i h)
+
+  pub start-mild : Mild start
+  start-mild = subst Mild (sym start-looks) (by-state (isNeutral (own .line .state)))
+    where
+      by-state : (b : Bool) → Mild (unless b (Refused NotNeutral) (textLook (faultOf text)))
+      by-state true = text-mild (faultOf text)
+      by-state false = record { undecided = refl; no-damage = refl; not-30 = refl; sends = λ e. absurd (omega (arith, e)) }
+
+  -- a message on a neutral line is sent; where one is sent, all tests have passed
+  pub message-starts : isNeutral (own .line .state) ≡ true → isMessage text ≡ true → start ≡ Asks
+  message-starts n m = start-looks ∙ rw (n, message-asks text m)
+
+  pub start-passed : start ≡ Asks → Passed i (withinLimits (own .line)) (own .line .state) text journalSize unfinishedSize framesSize
+  start-passed = asks-passed i (withinLimits (own .line)) (own .line .state) text journalSize unfinishedSize framesSize
+
+  -- ---- what is left
+
+  start-is : startOf (s .gateway) i text (s .memory) ≡ startedWith start (s .gateway) i text (s .memory)
+  unfolding startOf
+  start-is = rw (w .journal, w .texts, w .frames)
+
+  -- the store is left
+  pub start-store : storeOf ((step s (starting i text)) .1) ≡ storeOf s
+  unfolding startOf
+  start-store = refl
+
+  -- the text goes to the line's own part, which holds it
+  short : start ≡ Asks → 0 + length text ≤ messageLimit
+  short e = omega (arith, message-short _ text (start-passed e .message))
+
+  from-start : textStart i ≡ textStart i + 0
+  from-start = omega arith
+
+  own-texts : (x : Start) → start ≡ x → textsOf i (textsStarted x i text (s .memory .unfinished)) ≡ ownStarted x text (own .texts)
+  own-texts Asks e =
+      ap (λ (at : ℕ). textsOf i (splice (s .memory .unfinished) at text)) from-start
+      ∙ part-around (s .memory .unfinished) (textStart i) messageLimit 0 text (omega (arith, w .texts)) (short e)
+  own-texts (Refused a) e = refl
+
+  pub start-own : partsOf ((step s (starting i text)) .1) i ≡ (onStart i own text (storeOf s)) .1
+  start-own =
+      let records = getD-set-same (s .gateway .lines) i (lineStarted start (own .line) text) noRecord (omega (arith, w .as-many)) in
+      ap (λ (x : AfterEvent). partsOf (leftBy x) i) start-is ∙ same-parts _ _ records (own-texts start refl) refl
+
+  pub start-answer : (step s (starting i text)) .0 ≡ (onStart i own text (storeOf s)) .0
+  start-answer = ap₂ told (ap (λ (x : AfterEvent). x .handled .answer) start-is) start-own
+
+  -- every other line has what it had
+  other-texts : (l : ℕ) → l ≢ i → (x : Start) → start ≡ x → textsOf l (textsStarted x i text (s .memory .unfinished)) ≡ textsOf l (s .memory .unfinished)
+  other-texts l n Asks e =
+      ap (λ (at : ℕ). textsOf l (splice (s .memory .unfinished) at text)) from-start
+      ∙ part-elsewhere messageLimit (s .memory .unfinished) i l 0 text (λ q. n (sym q)) (omega (arith, w .texts)) (short e)
+  other-texts l n (Refused a) e = refl
+
+  pub start-others : (l : ℕ) → l ≢ i → partsOf ((step s (starting i text)) .1) l ≡ partsOf s l
+  start-others l n =
+      let records = getD-set-other (s .gateway .lines) i l (lineStarted start (own .line) text) noRecord n in
+      ap (λ (x : AfterEvent). partsOf (leftBy x) l) start-is ∙ same-parts _ _ records (other-texts l n start refl) refl
+
+  -- it decides nothing
+  pub start-undecided : decides ((step s (starting i text)) .0) ≡ false
+  start-undecided = ap decides start-answer ∙ start-mild .undecided
+
+  -- it is answered 9 where it asks, and nowhere else
+  pub start-sends : answered ((step s (starting i text)) .0) ≡ 9 → start ≡ Asks
+  start-sends e = start-mild .sends (sym (ap answered start-answer) ∙ e)
+
+  -- ---- a state stays sound, and its unfinished texts stay of allowed bytes
+
+  own-within : (x : Start) → start ≡ x → withinLimits (lineStarted x (own .line) text) ≡ true
+  own-within Asks e =
+      within-of (lineStarted Asks (own .line) text) (asked-within (own .line) (within-facts (own .line) (w .within i h)) (length text) (omega (arith, short e)))
+  own-within (Refused a) e = w .within i h
+
+  texts-long : (x : Start) → start ≡ x → length (textsStarted x i text (s .memory .unfinished)) ≡ length (s .memory .unfinished)
+  texts-long Asks e = length-splice (s .memory .unfinished) (textStart i) text (omega (arith, short e, w .texts))
+  texts-long (Refused a) e = refl
+
+  each-within : (l : ℕ) → l < lines → withinLimits (partsOf ((step s (starting i text)) .1) l .line) ≡ true
+  each-within l m = elim (ℕ-discrete l i) [
+    | yes q ↦ subst (λ (x : ℕ). withinLimits (partsOf ((step s (starting i text)) .1) x .line) ≡ true) (sym q) (ap (λ (p : Parts). withinLimits (p .line)) start-own ∙ own-within start refl)
+    | no q ↦ ap (λ (p : Parts). withinLimits (p .line)) (start-others l q) ∙ w .within l m
+  ]
+
+  abbrev IsClean : Parts → Type 0
+  IsClean p = all allowed (unfinishedIn p) ≡ true
+
+  own-clean : IsClean own → (x : Start) → start ≡ x → IsClean (partsStarted x own text)
+  own-clean c Asks e =
+      ap (all allowed) (part-splice (own .texts) 0 text (omega (arith, short e, length-part (s .memory .unfinished) (textStart i) messageLimit (omega (arith, w .texts)))))
+      ∙ message-allowed _ text (start-passed e .message)
+  own-clean c (Refused a) e = c
+
+  pub start-clean : Clean s → Clean ((step s (starting i text)) .1)
+  start-clean c l m = elim (ℕ-discrete l i) [
+    | yes q ↦ subst (λ (x : ℕ). IsClean (partsOf ((step s (starting i text)) .1) x)) (sym q) (subst IsClean (sym start-own) (own-clean (c i h) start refl))
+    | no q ↦ subst IsClean (sym (start-others l q)) (c l m)
+  ]
+
+  lines-long : length (((step s (starting i text)) .1) .gateway .lines) ≡ lines
+  unfolding startOf
+  lines-long = length-set (s .gateway .lines) i _ ∙ w .as-many
+
+  unfinished-long : length (((step s (starting i text)) .1) .memory .unfinished) ≡ unfinishedSize
+  unfinished-long = ap (λ (x : AfterEvent). length (x .memory .unfinished)) start-is ∙ texts-long start refl ∙ w .texts
+
+  frames-left : ((step s (starting i text)) .1) .memory .frames ≡ s .memory .frames
+  unfolding startOf
+  frames-left = refl
+
+pub start-sound : (s : State) (w : Sound s) (i : ℕ) (text : List ℕ) → i < lines → Sound ((step s (starting i text)) .1)
+start-sound s w i text h =
+    let v = sound-intact s w in
+    record {
+      as-many = lines-long s v i text h;
+      within = each-within s v i text h;
+      texts = unfinished-long s v i text h;
+      frames = ap length (frames-left s v i text h) ∙ w .frames;
+      entries = w .entries;
+      held = subst (λ (j : Store). Held todaysShares (j .ledger) (j .journal) (w .entries)) (sym (start-store s v i text h)) (w .held);
+    }
+
+-- what is not answered 9 leaves everything as it was, in whatever state
+pub start-refused : (s : State) (i : ℕ) (text : List ℕ) → answered ((step s (starting i text)) .0) ≢ 9 → (step s (starting i text)) .1 ≡ s
+unfolding startOf
+start-refused s i text n = by-start (startIn (s .gateway) i text (s .memory)) n
+  where
+    by-start : (x : Start) → numberOf (startAnswer x) ≢ 9 → leftBy (startedWith x (s .gateway) i text (s .memory)) ≡ s
+    by-start Asks n = absurd (n refl)
+    by-start (Refused a) n =
+        let same = set-getD (s .gateway .lines) i noRecord in
+        λ z. record { gateway = record { lines = same z; ledger = s .gateway .ledger }; memory = s .memory }
