@@ -1,19 +1,38 @@
 -- What each test of the numbers decides.
 -- Assumes nothing.
 use mathlib.Core.Path.{_≡_, refl, sym, _∙_}
-use mathlib.Core.Bool.{Bool, true, false}
+use mathlib.Core.Bool.{Bool, true, false, not, _&&_}
 use mathlib.Core.List.{List}
-use Prim.Native.Nat.{ℕ, _+_, _≤_, _<_}
+use Prim.Native.Nat.{ℕ, _+_, _-_, _≤_, _<_}
 use borrow.Author.Tests.{lt-ltb, le-ltb, ltb-true, eq-eqb, ne-eqb}
-use lib.Dec.{ltb}
+use lib.Dec.{ltb, eqb}
 use lib.ListN.{length, set}
-use Rattle.memory.specs.Sizes.{lines, framesSize}
+use Rattle.memory.specs.Sizes.{lines, frameLimit, framesSize}
+use Rattle.characters.specs.Control.{lf}
+use Rattle.line.specs.Line.{mostCollected}
 use Rattle.memory.proofs.Tests.{and-left, and-right}
 use Rattle.looking.specs.Views.{frameStart}
 use Rattle.looking.specs.declared.Kind.{Kind}
-use Rattle.layout.specs.Layout.{numberAt}
-use Rattle.numbers.specs.Plain.{quick, onlyCollects, withinNumbers, oneMore, begins, insideAt}
+use Rattle.layout.specs.Layout.{firstAt, numberAt}
+use Rattle.numbers.specs.Plain.{inside, quick, onlyCollects, withinNumbers, oneMore, begins, insideAt}
 use Rattle.numbers.specs.Changes.{isWithin, isCollected, Collected, isBegun, Begun}
+
+-- a byte is quick by the line's limits, and by what is collected
+module _ (ns : List ℕ) (i b : ℕ) where
+  pub quick-beyond : withinNumbers ns i ≡ false → false ≡ quick ns i b
+  quick-beyond w = rw w (sym (and-false (onlyCollects ns i b)))
+    where
+      and-false : (a : Bool) → a && false ≡ false
+      and-false true = refl
+      and-false false = refl
+
+  pub quick-rest : firstAt ns i ≡ inside → (b ≡ lf → ⊥) → withinNumbers ns i ≡ true → quick ns i b ≡ not (eqb (numberAt ns i 1) (frameLimit - 2))
+  unfolding onlyCollects mostCollected
+  quick-rest s n w = rw (s, ne-eqb b lf n, w) (and-true (not (eqb (numberAt ns i 1) (frameLimit - 2))))
+    where
+      and-true : (a : Bool) → a && true ≡ a
+      and-true true = refl
+      and-true false = refl
 
 -- a byte: not collected on no line, in frames of another size, or where it is not quick
 module _ (ns : List ℕ) (i b : ℕ) (f : List ℕ) where

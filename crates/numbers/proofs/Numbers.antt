@@ -24,6 +24,12 @@ use Rattle.ledger.specs.Ledgers.{ledgerOf, withSerial}
 use Rattle.ledger.proofs.Ledgers.{again, serial-at}
 use Rattle.numbers.specs.Plain.{insideAt, waiting, inside, asking, pausing, offering, sendingOf, stateOf, stateNumber, triesNumber, placeNumber, sendingFits, lastOf, lastNumber, flag, withinNumbers, lineOf, withLine}
 
+-- the numbers behind the state, without tries and place
+abbrev pub othersWithin : List ℕ → ℕ → Bool
+othersWithin ns i =
+    leb (numberAt ns i 1) (frameLimit - 2) && (leb (numberAt ns i 2) messageLimit && (leb (numberAt ns i 3) mostSeconds
+    && (leb (numberAt ns i 4) mostNumber && (leb (numberAt ns i 5) (mostNumber + 1) && leb (numberAt ns i 6) 1))))
+
 pub record WithinNumbers (ns : List ℕ) (i : ℕ) : Type 0 where
   pub state : firstAt ns i ≤ offering
   pub collected : numberAt ns i 1 ≤ mostCollected (lineOf ns i)
@@ -39,36 +45,43 @@ module _ (ns : List ℕ) (i : ℕ) where
   unfolding withinNumbers
   numbers-facts e =
       let rest₁ = and-right (leb (firstAt ns i) offering) _ e in
-      let rest₂ = and-right (leb (numberAt ns i 1) (mostCollected (lineOf ns i))) _ rest₁ in
-      let rest₃ = and-right (leb (numberAt ns i 2) messageLimit) _ rest₂ in
-      let rest₄ = and-right (leb (numberAt ns i 3) mostSeconds) _ rest₃ in
-      let rest₅ = and-right (leb (numberAt ns i 4) mostNumber) _ rest₄ in
-      let rest₆ = and-right (leb (numberAt ns i 5) (mostNumber + 1)) _ rest₅ in
+      let rest₂ = and-right (sendingFits (firstAt ns i) (numberAt ns i 8) (numberAt ns i 9)) _ rest₁ in
+      let rest₃ = and-right (leb (numberAt ns i 1) (mostCollected (lineOf ns i))) _ rest₂ in
+      let rest₄ = and-right (leb (numberAt ns i 2) messageLimit) _ rest₃ in
+      let rest₅ = and-right (leb (numberAt ns i 3) mostSeconds) _ rest₄ in
+      let rest₆ = and-right (leb (numberAt ns i 4) mostNumber) _ rest₅ in
       record {
         state = leb-true _ _ (and-left (leb (firstAt ns i) offering) _ e);
-        collected = leb-true _ _ (and-left (leb (numberAt ns i 1) (mostCollected (lineOf ns i))) _ rest₁);
-        joined = leb-true _ _ (and-left (leb (numberAt ns i 2) messageLimit) _ rest₂);
-        seconds = leb-true _ _ (and-left (leb (numberAt ns i 3) mostSeconds) _ rest₃);
-        next = leb-true _ _ (and-left (leb (numberAt ns i 4) mostNumber) _ rest₄);
-        last = leb-true _ _ (and-left (leb (numberAt ns i 5) (mostNumber + 1)) _ rest₅);
-        refusing = leb-true _ _ (and-left (leb (numberAt ns i 6) 1) _ rest₆);
-        sending = and-right (leb (numberAt ns i 6) 1) _ rest₆;
+        sending = and-left (sendingFits (firstAt ns i) (numberAt ns i 8) (numberAt ns i 9)) _ rest₁;
+        collected = leb-true _ _ (and-left (leb (numberAt ns i 1) (mostCollected (lineOf ns i))) _ rest₂);
+        joined = leb-true _ _ (and-left (leb (numberAt ns i 2) messageLimit) _ rest₃);
+        seconds = leb-true _ _ (and-left (leb (numberAt ns i 3) mostSeconds) _ rest₄);
+        next = leb-true _ _ (and-left (leb (numberAt ns i 4) mostNumber) _ rest₅);
+        last = leb-true _ _ (and-left (leb (numberAt ns i 5) (mostNumber + 1)) _ rest₆);
+        refusing = leb-true _ _ (and-right (leb (numberAt ns i 5) (mostNumber + 1)) _ rest₆);
       }
 
--- where its other numbers are within their limits, a line's state, tries and place tell
-pub within-rest : (ns : List ℕ) (i : ℕ) → firstAt ns i ≤ offering → numberAt ns i 1 ≤ frameLimit - 2 → numberAt ns i 2 ≤ messageLimit → numberAt ns i 3 ≤ mostSeconds
-    → numberAt ns i 4 ≤ mostNumber → numberAt ns i 5 ≤ mostNumber + 1 → numberAt ns i 6 ≤ 1 → withinNumbers ns i ≡ sendingFits (firstAt ns i) (numberAt ns i 8) (numberAt ns i 9)
+-- a state with the tries and the place that it may have: the other numbers tell
+pub within-others : (ns : List ℕ) (i : ℕ) → firstAt ns i ≤ offering → sendingFits (firstAt ns i) (numberAt ns i 8) (numberAt ns i 9) ≡ true
+    → withinNumbers ns i ≡ othersWithin ns i
 unfolding withinNumbers mostCollected
-within-rest ns i s c j t n l r =
+within-others ns i s f = rw (le-leb (firstAt ns i) offering s, f)
+
+pub others-last : (ns : List ℕ) (i : ℕ) → numberAt ns i 1 ≤ frameLimit - 2 → numberAt ns i 2 ≤ messageLimit → numberAt ns i 3 ≤ mostSeconds → numberAt ns i 4 ≤ mostNumber
+    → numberAt ns i 5 ≤ mostNumber + 1 → othersWithin ns i ≡ leb (numberAt ns i 6) 1
+others-last ns i c j t n l =
     rw (
-      le-leb (firstAt ns i) offering s,
       le-leb (numberAt ns i 1) (frameLimit - 2) c,
       le-leb (numberAt ns i 2) messageLimit j,
       le-leb (numberAt ns i 3) mostSeconds t,
       le-leb (numberAt ns i 4) mostNumber n,
       le-leb (numberAt ns i 5) (mostNumber + 1) l,
-      le-leb (numberAt ns i 6) 1 r,
     )
+
+-- and with others it is none
+pub within-unfit : (ns : List ℕ) (i : ℕ) → firstAt ns i ≤ offering → sendingFits (firstAt ns i) (numberAt ns i 8) (numberAt ns i 9) ≡ false → false ≡ withinNumbers ns i
+unfolding withinNumbers
+within-unfit ns i s f = rw (le-leb (firstAt ns i) offering s, f)
 
 -- no state has more tries than six
 pub few-tries : (n tries place : ℕ) → sendingFits n tries place ≡ true → tries ≤ 255

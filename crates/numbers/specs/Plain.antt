@@ -103,9 +103,9 @@ lineOf ns i = record {
 -- they are those of a record within its limits; the eighth, a serial, may be any, and so may the spare ones [A42, H3]
 unfoldable pub withinNumbers : List ℕ → ℕ → Bool
 withinNumbers ns i =
-    leb (firstAt ns i) offering && (leb (numberAt ns i collectedAt) (mostCollected (lineOf ns i)) && (leb (numberAt ns i joinedAt) messageLimit && (leb (numberAt ns i secondsAt) mostSeconds
-    && (leb (numberAt ns i nextAt) mostNumber && (leb (numberAt ns i lastAt) (mostNumber + 1) && (leb (numberAt ns i refusingAt) 1
-    && sendingFits (firstAt ns i) (numberAt ns i triesAt) (numberAt ns i placeAt)))))))
+    leb (firstAt ns i) offering && (sendingFits (firstAt ns i) (numberAt ns i triesAt) (numberAt ns i placeAt)
+    && (leb (numberAt ns i collectedAt) (mostCollected (lineOf ns i)) && (leb (numberAt ns i joinedAt) messageLimit && (leb (numberAt ns i secondsAt) mostSeconds
+    && (leb (numberAt ns i nextAt) mostNumber && (leb (numberAt ns i lastAt) (mostNumber + 1) && leb (numberAt ns i refusingAt) 1))))))
 
 -- inside a frame that this byte does not end: it is only collected
 unfoldable pub onlyCollects : List ℕ → ℕ → ℕ → Bool

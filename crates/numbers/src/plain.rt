@@ -8,7 +8,7 @@ ghost use Rattle.line.specs.Line.{mostCollected};
 ghost use Rattle.line.specs.declared.State.the-variants.{Out};
 ghost use Rattle.looking.specs.Views.{frameStart};
 ghost use Rattle.layout.specs.Layout.{numberAt};
-ghost use Rattle.numbers.specs.Plain.{oneMore, quick, begins, sendingOf, stateOf, stateNumber, triesNumber, placeNumber, sendingFits, lastOf, lastNumber, flag, withinNumbers, onlyCollects, lineOf, withLine};
+ghost use Rattle.numbers.specs.Plain.{oneMore, quick, begins, sendingOf, stateOf, stateNumber, triesNumber, placeNumber, sendingFits, lastOf, lastNumber, flag, withinNumbers, lineOf, withLine};
 use characters::LF;
 use characters::STX;
 use layout::COLLECTED;
@@ -45,13 +45,16 @@ struct Stated {
     place: u16,
 }
 
-// Whether a line's numbers are those of a record within its limits.
+// Whether a line's numbers are those of a record within its limits. Tries and place come early: both are then tested in one, while a register is free.
 pub fn is_within(numbers: &[u16; NUMBERS], i: usize) -> bool
     requires { ⌜ i < lines ⌝ }
     ensures { λ r. ⌜ r ≡ withinNumbers (now (numbers .entry)) i ⌝ }
 {
     let at = i * FIELDS;
     if OFFERING < numbers[at] {
+        return false;
+    }
+    if !sending_fits(numbers[at], numbers[at + TRIES], numbers[at + PLACE]) {
         return false;
     }
     if Line::MOST_COLLECTED < numbers[at + COLLECTED] {
@@ -69,10 +72,7 @@ pub fn is_within(numbers: &[u16; NUMBERS], i: usize) -> bool
     if (Line::MOST_NUMBER as u16) + 1 < numbers[at + LAST] {
         return false;
     }
-    if 1 < numbers[at + REFUSING] {
-        return false;
-    }
-    sending_fits(numbers[at], numbers[at + TRIES], numbers[at + PLACE])
+    numbers[at + REFUSING] <= 1
 }
 
 // Whether a state may have these tries and this place.
@@ -97,15 +97,22 @@ fn sending_fits(state: u16, tries: u16, place: u16) -> bool
     place <= Line::MOST_JOINED
 }
 
-// Whether a byte is only collected and its line's numbers are within their limits: in this order none is compared twice.
+// Whether a byte is only collected, inside a frame that it does not end, and its line's numbers are within their limits: in this order none is compared twice.
 pub fn is_quick(numbers: &[u16; NUMBERS], i: usize, byte: u8) -> bool
     requires { ⌜ i < lines ⌝ }
     ensures { λ r. ⌜ r ≡ quick (now (numbers .entry)) i byte ⌝ }
 {
-    if !collects(numbers, i, byte) {
+    let at = i * FIELDS;
+    if numbers[at] != INSIDE {
         return false;
     }
-    is_within(numbers, i)
+    if byte == LF {
+        return false;
+    }
+    if !is_within(numbers, i) {
+        return false;
+    }
+    numbers[at + COLLECTED] != Line::MOST_COLLECTED
 }
 
 // The byte behind those collected, and one more collected.
@@ -135,21 +142,6 @@ pub fn is_begin(numbers: &[u16; NUMBERS], i: usize, kind: Kind) -> bool
         }
         Kind::Seconds(_) => false,
     }
-}
-
-// Whether a byte is only collected: inside a frame that it does not end.
-fn collects(numbers: &[u16; NUMBERS], i: usize, byte: u8) -> bool
-    requires { ⌜ i < lines ⌝ }
-    ensures { λ r. ⌜ r ≡ onlyCollects (now (numbers .entry)) i byte ⌝ }
-{
-    let at = i * FIELDS;
-    if numbers[at] != INSIDE {
-        return false;
-    }
-    if byte == LF {
-        return false;
-    }
-    numbers[at + COLLECTED] != Line::MOST_COLLECTED
 }
 
 // The record that a line's numbers stand for.

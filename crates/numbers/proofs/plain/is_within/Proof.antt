@@ -4,55 +4,60 @@ use mathlib.Core.Path.{_≡_, sym, _∙_}
 use native.Mathlib.Omega.{arith}
 use denote.Ref.{now}
 use borrow.Author.Needs.{needs}
+use borrow.Author.Tests.{not-true, not-false}
 use Rattle.memory.proofs.Branches.{branches}
-use Rattle.line.specs.Line.{mostCollected}
-use Rattle.numbers.specs.Plain.{withinNumbers, sendingFits}
 use Rattle.layout.specs.Layout.{firstAt, numberAt}
-use Rattle.numbers.proofs.Numbers.{within-rest}
+use Rattle.numbers.specs.Plain.{withinNumbers, sendingFits}
+use Rattle.numbers.proofs.Numbers.{othersWithin, within-others, within-unfit, others-last}
 use Rattle.numbers.proofs.plain.is_within.Statement.{statement}
 use Rattle.numbers.proofs.plain.is_within.Tie as tie
 
+-- where the function was entered, from behind the test of tries and place
+abbrev entry : tie.After-sending-fits → tie.Start
+entry c = let first = c .before .before .before .before in first .before .before
+
+-- the others are tested behind these
+others : (c : tie.Else2) → let a = entry (c .before) .args in withinNumbers (now (a .numbers)) (a .i) ≡ othersWithin (now (a .numbers)) (a .i)
+others c =
+    let a = entry (c .before) .args in
+    within-others (now (a .numbers)) (a .i) (omega arith) (sym (c .before .sending-fits .ensures) ∙ not-false _ (c .if2 .left))
+
+-- and one test is behind the other
+abbrev third : tie.Else4 → tie.Else2
+third c = c .before .before .before .before
+
+abbrev fifth : tie.Else6 → tie.Else4
+fifth c = c .before .before .before .before
+
 returns : tie.Need-returns
-unfolding withinNumbers mostCollected
+unfolding withinNumbers
 returns c = search branches
 
 returns-2 : tie.Need-returns-2
-unfolding withinNumbers mostCollected
-returns-2 c = search branches
+returns-2 c =
+    let a = entry (c .before) .args in
+    within-unfit (now (a .numbers)) (a .i) (omega arith) (sym (c .before .sending-fits .ensures) ∙ not-true _ (c .if2 .taken))
 
 returns-3 : tie.Need-returns-3
-unfolding withinNumbers mostCollected
-returns-3 c = search branches
+returns-3 c = rw (others (c .before .before)) (search branches)
 
 returns-4 : tie.Need-returns-4
-unfolding withinNumbers mostCollected
-returns-4 c = search branches
+returns-4 c = rw (others (c .before .before .before .before)) (search branches)
 
 returns-5 : tie.Need-returns-5
-unfolding withinNumbers mostCollected
-returns-5 c = search branches
+returns-5 c = rw (others (third (c .before .before))) (search branches)
 
 returns-6 : tie.Need-returns-6
-unfolding withinNumbers mostCollected
-returns-6 c = search branches
+returns-6 c = rw (others (third (c .before .before .before .before))) (search branches)
 
 returns-7 : tie.Need-returns-7
-unfolding withinNumbers mostCollected
-returns-7 c = search branches
-
--- where the function was entered, from behind its fourth test
-abbrev entry : tie.Else4 → tie.Start
-entry c = let past = c .before .before in let first = past .before .before .before .before in first .before .before
-
--- behind the test of the seventh number
-counted : (c : tie.Else7) → let a = entry (c .before .before .before .before .before .before) .args in
-    withinNumbers (now (a .numbers)) (a .i) ≡ sendingFits (firstAt (now (a .numbers)) (a .i)) (numberAt (now (a .numbers)) (a .i) 8) (numberAt (now (a .numbers)) (a .i) 9)
-counted c =
-    let a = entry (c .before .before .before .before .before .before) .args in
-    within-rest (now (a .numbers)) (a .i) (omega arith) (omega arith) (omega arith) (omega arith) (omega arith) (omega arith) (omega arith)
+returns-7 c = rw (others (third (fifth (c .before .before)))) (search branches)
 
 returns-8 : tie.Need-returns-8
-returns-8 c = let past = c .before .before .before .before in c .sending-fits .ensures ∙ sym (counted past)
+returns-8 c =
+    let past = third (fifth (c .before .before .before)) in
+    let a = entry (past .before) .args in
+    rw (others past, others-last (now (a .numbers)) (a .i) (omega arith) (omega arith) (omega arith) (omega arith) (omega arith)) (search needs)
 
 pub is-within-spec : {M : Type 1} → statement M
 is-within-spec =
@@ -65,12 +70,17 @@ is-within-spec =
     (λ c. search needs)
     (λ c. search needs)
     (λ c. search needs)
+    (λ c. search needs)
+    (λ c. search needs)
+    (λ c. search needs)
+    (λ c. search needs)
+    (λ c. search needs)
+    (λ c κs. search needs)
     returns-2
     (λ c. search needs)
     (λ c. search needs)
     (λ c. search needs)
     returns-3
-    (λ c. search needs)
     (λ c. search needs)
     (λ c. search needs)
     (λ c. search needs)
@@ -84,8 +94,9 @@ is-within-spec =
     (λ c. search needs)
     (λ c. search needs)
     (λ c. search needs)
-    (λ c. search needs)
     returns-6
+    (λ c. search needs)
+    (λ c. search needs)
     (λ c. search needs)
     (λ c. search needs)
     (λ c. search needs)
@@ -93,10 +104,4 @@ is-within-spec =
     (λ c. search needs)
     (λ c. search needs)
     (λ c. search needs)
-    (λ c. search needs)
-    (λ c. search needs)
-    (λ c. search needs)
-    (λ c. search needs)
-    (λ c. search needs)
-    (λ c κs. search needs)
     returns-8)
