@@ -248,7 +248,7 @@ typedef struct ngachodui_line {
     uint16_t tries;       /* asking, pausing: how often our ENQ was refused, up to 5; offering: how often the
                            * frame was sent, up to 6; else 0 */
     uint16_t place;       /* offering: where the frame's text starts in the text, up to 4,000; else 0 */
-    uint16_t spare[6];    /* 0 when fresh; in this version no call looks at them or changes them */
+    uint16_t spare[6];    /* 0 when fresh; in this version no call looks at them or changes them [H1] */
 } ngachodui_line;
 
 /* The numbers: those of all lines. */
@@ -322,7 +322,7 @@ void ngachodui_fresh(ngachodui_numbers *numbers, ngachodui_counts *counts);
  *   pausing   it is ignored (0), the analyzer's own ENQ too
  *   offering  06 and 04 send the next frame, or behind the last one our EOT; any other byte, 05 too, sends the
  *             same frame again, and behind its sixth send our EOT
- * All of these but 0 and 61 are answered 9.
+ * All of these but 0 and 61 are answered 9. [S5, S6, S7, S8, S9]
  *
  * Changes, by the answer:
  *   0        at most this line's record, and its frame's next byte
@@ -351,7 +351,7 @@ ngachodui_answered ngachodui_byte(uint8_t line, uint8_t byte,
  * answer is 9: at 15 seconds without a reply our EOT is sent and the line is neutral; at 10 seconds of a
  * pause our ENQ is sent again; before that nothing is sent, and the second count grows. What is over 15 or
  * 10 is not carried on. The lines have no clock in common: tell each one, as often as is convenient, at
- * least every few seconds while its transfer is open or while it sends. [E8, E9, E10] */
+ * least every few seconds while its transfer is open or while it sends. [E8, E9, E10, S8, S10] */
 ngachodui_answered ngachodui_seconds(uint8_t line, uint8_t seconds,
                                      ngachodui_numbers *numbers, ngachodui_counts *counts,
                                      uint8_t *journal, size_t journal_length,
@@ -366,7 +366,7 @@ ngachodui_answered ngachodui_seconds(uint8_t line, uint8_t seconds,
  * unfinished text, the host's own copy is not needed for the sending, and the line asks: its counts are 0
  * but for `joined`, which is the text's length, next number 1, no last number, not refusing. The others change
  * nothing, and `reply` is 0: nothing goes to the analyzer, with a fault neither. The journal and the frames
- * are lent for their lengths alone. */
+ * are lent for their lengths alone. [S1, O7, L13] */
 ngachodui_answered ngachodui_send(uint8_t line, const uint8_t *text, size_t text_length,
                                   ngachodui_numbers *numbers,
                                   const uint8_t *journal, size_t journal_length,
@@ -379,7 +379,7 @@ ngachodui_answered ngachodui_send(uint8_t line, const uint8_t *text, size_t text
  * Answers 0 with the frame's length, or with length 0 where the line offers no frame, which is never so where
  * `reply` was 02; and 40, 41 (of the unfinished text), 42, 47 in this order. It changes nothing but the
  * output's first `length` bytes: called again before the line's next event, it gives the same frame. An
- * output of NGACHODUI_FRAME_LIMIT bytes is never too short. */
+ * output of NGACHODUI_FRAME_LIMIT bytes is never too short. [S2, O7] */
 ngachodui_made ngachodui_outgoing(uint8_t line, const ngachodui_numbers *numbers,
                                   const uint8_t *unfinished, size_t unfinished_length,
                                   uint8_t *out, size_t out_length);

@@ -3,7 +3,7 @@
 use crate::texts::{ENQ, EOT, LF, STX};
 
 /// Where a line is: without a transfer, in one between frames, or in a frame [E2]; or, in a sending, where
-/// our ENQ awaits its reply, in the 10 seconds behind a refusal, or where a frame awaits its reply.
+/// our ENQ awaits its reply, in the 10 seconds behind a refusal, or where a frame awaits its reply. [S3]
 #[derive(Clone, Copy, PartialEq, Eq, Debug)]
 pub enum State {
     Neutral,
@@ -119,7 +119,7 @@ impl Line {
     }
 
     /// Answer 42 is given where this fails. State and counts need not agree, nor a place and the text's
-    /// length; tries and place belong to states of a sending, and are 0 in the others. [E11]
+    /// length; tries and place belong to states of a sending, and are 0 in the others. [E11, S3, H3]
     pub fn is_within_limits(&self) -> bool {
         self.collected <= COLLECTED_LIMIT
             && self.joined <= JOINED_LIMIT

@@ -97,7 +97,7 @@ impl Model {
     }
 
     /// The start of a sending. It is an event of its line, and tested as one; then the line must be
-    /// neutral, and then the text a message. A refusal leaves everything, and sends nothing.
+    /// neutral, and then the text a message. A refusal leaves everything, and sends nothing. [S1, O7]
     pub fn start(
         &mut self,
         line: u8,
@@ -124,7 +124,7 @@ impl Model {
 
     /// The frame that a line offers, written to the start of `out`, and how many bytes it has: 0 where it
     /// offers none. It is tested for 40, 41 of the unfinished text, 42, 47; nothing else is looked at, and
-    /// nothing but `out` is changed.
+    /// nothing but `out` is changed. [S2, O7]
     pub fn outgoing(&self, line: u8, unfinished: &[u8], out: &mut [u8]) -> Result<usize, u8> {
         let line = usize::from(line);
         if line >= LINES {

@@ -3,6 +3,7 @@
 //! A sending is started with a text. The line then *asks*: our ENQ awaits its reply. Where that is refused
 //! it *pauses* for 10 seconds and asks again. Acknowledged, it *offers* one frame after the other, and each
 //! awaits its reply. At the end comes our EOT, or the sending is given up; either way the line is neutral.
+//! [S1, S3]
 
 use crate::answers::Answer;
 use crate::cutting::PIECE;
@@ -10,11 +11,11 @@ use crate::frames::{after, write};
 use crate::lines::{Kind, Line, State};
 use crate::texts::{ACK, CR, ENQ, EOT, ETB, ETX, STX};
 
-/// How many seconds a reply is waited for, and how many a line pauses.
+/// How many seconds a reply is waited for, and how many a line pauses. [S10, S8]
 pub const REPLY_SECONDS: usize = 15;
 pub const PAUSE_SECONDS: usize = 10;
 
-/// How often our ENQ is refused at most, and how often a frame is sent.
+/// How often our ENQ is refused at most, and how often a frame is sent. [S9, S7]
 pub const MOST_TRIES: usize = 6;
 
 /// The number of a sending's first frame.
@@ -43,7 +44,7 @@ enum Turn {
     GivesUp,
 }
 
-/// The record of a line as a start leaves it, with a text of this length.
+/// The record of a line as a start leaves it, with a text of this length. [L13]
 pub fn started(length: usize) -> Line {
     Line {
         joined: length,
@@ -88,7 +89,7 @@ pub fn step(line: &mut Line, kind: Kind, text: &[u8]) -> Answer {
     }
 }
 
-/// Each step of a sending begins a wait of its own: no seconds are carried on.
+/// Each step of a sending begins a wait of its own: no seconds are carried on. [S10, L14]
 fn go_on(line: &mut Line, state: State, tries: usize) {
     line.state = state;
     line.tries = tries;
@@ -101,7 +102,7 @@ fn turn(line: &Line, kind: Kind, text: &[u8]) -> Turn {
     let seconds = |more: u8| line.seconds + usize::from(more);
     match (line.state, kind) {
         (State::Asking, Kind::Byte(ACK)) => offer(text, 0, FIRST),
-        // Both ends want to send: ours gives way.
+        // Both ends want to send: ours gives way. [S5]
         (State::Asking, Kind::Byte(ENQ)) => Turn::GivesUp,
         // Any other byte refuses, EOT too.
         (State::Asking, Kind::Byte(_)) if tries + 1 < MOST_TRIES => Turn::Pauses(tries + 1),
@@ -111,7 +112,7 @@ fn turn(line: &Line, kind: Kind, text: &[u8]) -> Turn {
         }
         (State::Asking, Kind::Seconds(_)) => Turn::Ends,
 
-        // Not even ENQ is heard now.
+        // Not even ENQ is heard now. [S8]
         (State::Pausing, Kind::Byte(_)) => Turn::Stays,
         (State::Pausing, Kind::Seconds(more)) if seconds(more) < PAUSE_SECONDS => {
             Turn::Waits(seconds(more))
@@ -120,7 +121,7 @@ fn turn(line: &Line, kind: Kind, text: &[u8]) -> Turn {
 
         // No run reaches this: nothing stands at the place, so there is nothing to send once more.
         (State::Offering, Kind::Byte(_)) if place >= text.len() => Turn::Ends,
-        // EOT asks us to stop, and acknowledges too.
+        // EOT asks us to stop, and acknowledges too. [S6]
         (State::Offering, Kind::Byte(ACK | EOT)) => {
             let behind = place + piece(text, place).len();
             offer(text, behind, after(line.next))
@@ -164,7 +165,7 @@ fn piece(text: &[u8], place: usize) -> &[u8] {
     &rest[..end.map_or(room, |cr| cr + 1)]
 }
 
-/// The frame that a line offers, byte for byte; none in any other state, and none past the text.
+/// The frame that a line offers, byte for byte; none in any other state, and none past the text. [S2]
 pub fn outgoing(line: &Line, text: &[u8]) -> Vec<u8> {
     if line.state != State::Offering || line.place >= text.len() {
         return Vec::new();
