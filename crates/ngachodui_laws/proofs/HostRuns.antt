@@ -114,8 +114,8 @@ record Alike (i : ℕ) (c : AfterCall) (x : AfterEvent) : Type 0 where
   in-order : InOrder (c .state)
 
 alike : (i : ℕ) (c : AfterCall) (x : AfterEvent) → Hosts c x → isGiving (classOf (x .handled .answer)) ≡ false → Alike i c x
-alike i c x h gives =
-    let a = h .answer ∙ event-answer (x .handled .answer) gives in
+alike i c x h other =
+    let a = h .answer ∙ event-answer (x .handled .answer) other in
     let own : lineOf (c .state .numbers) i ≡ lineAt (x .handled .gateway) i = sym (line-anywhere (c .state .numbers) (h .ordered .numbers) i) ∙ ap (λ (g : Gateway). lineAt g i) (h .gateway) in
     record {
       state = λ z. record { gateway = h .gateway z; memory = h .memory z };

@@ -37,20 +37,10 @@ line-at ns k h = line-in ns 0 lines k h ∙ ap (lineOf ns) (zero-add k)
 -- behind the last line nothing is read
 line-past : (ns : List ℕ) → length ns ≡ lines * fields → (k : ℕ) → lines ≤ k → lineOf ns k ≡ noRecord
 line-past ns long k h =
-    rw (
-      none 0 (firstAt ns k) (ap (λ (p : ℕ). getD ns p 0) (sym (add-zero (start k)))),
-      past 1,
-      past 2,
-      past 3,
-      past 4,
-      past 5,
-      past 6,
-      past 8,
-      past 9,
-    )
+    rw (none 0 (firstAt ns k) (ap (λ (p : ℕ). getD ns p 0) (sym (add-zero (start k)))), past 1, past 2, past 3, past 4, past 5, past 6)
   where
     past : (m : ℕ) → numberAt ns k m ≡ 0
-    past m = List·getD-eq-default ns 0 (omega (arith, long))
+    past m = List·getD-eq-default ns 0 {n = start k + m} (omega (arith, long))
 
     none : (m x : ℕ) → x ≡ numberAt ns k m → x ≡ 0
     none m x e = e ∙ past m
@@ -59,7 +49,7 @@ line-past ns long k h =
 pub line-anywhere : (ns : List ℕ) → length ns ≡ lines * fields → (k : ℕ) → getD (linesOf ns 0 lines) k noRecord ≡ lineOf ns k
 line-anywhere ns long k = elim (decLt k lines) [
   | yes h ↦ line-at ns k h
-  | no h ↦ List·getD-eq-default (linesOf ns 0 lines) noRecord (omega (arith, lines-length ns 0 lines)) ∙ sym (line-past ns long k (omega arith))
+  | no h ↦ List·getD-eq-default (linesOf ns 0 lines) noRecord {n = k} (omega (arith, lines-length ns 0 lines)) ∙ sym (line-past ns long k (omega arith))
 ]
 
 lines-set : (ns ns′ : List ℕ) (i : ℕ) (l : Line) → i < lines → lineOf ns′ i ≡ l → ((k : ℕ) → k ≢ i → lineOf ns′ k ≡ lineOf ns k)

@@ -53,21 +53,29 @@ two-values (a ∷ []) h = absurd (omega arith)
 two-values (a ∷ b ∷ []) h = refl
 two-values (a ∷ b ∷ c ∷ vs) h = absurd (omega arith)
 
-if-eight : (eight two : Bool) → cond eight two true ≡ true → eight ≡ true → two ≡ true
-if-eight true two h e = h
-if-eight false two h e = clash cc
+if-so : (eight two : Bool) → cond eight two true ≡ true → eight ≡ true → two ≡ true
+if-so true two h e = h
+if-so false two h e = clash cc
 
 eight-is : (a : Answer) → numberOf a ≡ 8 → a ≡ Taken (getD (valuesOf a) 0 0) (getD (valuesOf a) 1 0)
 unfolding replyOf
 eight-is a h =
     let test : Answer → Bool = λ x. cond (eqb (numberOf x) 8) (eqb (length (valuesOf x)) 2) true in
     let silent : Answer → Bool = λ x. cond (eqb (numberOf x) 8) (eqb (replyByte (firstOut x)) 0) true in
-    let two = if-eight (eqb (numberOf a) 8) (eqb (length (valuesOf a)) 2) (every-answer test (λ vs. refl) a) (eq-eqb (numberOf a) 8 h) in
-    let none = if-eight (eqb (numberOf a) 8) (eqb (replyByte (firstOut a)) 0) (every-answer silent (λ vs. refl) a) (eq-eqb (numberOf a) 8 h) in
+    let two = if-so (eqb (numberOf a) 8) (eqb (length (valuesOf a)) 2) (every-answer test (λ vs. refl) a) (eq-eqb (numberOf a) 8 h) in
+    let none = if-so (eqb (numberOf a) 8) (eqb (replyByte (firstOut a)) 0) (every-answer silent (λ vs. refl) a) (eq-eqb (numberOf a) 8 h) in
     paper-injective a (Taken (getD (valuesOf a) 0 0) (getD (valuesOf a) 1 0)) h (eqb-true (replyByte (firstOut a)) 0 none) (two-values (valuesOf a) (eqb-true (length (valuesOf a)) 2 two))
 
 taken-value : (at : ℕ) (a : Answer) → numberOf a ≡ 8 → takenValue at a ≡ getD (valuesOf a) at 0
 taken-value at a h = rw (eq-eqb (numberOf a) 8 h)
+
+-- ACK goes out by the answer's number alone
+ack-by-number : (a : Answer) → replyByte (firstOut a) ≡ ack → replyByte (replyOf (numberOf a)) ≡ ack
+unfolding replyOf
+ack-by-number a h =
+    let test : Answer → Bool = λ x. cond (eqb (replyByte (firstOut x)) ack) (eqb (replyByte (replyOf (numberOf x))) ack) true in
+    eqb-true (replyByte (replyOf (numberOf a))) ack
+    (if-so (eqb (replyByte (firstOut a)) ack) (eqb (replyByte (replyOf (numberOf a))) ack) (every-answer test (λ vs. refl) a) (eq-eqb (replyByte (firstOut a)) ack h))
 
 -- a reply byte of ACK is the reply ACK
 ack-is : (x : Reply) → replyByte x ≡ ack → x ≡ Byte ack
@@ -113,7 +121,8 @@ module _ (r : Run) where
       pub acknowledged-stored : Completes (gatewayState s) i k (λ n. Unit {0}) → replyTo s (came i k) ≡ ack → numberTo s (came i k) ≡ 4
       acknowledged-stored c e =
           let reply : replied ((step g (came i k)) .0) ≡ Byte ack =
-          ack-is (replied ((step g (came i k)) .0)) (ap (λ (x : HostResponse). x .answered .reply) (sym (response-at s (end-in-order r) g (end-is r) (came i k))) ∙ e) in
+          ack-is (replied ((step g (came i k)) .0))
+          (ack-by-number ((step g (came i k)) .0 .answer) (ap (λ (x : HostResponse). x .answered .reply) (sym (response-at s (end-in-order r) g (end-is r) (came i k))) ∙ e)) in
           let complete : Completes g i k (λ n. Unit {0}) = subst (λ (x : State). Completes x i k (λ n. Unit {0})) (end-is r) c in
           sym (number-is (came i k)) ∙ acknowledged.acknowledged-stored (r .memory) (r .sizes) (r .calls) (r .may) i k h complete reply
 
