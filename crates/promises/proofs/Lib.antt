@@ -9,6 +9,9 @@ pub mod Queue
 pub mod OnlyMessages
 pub mod Clean
 pub mod Stretches
+pub mod Onward
+pub mod Moves
+pub mod Items
 pub mod Examples
 pub mod Fronts
 pub mod Feeding
