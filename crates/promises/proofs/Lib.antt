@@ -12,6 +12,7 @@ pub mod Stretches
 pub mod Onward
 pub mod Moves
 pub mod Items
+pub mod Sparing
 pub mod Examples
 pub mod Fronts
 pub mod Feeding
