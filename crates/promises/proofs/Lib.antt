@@ -13,6 +13,7 @@ pub mod Onward
 pub mod Moves
 pub mod Items
 pub mod Sparing
+pub mod Ending
 pub mod Examples
 pub mod Fronts
 pub mod Feeding
