@@ -94,10 +94,7 @@ faultless l = record {
   no-cr = refl;
   accepts = λ n t. refl;
   decides = λ n t. tt;
-  awaits = λ n h. refl;
-  goes = λ s n h k. refl;
-  over = refl;
-  given-up = refl;
+  sends = λ t e. record { stays = refl; awaits = λ n h. refl; goes = λ s n h k. refl; over = refl; given-up = refl };
 }
 
 module _ (shares : List ℕ) (l : Line) (d : Ledger) (e : Event) (j u f : List ℕ) where

@@ -84,10 +84,7 @@ proper l = record {
   no-cr = refl;
   accepts = λ n t. refl;
   decides = λ n t. tt;
-  awaits = λ n h. refl;
-  goes = λ s n h k. refl;
-  over = refl;
-  given-up = refl;
+  sends = λ t e. record { stays = refl; awaits = λ n h. refl; goes = λ s n h k. refl; over = refl; given-up = refl };
 }
 
 room-proper : (q : Judgement) (n : ℕ) → Proper (outcomeVerdict (roomOutcome q) n)

@@ -48,7 +48,15 @@ use Rattle.looking.specs.declared.Look.the-variants.{Done, Decides}
 use Rattle.looking.specs.Verdicts.{Left, Opens, Closes, Begins, Counts, Collects, Refuses, Accepts, Awaits, GoesOn}
 use Rattle.looking.proofs.Views.{length-frame}
 
--- the cases, with what is known in each
+-- the cases of a line that sends
+pub record SendingCases (P : Look → Type 0) : Type 0 where
+  pub stays : P (Done (Left Nothing))
+  pub awaits : (n : ℕ) → n ≤ mostSeconds → P (Done (Awaits n))
+  pub goes : (s : Sending) (n : ℕ) → sendingWithin s ≡ true → n ≤ mostNumber → P (Done (GoesOn s n))
+  pub over : P (Done (Closes (Sends Ending)))
+  pub given-up : P (Done (Closes GivenUp))
+
+-- all cases, with what is known in each
 pub record Cases (P : Look → Type 0) (l : Line) : Type 0 where
   pub ignored : P (Done (Left Nothing))
   pub busy : P (Done (Left Busy))
@@ -71,10 +79,7 @@ pub record Cases (P : Look → Type 0) (l : Line) : Type 0 where
   pub no-cr : P (Done (Refuses NoCr))
   pub accepts : (n : ℕ) → TextFits l n → P (Done (Accepts n))
   pub decides : (n : ℕ) → TextFits l n → P (Decides n)
-  pub awaits : (n : ℕ) → n ≤ mostSeconds → P (Done (Awaits n))
-  pub goes : (s : Sending) (n : ℕ) → sendingWithin s ≡ true → n ≤ mostNumber → P (Done (GoesOn s n))
-  pub over : P (Done (Closes (Sends Ending)))
-  pub given-up : P (Done (Closes GivenUp))
+  pub sends : (t : Sending) → l .state ≡ Out t → SendingCases P
 
 module _ (P : Look → Type 0) (l : Line) (c : Cases P l) where
   by-test : (t : Bool) (x y : Look) → P x → P y → P (cond t x y)
@@ -87,12 +92,12 @@ module _ (P : Look → Type 0) (l : Line) (c : Cases P l) where
   by-states Inside x y z o p q r f = r
   by-states (Out t) x y z o p q r f = f t refl
 
-  by-onward : (o : Onward) → OnwardFits o → P (onwardLook o)
-  by-onward Stays h = c .ignored
-  by-onward (Waits n) h = c .awaits n h
-  by-onward (Goes s n) h = c .goes s n (h .0) (h .1)
-  by-onward Ends h = c .over
-  by-onward GivesUp h = c .given-up
+  by-onward : SendingCases P → (o : Onward) → OnwardFits o → P (onwardLook o)
+  by-onward d Stays h = d .stays
+  by-onward d (Waits n) h = d .awaits n h
+  by-onward d (Goes s n) h = d .goes s n (h .0) (h .1)
+  by-onward d Ends h = d .over
+  by-onward d GivesUp h = d .given-up
 
   by-seconds : (s : ℕ) → P (passedLook (passedOf l s))
   unfolding passedOf
@@ -153,5 +158,5 @@ module _ (P : Look → Type 0) (l : Line) (c : Cases P l) where
     unfolding byteLook secondsLook
     every-look (Byte b) =
         by-states (l .state) _ _ _ _ (by-neutral b) (by-waiting b) (by-inside b)
-        (λ s e. by-onward (byteOnward frameLimit l s b (unfinishedText l t)) (byte-fits frameLimit l s b (unfinishedText l t) (own .within) e))
-    every-look (Seconds n) = by-states (l .state) _ _ _ _ (c .ignored) (by-seconds n) (by-seconds n) (λ s e. by-onward (secondsOnward l s n) (seconds-fits l s n (own .within) e))
+        (λ s e. by-onward (c .sends s e) (byteOnward frameLimit l s b (unfinishedText l t)) (byte-fits frameLimit l s b (unfinishedText l t) (own .within) e))
+    every-look (Seconds n) = by-states (l .state) _ _ _ _ (c .ignored) (by-seconds n) (by-seconds n) (λ s e. by-onward (c .sends s e) (secondsOnward l s n) (seconds-fits l s n (own .within) e))

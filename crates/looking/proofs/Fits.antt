@@ -40,10 +40,7 @@ module _ (l : Line) where
     no-cr = (tt, tt);
     accepts = λ n t. (t, tt);
     decides = λ n t. t;
-    awaits = λ n h. (h, tt);
-    goes = λ s n h k. ((h, k), tt);
-    over = (tt, tt);
-    given-up = (tt, tt);
+    sends = λ t e. record { stays = (tt, tt); awaits = λ n h. (h, tt); goes = λ s n h k. ((h, k), tt); over = (tt, tt); given-up = (tt, tt) };
   }
 
   pub look-fits : (texts frames : List ℕ) → Own l texts frames → (k : Kind) → LookFits (lookOf l k texts frames) l

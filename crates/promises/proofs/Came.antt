@@ -73,10 +73,7 @@ harmless l = record {
   no-cr = (refl, refl);
   accepts = λ n t. (refl, refl);
   decides = λ n t. tt;
-  awaits = λ n h. (refl, refl);
-  goes = λ s n h k. (refl, ap isDecision (parcel-sends s));
-  over = (refl, refl);
-  given-up = (refl, refl);
+  sends = λ t e. record { stays = (refl, refl); awaits = λ n h. (refl, refl); goes = λ s n h k. (refl, ap isDecision (parcel-sends s)); over = (refl, refl); given-up = (refl, refl) };
 }
 
 module _ (s : State) (w : Intact s) (i : ℕ) (k : Kind) (line : i < lines) where

@@ -9,6 +9,11 @@ pub mod Queue
 pub mod OnlyMessages
 pub mod Clean
 pub mod Stretches
+pub mod Onward
+pub mod Moves
+pub mod Items
+pub mod Sparing
+pub mod Ending
 pub mod Examples
 pub mod Fronts
 pub mod Feeding

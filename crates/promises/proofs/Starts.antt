@@ -145,6 +145,13 @@ module _ (s : State) (w : Intact s) (i : ℕ) (text : List ℕ) (h : i < lines) 
   pub start-sends : answered ((step s (starting i text)) .0) ≡ 9 → start ≡ Asks
   start-sends e = start-mild .sends (sym (ap answered start-answer) ∙ e)
 
+  -- and then the line's text is the message
+  pub asks-own : start ≡ Asks → partsOf ((step s (starting i text)) .1) i ≡ partsStarted Asks own text
+  asks-own e = start-own ∙ ap (λ (x : Start). partsStarted x own text) e
+
+  pub asks-text : start ≡ Asks → unfinishedIn (partsStarted Asks own text) ≡ text
+  asks-text e = part-splice (own .texts) 0 text (omega (arith, short e, length-part (s .memory .unfinished) (textStart i) messageLimit (omega (arith, w .texts))))
+
   -- ---- a state stays sound, and its unfinished texts stay of allowed bytes
 
   own-within : (x : Start) → start ≡ x → withinLimits (lineStarted x (own .line) text) ≡ true
@@ -166,9 +173,7 @@ module _ (s : State) (w : Intact s) (i : ℕ) (text : List ℕ) (h : i < lines) 
   IsClean p = all allowed (unfinishedIn p) ≡ true
 
   own-clean : IsClean own → (x : Start) → start ≡ x → IsClean (partsStarted x own text)
-  own-clean c Asks e =
-      ap (all allowed) (part-splice (own .texts) 0 text (omega (arith, short e, length-part (s .memory .unfinished) (textStart i) messageLimit (omega (arith, w .texts)))))
-      ∙ message-allowed _ text (start-passed e .message)
+  own-clean c Asks e = ap (all allowed) (asks-text e) ∙ message-allowed _ text (start-passed e .message)
   own-clean c (Refused a) e = c
 
   pub start-clean : Clean s → Clean ((step s (starting i text)) .1)

@@ -1,18 +1,17 @@
 -- Work orders: what goes out on a line in a sending, how often, and for how long.
 -- A sending on line i begins with a start there that is answered 9, and what is counted is counted up to the next one.
 -- Assumes nothing.
-use Prim.Native.Nat.{ℕ, _+_, _*_, _≤_, _<_}
+use Prim.Native.Nat.{ℕ, _+_, _*_, _≤_}
 use mathlib.Core.Path.{_≡_}
 use mathlib.Core.Logic.{_≢_}
-use mathlib.Core.Bool.{Bool, true, false, cond, _&&_, _||_}
+use mathlib.Core.Bool.{Bool, false, cond, _&&_, _||_}
 use mathlib.Core.List.{List, [], _∷_, _++_}
 use lib.Dec.{eqb, leb}
 use lib.ListN.{length, replicate}
-use Rattle.memory.specs.Sizes.{lines, frameLimit}
+use Rattle.memory.specs.Sizes.{frameLimit}
 use Rattle.memory.specs.Tests.{is}
 use Rattle.characters.specs.Control.{enq, stx}
 use Rattle.pieces.specs.Pieces.{piecesOf}
-use Rattle.faults.specs.Message.{isMessage}
 use Rattle.answers.specs.Paper.{ack, firstOut}
 use Rattle.answers.specs.InNumbers.{replyByte}
 use Rattle.line.specs.Line.{freshLine, mostTries}
@@ -42,7 +41,7 @@ outOn buffer i (x ∷ xs) = cond (isOf i (x .0)) (buffer (x .1)) [] ++ outOn buf
 
 -- a start, and then an ACK for our ENQ and one for each frame
 abbrev pub orderedOn : ℕ → List ℕ → List GatewayItem
-orderedOn i m = starting i m ∷ acks i (1 + length (piecesOf frameLimit m))
+orderedOn i m = starting i m ∷ came i (Byte ack) ∷ acks i (length (piecesOf frameLimit m))
 
 -- what goes out is the transfer of the message, byte for byte, as demand 2 has it; the line is then as fresh, and nothing else has changed but its part of the unfinished texts [S11]
 pub record SendsWhole (s : State) (i : ℕ) (m : List ℕ) : Type 0 where
@@ -62,9 +61,12 @@ isStart i (taking l b) = false
 abbrev pub beginsOn : ℕ → GatewayItem → ℕ → Bool
 beginsOn i e number = isStart i e && eqb number sends
 
--- with an item of line i, by its answer's number and the first byte that goes out, this byte does
+-- an item of line i that is answered 9; and this byte goes out with it first
+abbrev pub isSent : ℕ → GatewayItem → ℕ → Bool
+isSent i e number = isOf i e && eqb number sends
+
 abbrev pub sendsOn : ℕ → ℕ → GatewayItem → ℕ → ℕ → Bool
-sendsOn b i e number first = isOf i e && (eqb number sends && is b first)
+sendsOn b i e number first = isSent i e number && is b first
 
 -- the place of the frame that a line in this state offers is this one
 abbrev pub offersAt : ℕ → LineState → Bool
