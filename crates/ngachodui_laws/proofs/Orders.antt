@@ -41,7 +41,9 @@ use Rattle.promises.specs.Orders.{acks, outOn, orderedOn, beginsOn, sendsOn, of
 use Rattle.promises.specs.Orders as there
 use Rattle.promises.proofs.Kept.{keeps}
 use Rattle.promises.proofs.Transfers as transfers
-use Rattle.promises.proofs.Orders as orders
+use Rattle.promises.proofs.Sendings.{sends-whole}
+use Rattle.promises.proofs.Sparing as sparing
+use Rattle.promises.proofs.Ending as ending
 use Rattle.ledger.proofs.Ledgers.{serial-at}
 use Rattle.layout.specs.Layout.{serialAt, numberAt}
 use Rattle.numbers.specs.Plain.{lineOf, withinNumbers}
@@ -78,13 +80,13 @@ module _ (s : HostState) (i : ℕ) (m : List ℕ) (c : CanStart s i m) where
   es = orderedOn i m
 
   there-whole : there.SendsWhole (gatewayState s) i m
-  there-whole = orders.sends-whole (gatewayState s) (intact s (c .intact)) i (c .line) (ap (λ (l : Line). l .state) (line-at (s .numbers) i (c .line)) ∙ c .neutral) m (c .message)
+  there-whole = sends-whole (gatewayState s) (intact s (c .intact)) i (c .line) (ap (λ (l : Line). l .state) (line-at (s .numbers) i (c .line)) ∙ c .neutral) m (c .message)
 
   pub sent-whole : SentWhole s i m
   sent-whole = record {
     out = ap (outOn (λ (r : HostResponse). r .buffer) i) (runs-alike s o es) ∙ out-seen i (annotate step (gatewayState s) es) ∙ there-whole .out;
     line = sym (line-at (final hostStep s es .numbers) i (c .line)) ∙ ap (λ (x : State). lineAt (x .gateway) i) (ends-alike s o es) ∙ there-whole .line;
-    others = λ l h n. run-keeps s es l h (n, acks-apart i (1 + length (piecesOf frameLimit m)) l n);
+    others = λ l h n. run-keeps s es l h (n, (n, acks-apart i (length (piecesOf frameLimit m)) l n));
     store = store-kept s (final hostStep s es) o (stays-in-order s o es) (ap storeOf (ends-alike s o es) ∙ there-whole .store);
   }
 
@@ -234,10 +236,10 @@ module _ (r : Run) (i : ℕ) (h : i < lines) (m : List ℕ) (asks : numberTo (en
 
   pub six-sends : SentSparingly i began es
   six-sends =
-      let few = orders.six-sends (gatewayState (endOf r)) (host-always-sound r) i h m asks-there es may in
+      let few = sparing.six-sends (gatewayState (endOf r)) (host-always-sound r) i h m asks-there es may in
       record { asked = omega (arith, few .asked, enquiries-are); offered = λ at. omega (arith, few .offered at, frames-are at) }
 
   pub sending-ends : longest (length (piecesOf frameLimit m)) ≤ ticks i es → neutralAlong i began es ≡ true
   sending-ends long =
       neutral-alike i began began-in-order es ∙ ap (λ (x : State). there.neutralAlong i x es) began-is
-      ∙ orders.sending-ends (gatewayState (endOf r)) (host-always-sound r) i h m asks-there es may long
+      ∙ ending.sending-ends (gatewayState (endOf r)) (host-always-sound r) i h m asks-there es may long
