@@ -7,7 +7,6 @@ use mathlib.Core.Bool.{true, false}
 use mathlib.Core.List.{List, [], _∷_, _++_}
 use mathlib.Core.Option.{some}
 use Prim.Native.Nat.{ℕ, _+_, _<_, _≤_}
-use native.Mathlib.Decide.{ℕ-discrete}
 use native.Mathlib.Omega.{arith}
 use lib.ListN.{length, take, getD-replicate}
 use Rattle.memory.specs.Sizes.{lines, messageLimit}
@@ -52,7 +51,7 @@ use Rattle.promises.specs.Inner.ByParts.{onEvent}
 use Rattle.promises.specs.Runs.{RightSizes, fresh, offeredBy, offered}
 use Rattle.promises.specs.Sending.{Intact}
 use Rattle.promises.specs.Clean.{unfinishedIn, Clean, CompleteText, WrongAt}
-use Rattle.promises.proofs.Sound.{sound-intact, work, ready, fitting, event-own, event-others}
+use Rattle.promises.proofs.Sound.{sound-intact, work, ready, fitting, event-own, event-others, each-line}
 use Rattle.promises.proofs.Starts.{start-clean}
 use Rattle.promises.proofs.Kept.{keeps, fresh-sound}
 
@@ -174,10 +173,7 @@ module _ (s : State) (w : Intact s) (c : Clean s) (i : ℕ) (k : Kind) (h : i < 
       (work s w i k h .act) (fitting s w i k h) work-joins (c i h)
 
   pub event-clean : Clean ((step s (came i k)) .1)
-  event-clean l m = elim (ℕ-discrete l i) [
-    | yes q ↦ subst (λ (x : ℕ). IsClean (partsOf ((step s (came i k)) .1) x)) (sym q) (subst IsClean (sym (event-own s w i k h)) own-clean)
-    | no q ↦ subst IsClean (sym (event-others s w i k h l q)) (c l m)
-  ]
+  event-clean = each-line IsClean s ((step s (came i k)) .1) i _ (event-own s w i k h) (event-others s w i k h) own-clean c
 
 -- a taking sees no line
 taking-clean : (s : State) → Clean s → (i : ℕ) (b : List ℕ) → Clean ((step s (taking i b)) .1)

@@ -1,14 +1,11 @@
 -- Every item keeps a state sound, and a fresh gateway is sound.
 -- Assumes nothing.
-use mathlib.Core.Path.{_≡_, sym, subst, _∙_}
+use mathlib.Core.Path.{_≡_, sym, ap, subst, _∙_}
 use mathlib.Core.Logic.{_⊎_, inl, inr}
 use mathlib.Core.Bool.{true}
 use mathlib.Core.List.{List, []}
 use Prim.Native.Nat.{ℕ, _<_}
-use native.Mathlib.Decide.{ℕ-discrete}
-use native.Mathlib.Omega.{arith}
-use lib.ListN.{length-set, length-replicate, getD-replicate}
-use lib.Seq.{getD-set-other, getD-set-same}
+use lib.ListN.{length, length-set, length-replicate, getD-replicate}
 use Rattle.memory.specs.Sizes.{lines}
 use Rattle.faults.proofs.Messages.{message-some, message-short}
 use Rattle.header.specs.Entry.{Entry}
@@ -20,19 +17,21 @@ use Rattle.journal_laws.proofs.Cases.{Gives, Keeps, take-cases}
 use Rattle.journal_laws.proofs.Guarantees.{fresh-today}
 use Rattle.journal_laws.proofs.Keeps.{store-held}
 use Rattle.line.specs.Line.{withinLimits, freshLine}
+use Rattle.line.specs.declared.Line.{Line}
 use Rattle.line.proofs.Limits.{within-facts, within-of, fresh-within}
 use Rattle.receiving.specs.Settled.{lineAfter}
-use Rattle.receiving.specs.Steps.{Memory, memoryOf, settle}
-use Rattle.gateway.specs.Events.{lineAt, noRecord, AfterEvent, putBack, takeOf}
+use Rattle.receiving.specs.Steps.{Memory, memoryOf}
+use Rattle.gateway.specs.Events.{lineAt, noRecord, AfterEvent, takeOf}
+use Rattle.looking.specs.declared.Act.{Act}
 use Rattle.looking.specs.declared.Kind.{Kind}
 use Rattle.gateway_laws.proofs.Laws.{line-within}
 use Rattle.gateway_laws.proofs.Others.{texts-length, frames-length}
 use Rattle.serial.specs.Serial.{event, taking}
-use Rattle.promises.specs.Machine.{State, onLine, leftBy, step, GatewayItem, happens, starts, came, storeOf, Sound, May}
+use Rattle.promises.specs.Machine.{State, onLine, step, GatewayItem, happens, starts, came, storeOf, Sound, May}
 use Rattle.promises.specs.Runs.{RightSizes, fresh}
 use Rattle.promises.specs.Sending.{Intact}
 use Rattle.promises.specs.Inner.Came.{store, Came, quiet, stored, crowded, against}
-use Rattle.promises.proofs.Sound.{sound-intact, work, ready, fitting, event-is}
+use Rattle.promises.proofs.Sound.{sound-intact, work, ready, fitting, event-is, event-own, event-others, each-line, Shaped, shaped-sound}
 use Rattle.promises.proofs.Starts.{start-sound}
 use Rattle.promises.proofs.Came.{comes-to}
 
@@ -56,40 +55,35 @@ came-holds s w i k h c = by-case c
     by-case (crowded t m room x) = subst Holds (sym (x .left)) same
     by-case (against t m x) = subst Holds (sym (x .left)) same
 
+-- an event leaves records within their limits, and memory of the right sizes
+module _ (s : State) (v : Intact s) (i : ℕ) (k : Kind) (h : i < lines) where
+  abbrev own : Line
+  own = lineAt (s .gateway) i
+
+  abbrev act : Act
+  act = work s v i k h .act
+
+  own-within : withinLimits (lineAfter act own) ≡ true
+  own-within = within-of (lineAfter act own) (line-within todaysShares own (s .gateway .ledger) (onLine i k) (s .memory) act (within-facts own (v .within i h)) (fitting s v i k h))
+
+  pub event-shaped : Shaped ((step s (came i k)) .1)
+  event-shaped = record {
+    as-many = ap (λ (x : AfterEvent). length (x .handled .gateway .lines)) (event-is s v i k h) ∙ length-set (s .gateway .lines) i (lineAfter act own) ∙ v .as-many;
+    within = each-line (λ p. withinLimits (p .line) ≡ true) s ((step s (came i k)) .1) i _ (event-own s v i k h) (event-others s v i k h) own-within (v .within);
+    texts =
+        ap (λ (x : AfterEvent). length (x .memory .unfinished)) (event-is s v i k h)
+        ∙ texts-length own i (s .memory .unfinished) (s .memory .frames) (ready s v i k h) act (fitting s v i k h) ∙ v .texts;
+    frames =
+        ap (λ (x : AfterEvent). length (x .memory .frames)) (event-is s v i k h)
+        ∙ frames-length own i (s .memory .unfinished) (s .memory .frames) (ready s v i k h) act k ∙ v .frames;
+  }
+
 module _ (s : State) (w : Sound s) where
-  v : Intact s
-  v = sound-intact s w
-
-  module _ (i : ℕ) (k : Kind) (h : i < lines) where
-    -- what an event leaves
-    abbrev after : State
-    after = leftBy (putBack (s .gateway) i (settle (work s v i k h) (lineAt (s .gateway) i) (s .gateway .ledger) (onLine i k) (s .memory)))
-
-    own-within : withinLimits (lineAfter (work s v i k h .act) (lineAt (s .gateway) i)) ≡ true
-    own-within =
-        within-of (lineAfter (work s v i k h .act) (lineAt (s .gateway) i))
-        (line-within todaysShares (lineAt (s .gateway) i) (s .gateway .ledger) (onLine i k) (s .memory) (work s v i k h .act) (within-facts (lineAt (s .gateway) i) (w .within i h)) (fitting s v i k h))
-
-    each-within : (l : ℕ) → l < lines → withinLimits (lineAt (after .gateway) l) ≡ true
-    each-within l m = elim (ℕ-discrete l i) [
-      | yes q ↦ rw (q, getD-set-same (s .gateway .lines) i (lineAfter (work s v i k h .act) (lineAt (s .gateway) i)) noRecord (omega (arith, w .as-many))) own-within
-      | no q ↦ rw (getD-set-other (s .gateway .lines) i l (lineAfter (work s v i k h .act) (lineAt (s .gateway) i)) noRecord q) (w .within l m)
-    ]
-
-    holds : Holds (storeOf after)
-    holds = subst (λ (x : AfterEvent). Holds (storeOf (leftBy x))) (event-is s v i k h) (came-holds s w i k h (comes-to s v i k h))
-
-    event-sound : Sound ((step s (came i k)) .1)
-    event-sound =
-        subst (λ (x : AfterEvent). Sound (leftBy x)) (sym (event-is s v i k h))
-        (record {
-          as-many = length-set (s .gateway .lines) i (lineAfter (work s v i k h .act) (lineAt (s .gateway) i)) ∙ w .as-many;
-          within = each-within;
-          texts = texts-length (lineAt (s .gateway) i) i (s .memory .unfinished) (s .memory .frames) (ready s v i k h) (work s v i k h .act) (fitting s v i k h) ∙ w .texts;
-          frames = frames-length (lineAt (s .gateway) i) i (s .memory .unfinished) (s .memory .frames) (ready s v i k h) (work s v i k h .act) k ∙ w .frames;
-          entries = holds .entries;
-          held = holds .held;
-        })
+  event-sound : (i : ℕ) (k : Kind) → i < lines → Sound ((step s (came i k)) .1)
+  event-sound i k h =
+      let v = sound-intact s w in
+      let holds = came-holds s w i k h (comes-to s v i k h) in
+      shaped-sound ((step s (came i k)) .1) (event-shaped s v i k h) (holds .entries) (holds .held)
 
   -- what a taking leaves
   abbrev taken : AfterTaking → State

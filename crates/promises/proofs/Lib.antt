@@ -22,6 +22,7 @@ pub mod Delivered
 pub mod Walk
 pub mod Rooms
 pub mod Transfers
+pub mod Sendings
 pub mod InTurn
 pub mod Falls
 pub mod Freed

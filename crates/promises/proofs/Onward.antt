@@ -1,10 +1,14 @@
 -- An event on a line that sends: its answer, what goes out and what the line then has are told by what the event makes of the sending. Nothing else changes.
 -- Assumes nothing.
 use mathlib.Core.Path.{_≡_, refl, ap, _∙_}
+use mathlib.Core.Logic.{_≢_}
+use mathlib.Core.List.{[]}
 use Prim.Native.Nat.{ℕ, _<_}
+use borrow.Author.Tests.{ne-eqb}
 use Rattle.memory.specs.Sizes.{lines, frameLimit}
 use Rattle.room.specs.Room.{todaysShares}
 use Rattle.journal_laws.specs.Runs.{State as Store}
+use Rattle.answers.specs.Paper.{numberOf}
 use Rattle.answers.specs.declared.Answer.{Answer}
 use Rattle.answers.specs.declared.Answer.the-variants.{Nothing, Sends, GivenUp}
 use Rattle.answers.specs.declared.Parcel.the-variants.{Ending}
@@ -24,11 +28,14 @@ use Rattle.looking.specs.declared.Look.the-variants.{Done}
 use Rattle.looking.specs.declared.Verdict.{Verdict}
 use Rattle.receiving.specs.Settled.{lineAfter}
 use Rattle.receiving.specs.Verdicts.{decided, ownWork}
-use Rattle.promises.specs.Machine.{State, Response, step, Parts, partsOf, told, storeOf, came}
+use Rattle.serial.specs.Serial.{event}
+use Rattle.promises.specs.Machine.{State, Response, Coming, happens, starts, step, Parts, partsOf, told, storeOf, came, starting}
+use Rattle.promises.specs.Runs.{answered}
 use Rattle.promises.specs.Inner.ByParts.{left, onEvent}
 use Rattle.promises.specs.Sending.{Intact}
 use Rattle.promises.specs.Clean.{unfinishedIn}
-use Rattle.promises.proofs.Sound.{event-answer, event-own, event-journal}
+use Rattle.promises.proofs.Sound.{event-answer, event-own, event-journal, shaped-intact}
+use Rattle.promises.proofs.Kept.{event-shaped}
 
 -- what a byte, or seconds, make of the sending of a line that has these parts
 abbrev pub onwardBy : Parts → Sending → Kind → Onward
@@ -113,3 +120,14 @@ module _ (s : State) (w : Intact s) (i : ℕ) (h : i < lines) (t : Sending) (out
 
   pub out-store : storeOf ((step s (came i k)) .1) ≡ storeOf s
   out-store = event-journal s w i k h ∙ ap (λ (r : Response × Parts × Store). r .2) whole
+
+  pub out-intact : Intact ((step s (came i k)) .1)
+  out-intact = shaped-intact s ((step s (came i k)) .1) w (event-shaped s w i k h) out-store
+
+-- nothing goes out with any other answer than 9, in whatever state
+silent : (a : Answer) (p : Parts) → numberOf a ≢ 9 → told a p .buffer ≡ []
+silent a p n = rw (ne-eqb (numberOf a) 9 n)
+
+pub only-9-sends : (s : State) (i : ℕ) (k : Coming) → answered ((step s (event i k)) .0) ≢ 9 → (step s (event i k)) .0 .buffer ≡ []
+only-9-sends s i (happens k) n = silent ((step s (came i k)) .0 .answer) (partsOf ((step s (came i k)) .1) i) n
+only-9-sends s i (starts text) n = silent ((step s (starting i text)) .0 .answer) (partsOf ((step s (starting i text)) .1) i) n

@@ -1,14 +1,23 @@
 -- An event of an intact state, and so of every state of a run: it is told by its line's parts and the store.
 -- Assumes nothing.
-use mathlib.Core.Path.{_≡_, sym, ap, ap₂, _∙_}
+use mathlib.Core.Path.{_≡_, sym, ap, ap₂, subst, _∙_}
 use mathlib.Core.Logic.{_≢_}
+use mathlib.Core.Bool.{true}
+use mathlib.Core.List.{List}
 use Prim.Native.Nat.{ℕ, _<_}
+use native.Mathlib.Decide.{ℕ-discrete}
 use native.Mathlib.Omega.{arith}
 use borrow.Author.Tests.{lt-ltb, eq-eqb}
-use lib.ListN.{length}
+use lib.ListN.{length, getD}
 use lib.Seq.{getD-set-other, getD-set-same}
 use Rattle.memory.specs.Sizes.{lines, journalSize, unfinishedSize, framesSize}
+use Rattle.header.specs.Header.{serialCount}
+use Rattle.header.specs.Entry.{Entry}
 use Rattle.room.specs.Room.{todaysShares}
+use Rattle.journal.specs.Chain.{chain}
+use Rattle.journal_laws.specs.Held.{Held}
+use Rattle.journal_laws.specs.Runs.{State as Store}
+use Rattle.line.specs.Line.{withinLimits}
 use Rattle.line.specs.declared.Line.{Line}
 use Rattle.looking.specs.Views.{framesOf, textsOf}
 use Rattle.looking.specs.Inner.Ready.{Ready}
@@ -91,3 +100,37 @@ module _ (s : State) (w : Intact s) (i : ℕ) (k : Kind) (h : i < lines) where
       let texts = texts-other own i (s .memory .unfinished) (s .memory .frames) ready (work .act) fitting l (λ q. n (sym q)) in
       let frames = frames-other own i (s .memory .unfinished) (s .memory .frames) ready (work .act) k l (λ q. n (sym q)) in
       ap (λ (x : AfterEvent). partsOf (leftBy x) l) event-is ∙ same-parts _ _ records texts frames
+
+-- what holds of what line i has after an item, and held of what every other line had, holds of every line
+pub each-line : (P : Parts → Type 0) (s t : State) (i : ℕ) (p : Parts) → partsOf t i ≡ p → ((l : ℕ) → l ≢ i → partsOf t l ≡ partsOf s l) → P p → ((l : ℕ) → l < lines → P (partsOf s l))
+    → (l : ℕ) → l < lines → P (partsOf t l)
+each-line P s t i p own others here each l m = elim (ℕ-discrete l i) [
+  | yes q ↦ subst (λ (x : ℕ). P (partsOf t x)) (sym q) (subst P (sym own) here)
+  | no q ↦ subst P (sym (others l q)) (each l m)
+]
+
+-- ---- a state without its store: eight records within their limits, and memory of the right sizes
+
+pub record Shaped (s : State) : Type 0 where
+  pub as-many : length (s .gateway .lines) ≡ lines
+  pub within : (i : ℕ) → i < lines → withinLimits (lineAt (s .gateway) i) ≡ true
+  pub texts : length (s .memory .unfinished) ≡ unfinishedSize
+  pub frames : length (s .memory .frames) ≡ framesSize
+
+pub shaped-sound : (s : State) → Shaped s → (es : List Entry) → Held todaysShares (s .gateway .ledger) (s .memory .journal) es → Sound s
+shaped-sound s w es held = record { as-many = w .as-many; within = w .within; texts = w .texts; frames = w .frames; entries = es; held = held }
+
+-- with the store of an intact state it is intact
+pub shaped-intact : (s t : State) → Intact s → Shaped t → storeOf t ≡ storeOf s → Intact t
+shaped-intact s t w v same = record {
+  as-many = v .as-many;
+  within = v .within;
+  texts = v .texts;
+  frames = v .frames;
+  journal = ap (λ (j : Store). length (j .journal)) same ∙ w .journal;
+  lines-used = ap (λ (j : Store). length (j .ledger .used)) same ∙ w .lines-used;
+  lines-serials = ap (λ (j : Store). length (j .ledger .serials)) same ∙ w .lines-serials;
+  serials = λ i h. subst (λ (j : Store). getD (j .ledger .serials) i 0 < serialCount) (sym same) (w .serials i h);
+  entries = w .entries;
+  whole = ap (λ (j : Store). chain (j .ledger) (j .journal)) same ∙ w .whole;
+}

@@ -5,7 +5,6 @@ use mathlib.Core.Logic.{_≢_}
 use mathlib.Core.Bool.{Bool, true, false, not}
 use mathlib.Core.List.{List}
 use Prim.Native.Nat.{ℕ, _+_, _≤_, _<_}
-use native.Mathlib.Decide.{ℕ-discrete}
 use native.Mathlib.Omega.{arith}
 use borrow.Author.Tests.{lt-ltb}
 use lib.Dec.{eqb}
@@ -43,7 +42,8 @@ use Rattle.promises.specs.Inner.ByParts.{ownStarted, partsStarted, onSta
 use Rattle.promises.specs.Runs.{answered, isDamage}
 use Rattle.promises.specs.Sending.{Intact}
 use Rattle.promises.specs.Clean.{unfinishedIn, Clean}
-use Rattle.promises.proofs.Sound.{sound-intact, same-parts}
+use Rattle.promises.specs.Exactly.{Exactly}
+use Rattle.promises.proofs.Sound.{sound-intact, same-parts, each-line, Shaped, shaped-sound}
 
 -- ---- the answers
 
@@ -145,6 +145,13 @@ module _ (s : State) (w : Intact s) (i : ℕ) (text : List ℕ) (h : i < lines) 
   pub start-sends : answered ((step s (starting i text)) .0) ≡ 9 → start ≡ Asks
   start-sends e = start-mild .sends (sym (ap answered start-answer) ∙ e)
 
+  -- that is: where the line is neutral and the text is a message
+  pub start-exactly : Exactly (answered ((step s (starting i text)) .0) ≡ 9) ((isNeutral (own .line .state) ≡ true) × (isMessage text ≡ true))
+  start-exactly = (
+    λ e. let x = start-passed (start-sends e) in (x .neutral, x .message),
+    λ e. ap answered start-answer ∙ ap (λ (x : Start). numberOf (startAnswer x)) (message-starts (e .0) (e .1)),
+  )
+
   -- and then the line's text is the message
   pub asks-own : start ≡ Asks → partsOf ((step s (starting i text)) .1) i ≡ partsStarted Asks own text
   asks-own e = start-own ∙ ap (λ (x : Start). partsStarted x own text) e
@@ -163,12 +170,6 @@ module _ (s : State) (w : Intact s) (i : ℕ) (text : List ℕ) (h : i < lines) 
   texts-long Asks e = length-splice (s .memory .unfinished) (textStart i) text (omega (arith, short e, w .texts))
   texts-long (Refused a) e = refl
 
-  each-within : (l : ℕ) → l < lines → withinLimits (partsOf ((step s (starting i text)) .1) l .line) ≡ true
-  each-within l m = elim (ℕ-discrete l i) [
-    | yes q ↦ subst (λ (x : ℕ). withinLimits (partsOf ((step s (starting i text)) .1) x .line) ≡ true) (sym q) (ap (λ (p : Parts). withinLimits (p .line)) start-own ∙ own-within start refl)
-    | no q ↦ ap (λ (p : Parts). withinLimits (p .line)) (start-others l q) ∙ w .within l m
-  ]
-
   abbrev IsClean : Parts → Type 0
   IsClean p = all allowed (unfinishedIn p) ≡ true
 
@@ -177,33 +178,21 @@ module _ (s : State) (w : Intact s) (i : ℕ) (text : List ℕ) (h : i < lines) 
   own-clean c (Refused a) e = c
 
   pub start-clean : Clean s → Clean ((step s (starting i text)) .1)
-  start-clean c l m = elim (ℕ-discrete l i) [
-    | yes q ↦ subst (λ (x : ℕ). IsClean (partsOf ((step s (starting i text)) .1) x)) (sym q) (subst IsClean (sym start-own) (own-clean (c i h) start refl))
-    | no q ↦ subst IsClean (sym (start-others l q)) (c l m)
-  ]
+  start-clean c = each-line IsClean s ((step s (starting i text)) .1) i _ start-own start-others (own-clean (c i h) start refl) c
 
-  lines-long : length (((step s (starting i text)) .1) .gateway .lines) ≡ lines
-  unfolding startOf
-  lines-long = length-set (s .gateway .lines) i _ ∙ w .as-many
-
-  unfinished-long : length (((step s (starting i text)) .1) .memory .unfinished) ≡ unfinishedSize
-  unfinished-long = ap (λ (x : AfterEvent). length (x .memory .unfinished)) start-is ∙ texts-long start refl ∙ w .texts
-
-  frames-left : ((step s (starting i text)) .1) .memory .frames ≡ s .memory .frames
-  unfolding startOf
-  frames-left = refl
+  pub start-shaped : Shaped ((step s (starting i text)) .1)
+  start-shaped = record {
+    as-many = ap (λ (x : AfterEvent). length (x .handled .gateway .lines)) start-is ∙ length-set (s .gateway .lines) i (lineStarted start (own .line) text) ∙ w .as-many;
+    within = each-line (λ p. withinLimits (p .line) ≡ true) s ((step s (starting i text)) .1) i _ start-own start-others (own-within start refl) (w .within);
+    texts = ap (λ (x : AfterEvent). length (x .memory .unfinished)) start-is ∙ texts-long start refl ∙ w .texts;
+    frames = ap (λ (x : AfterEvent). length (x .memory .frames)) start-is ∙ w .frames;
+  }
 
 pub start-sound : (s : State) (w : Sound s) (i : ℕ) (text : List ℕ) → i < lines → Sound ((step s (starting i text)) .1)
 start-sound s w i text h =
     let v = sound-intact s w in
-    record {
-      as-many = lines-long s v i text h;
-      within = each-within s v i text h;
-      texts = unfinished-long s v i text h;
-      frames = ap length (frames-left s v i text h) ∙ w .frames;
-      entries = w .entries;
-      held = subst (λ (j : Store). Held todaysShares (j .ledger) (j .journal) (w .entries)) (sym (start-store s v i text h)) (w .held);
-    }
+    shaped-sound ((step s (starting i text)) .1) (start-shaped s v i text h) (w .entries)
+    (subst (λ (j : Store). Held todaysShares (j .ledger) (j .journal) (w .entries)) (sym (start-store s v i text h)) (w .held))
 
 -- what is not answered 9 leaves everything as it was, in whatever state
 pub start-refused : (s : State) (i : ℕ) (text : List ℕ) → answered ((step s (starting i text)) .0) ≢ 9 → (step s (starting i text)) .1 ≡ s
