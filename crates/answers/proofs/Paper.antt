@@ -22,7 +22,6 @@ use Rattle.answers.specs.declared.Answer.{Answer}
 use Rattle.answers.proofs.Answer.{the-type}
 use Rattle.answers.specs.declared.Reply.{Reply}
 use Rattle.answers.specs.declared.Reply.the-variants.{Silence, Byte}
-use Rattle.answers.specs.declared.Parcel.{Parcel}
 use Rattle.answers.specs.declared.Parcel.the-variants.{Empty, Enquiry, Ending, Frame}
 use Rattle.answers.specs.declared.Fault.{Fault}
 use Rattle.answers.specs.declared.Fault.the-variants.{NoHeader, UnknownType, Misplaced, Misnumbered, NoFinalCr, BadDelimiters}

@@ -8,7 +8,7 @@ use borrow.Author.Tests.{lt-ltb, le-ltb, eqb-true, not-true}
 use lib.Dec.{ltb, eqb}
 use lib.ListN.{length, getD, set}
 use Rattle.memory.specs.Sizes.{lines, framesSize}
-use Rattle.memory.specs.Tests.{is, unless}
+use Rattle.memory.specs.Tests.{is}
 use Rattle.memory.proofs.Tests.{and-left, and-right, clash}
 use Rattle.characters.specs.Control.{lf, stx}
 use Rattle.room.specs.Room.{todaysShares}
@@ -36,7 +36,7 @@ use Rattle.looking.specs.Verdicts.{Collects, Begins}
 use Rattle.layout.specs.Layout.{firstAt, numberAt}
 use Rattle.ledger.specs.Ledgers.{withSerial, withUsed, ledgerOf, serialAfter, countsAfter, Narrow}
 use Rattle.answers.specs.InNumbers.{inNumbers}
-use Rattle.numbers.specs.Plain.{waiting, inside, begins, insideAt, stateOf, withLine, withinNumbers, onlyCollects, oneMore, quick, lineOf}
+use Rattle.numbers.specs.Plain.{waiting, inside, begins, insideAt, withLine, withinNumbers, onlyCollects, oneMore, quick, lineOf}
 use Rattle.calls.specs.Calls.{HostState, AfterCall, refused, putBack, callOf, Called, Calling}
 use Rattle.calls.specs.Inner.Steps.{Stepping, Deciding, PutBack}
 use Rattle.numbers.specs.Changes.{isWithin, recordOf, isCollected, Collected, isBegun, Begun, recordAfter}

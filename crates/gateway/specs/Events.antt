@@ -14,7 +14,6 @@ use Rattle.line.specs.Line.{freshLine, withinLimits}
 use Rattle.line.specs.declared.Line.{Line}
 use Rattle.line.specs.declared.State.the-variants.{Neutral}
 use Rattle.line.specs.declared.Last.the-variants.{NoneYet}
-use Rattle.answers.specs.declared.Answer.{Answer}
 use Rattle.answers.specs.declared.Answer.the-variants.{NoLine}
 use Rattle.looking.specs.declared.Event.{Event}
 use Rattle.receiving.specs.Steps.{Memory, AfterStep, stepOf}

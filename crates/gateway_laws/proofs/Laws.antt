@@ -36,7 +36,7 @@ use Rattle.looking.specs.declared.Verdict.{Verdict}
 use Rattle.gateway_laws.specs.Classes.{Class, quiet, refusing, storing, classOf}
 use Rattle.gateway_laws.proofs.Found.{Found, refused, worked, verdict-found}
 use Rattle.gateway_laws.proofs.Rows.{store-rows, Of, leaves, begins, counts, collects, refuses, stores, of-class}
-use Rattle.gateway_laws.specs.Inner.Classes.{actClass, Goes}
+use Rattle.gateway_laws.specs.Inner.Classes.{Goes}
 use Rattle.gateway_laws.proofs.Proper.{goes-class, verdict-proper}
 use Rattle.gateway_laws.proofs.Others.{texts-length, frames-length, texts-other, frames-other}
 

@@ -1,6 +1,6 @@
 -- Work orders, of a host's calls: what the gateway's sendings do, with the host's own answers and numbers.
 -- Assumes nothing.
-use mathlib.Core.Path.{_≡_, refl, sym, ap, ap₂, subst, _∙_}
+use mathlib.Core.Path.{_≡_, refl, sym, ap, subst, _∙_}
 use mathlib.Core.Logic.{_≢_}
 use mathlib.Core.Bool.{Bool, true, false, cond, _&&_, _||_}
 use mathlib.Core.List.{List, [], _∷_, _++_, map, append-nil}
@@ -9,11 +9,10 @@ use native.Mathlib.Nat.{add-zero}
 use native.Mathlib.Omega.{arith}
 use borrow.Author.Tests.{lt-ltb, eq-eqb, le-leb, eqb-true}
 use lib.Dec.{eqb}
-use lib.ListN.{length, getD, replicate}
+use lib.ListN.{length}
 use Rattle.memory.specs.Sizes.{lines, frameLimit, unfinishedSize}
 use Rattle.memory.proofs.Tests.{clash}
-use Rattle.characters.specs.Control.{enq, stx}
-use Rattle.frame.specs.Piece.{Piece}
+use Rattle.characters.specs.Control.{stx}
 use Rattle.pieces.specs.Pieces.{piecesOf}
 use Rattle.header.specs.Header.{entrySize}
 use Rattle.room.specs.Room.{todaysShares}
@@ -23,7 +22,6 @@ use Rattle.answers.specs.InNumbers.{replyByte}
 use Rattle.answers.specs.declared.Answer.{Answer}
 use Rattle.answers.specs.declared.Answer.the-variants.{Ended}
 use Rattle.answers.proofs.Paper.{every-answer}
-use Rattle.line.specs.Line.{freshLine}
 use Rattle.line.specs.declared.Line.{Line}
 use Rattle.looking.specs.Views.{textsOf, unfinishedText}
 use Rattle.sending.proofs.Offered.{offered-short}
@@ -33,11 +31,11 @@ use Rattle.gateway.specs.Events.{lineAt}
 use Rattle.gateway.specs.Out.{sends, outBytes}
 use Rattle.serial.specs.Serial.{event, annotate, final, Every}
 use Rattle.serial.specs.Kept.{isOf}
-use Rattle.promises.specs.Machine.{State, Response, response, Coming, happens, starts, GatewayItem, came, starting, step, storeOf, May, Sound}
+use Rattle.promises.specs.Machine.{State, Response, response, Coming, happens, starts, GatewayItem, starting, step, storeOf, May, Sound}
 use Rattle.promises.specs.Runs.{answered}
 use Rattle.promises.specs.Sending.{bytesOn, transfer, replies, transferReplies, HasRoom}
 use Rattle.promises.specs.Sending as sending
-use Rattle.promises.specs.Orders.{acks, outOn, orderedOn, beginsOn, sendsOn, offersAt, countUntil, turnsNeutral, longest, ticks, firstOf}
+use Rattle.promises.specs.Orders.{acks, outOn, orderedOn, sendsOn, offersAt, countUntil, longest, ticks, firstOf}
 use Rattle.promises.specs.Orders as there
 use Rattle.promises.proofs.Kept.{keeps}
 use Rattle.promises.proofs.Transfers as transfers
@@ -45,8 +43,7 @@ use Rattle.promises.proofs.Sendings.{sends-whole}
 use Rattle.promises.proofs.Sparing as sparing
 use Rattle.promises.proofs.Ending as ending
 use Rattle.ledger.proofs.Ledgers.{serial-at}
-use Rattle.layout.specs.Layout.{serialAt, numberAt}
-use Rattle.numbers.specs.Plain.{lineOf, withinNumbers}
+use Rattle.numbers.specs.Plain.{lineOf}
 use Rattle.calls.specs.Calls.{HostState}
 use Rattle.ngachodui_laws.specs.HostRuns.{gatewayState, InOrder, HostResponse, hostStep, numberTo, replyTo, after, Run, endOf}
 use Rattle.ngachodui_laws.specs.Outcomes.{lineIn}

@@ -3,10 +3,10 @@
 use mathlib.Core.Path.{_≡_, refl, sym, ap, subst, _∙_}
 use mathlib.Core.Logic.{_≢_}
 use mathlib.Core.List.{List, [], _∷_, _++_, map}
-use Prim.Native.Nat.{ℕ, zero, suc, _+_, _≤_, _<_}
+use Prim.Native.Nat.{ℕ, zero, suc, _+_, _≤_}
 use native.Mathlib.Nat.{add-zero}
 use lib.ListN.{length, getD, replicate}
-use Rattle.memory.specs.Sizes.{lines, frameLimit}
+use Rattle.memory.specs.Sizes.{frameLimit}
 use Rattle.memory.specs.Parts.{splice}
 use Rattle.frame.specs.Shape.{leastCollected}
 use Rattle.frame.specs.Piece.{Piece}

@@ -7,7 +7,7 @@ use mathlib.Core.List.{List}
 use Prim.Native.Nat.{ℕ, _+_, _≤_, _<_}
 use native.Mathlib.Decide.{decLt, ℕ-discrete}
 use native.Mathlib.Omega.{arith}
-use lib.ListN.{length, getD, set}
+use lib.ListN.{length, set}
 use lib.Seq.{set-getD}
 use Rattle.memory.specs.Sizes.{lines, messageLimit}
 use Rattle.memory.specs.Parts.{splice}
@@ -15,11 +15,10 @@ use Rattle.memory.proofs.Lines.{part-elsewhere}
 use Rattle.journal.specs.declared.Ledger.{Ledger}
 use Rattle.line.specs.Line.{withinLimits, askedLine}
 use Rattle.line.specs.declared.Line.{Line}
-use Rattle.line.specs.declared.State.{State as LineState}
 use Rattle.line.proofs.Limits.{within-facts, within-of, asked-within}
 use Rattle.looking.specs.Views.{textStart, textsOf}
 use Rattle.layout.specs.Layout.{numberAt}
-use Rattle.ledger.specs.Ledgers.{ledgerOf, withUsed}
+use Rattle.ledger.specs.Ledgers.{ledgerOf}
 use Rattle.ledger.proofs.Ledgers.{used-back}
 use Rattle.numbers.specs.Plain.{lineOf, withinNumbers, withLine}
 use Rattle.numbers.proofs.Numbers.{line-within, serial-back}
@@ -27,13 +26,13 @@ use Rattle.orders.specs.Starts.{startLook}
 use Rattle.orders.specs.declared.Start.{Start}
 use Rattle.orders.specs.declared.Start.the-variants.{Asks, Refused}
 use Rattle.orders.proofs.Looks.{look-no-line, Passed, asks-passed, passed-fits}
-use Rattle.gateway.specs.Events.{AfterEvent, lineAt, noRecord, startedWith, startIn, startOf}
+use Rattle.gateway.specs.Events.{lineAt, noRecord, startedWith, startIn, startOf}
 use Rattle.gateway.specs.Gateway.{Gateway}
 use Rattle.calls.specs.Calls.{HostState}
 use Rattle.ngachodui_laws.specs.Hosting.{gatewayOf}
 use Rattle.ngachodui_laws.specs.HostRuns.{InOrder, startFrom, startedBy}
 use Rattle.ngachodui_laws.specs.Inner.Hosting.{Hosts}
-use Rattle.ngachodui_laws.proofs.Stores.{stored, stored-length, number-other, within-other, within-own, spare-stays}
+use Rattle.ngachodui_laws.proofs.Stores.{stored, stored-length, within-other, within-own, spare-stays}
 use Rattle.ngachodui_laws.proofs.Touched.{Touched}
 use Rattle.ngachodui_laws.proofs.PutBack.{line-anywhere, gateway-put}
 

@@ -15,7 +15,7 @@ use lib.ListN.{length, getD, set, length-set}
 use lib.Seq.{sets, length-sets, set-comm, getD-set-same, getD-set-other}
 use Rattle.digits.specs.Number.{mostNumber}
 use Rattle.journal.specs.declared.Ledger.{Ledger}
-use Rattle.line.specs.Line.{mostTries, lastWithin, stateWithin, withinLimits}
+use Rattle.line.specs.Line.{lastWithin, stateWithin, withinLimits}
 use Rattle.line.specs.declared.Line.{Line}
 use Rattle.line.specs.declared.State.{State}
 use Rattle.line.specs.declared.State.the-variants.{Neutral, Waiting, Inside, Out}
@@ -25,7 +25,7 @@ use Rattle.line.specs.declared.Last.the-variants.{NoneYet, Number}
 use Rattle.line.proofs.Limits.{within-facts}
 use Rattle.layout.specs.Layout.{fields, placeAt, start, firstAt, numberAt}
 use Rattle.ledger.specs.Ledgers.{withSerial}
-use Rattle.numbers.specs.Plain.{inside, offering, stateOf, stateNumber, triesNumber, placeNumber, sendingFits, lastOf, lastNumber, flag, withinNumbers, lineOf, withLine}
+use Rattle.numbers.specs.Plain.{offering, stateOf, stateNumber, triesNumber, placeNumber, sendingFits, lastOf, lastNumber, flag, withinNumbers, lineOf, withLine}
 
 -- a run of stores: before it, behind it and in it
 sets-before : (vs l : List ℕ) (i p : ℕ) → p < i → getD (sets l i vs) p 0 ≡ getD l p 0

@@ -5,7 +5,6 @@ use mathlib.Core.Path.{_≡_}
 use mathlib.Core.Logic.{_≢_}
 use mathlib.Core.Bool.{Bool, true, _&&_}
 use mathlib.Core.List.{List, [], _∷_, _++_, map}
-use lib.Dec.{eqb}
 use lib.ListN.{length}
 use Rattle.memory.specs.Sizes.{lines, frameLimit}
 use Rattle.memory.specs.Parts.{splice}
@@ -26,7 +25,7 @@ use Rattle.promises.specs.Sending.{bytesOn, transfer}
 use Rattle.promises.specs.Orders.{outOn, orderedOn, beginsOn, sendsOn, offersAt, countUntil, turnsNeutral}
 use Rattle.numbers.specs.Plain.{lineOf}
 use Rattle.calls.specs.Calls.{HostState}
-use Rattle.ngachodui_laws.specs.HostRuns.{HostResponse, hostStep, replyTo, after}
+use Rattle.ngachodui_laws.specs.HostRuns.{HostResponse, hostStep, after}
 use Rattle.ngachodui_laws.specs.Outcomes.{LineKept, StoreKept}
 use Rattle.ngachodui_laws.specs.Sound.{Intact, Holds}
 use Rattle.ngachodui_laws.specs.Sending.{says, toFrames, entryOf}

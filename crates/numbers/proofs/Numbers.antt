@@ -13,16 +13,16 @@ use lib.Seq.{set-getD, getD-set-other}
 use Rattle.memory.specs.Sizes.{lines, messageLimit, frameLimit}
 use Rattle.memory.proofs.Tests.{and-left, and-right}
 use Rattle.digits.specs.Number.{mostNumber}
-use Rattle.line.specs.Line.{mostCollected, mostSeconds, mostTries, lastWithin, sendingWithin, stateWithin, withinLimits, collectedLine, begunLine}
+use Rattle.line.specs.Line.{mostCollected, mostSeconds, mostTries, lastWithin, stateWithin, withinLimits, collectedLine, begunLine}
 use Rattle.line.specs.declared.Last.the-variants.{Number}
 use Rattle.line.proofs.Limits.{collected-fits, within-of}
 use Rattle.line.specs.declared.Line.{Line}
 use Rattle.line.specs.declared.State.{State}
-use Rattle.line.specs.declared.State.the-variants.{Inside, Out}
+use Rattle.line.specs.declared.State.the-variants.{Inside}
 use Rattle.layout.specs.Layout.{start, firstAt, numberAt}
 use Rattle.ledger.specs.Ledgers.{ledgerOf, withSerial}
 use Rattle.ledger.proofs.Ledgers.{again, serial-at}
-use Rattle.numbers.specs.Plain.{insideAt, waiting, inside, asking, pausing, offering, sendingOf, stateOf, stateNumber, triesNumber, placeNumber, sendingFits, lastOf, lastNumber, flag, withinNumbers, lineOf, withLine}
+use Rattle.numbers.specs.Plain.{insideAt, waiting, inside, pausing, offering, stateOf, stateNumber, triesNumber, placeNumber, sendingFits, lastOf, lastNumber, flag, withinNumbers, lineOf, withLine}
 
 -- the numbers behind the state, without tries and place
 abbrev pub othersWithin : List ℕ → ℕ → Bool

@@ -1,7 +1,6 @@
 -- `orders::send` meets its contract.
 -- Assumes nothing.
 use mathlib.Core.Path.{_≡_, refl, sym, _∙_}
-use native.Mathlib.Omega.{arith}
 use denote.Ref.{now}
 use lib.ListN.{length}
 use Rattle.numbers.specs.Plain.{withinNumbers, lineOf}

@@ -29,7 +29,7 @@ returns-4 c = search branches
 
 -- behind the tests of the counts
 abbrev entry : tie.Else4 → tie.Start
-entry c = c .before .before .before .before .before .before .before .before
+entry c = let second = c .before .before .before .before in second .before .before .before .before
 
 counted : (c : tie.Else4) → let l = entry c .args .self in withinLimits l ≡ lastWithin (l .last) && stateWithin (l .state)
 counted c = within-rest (entry c .args .self) (omega arith) (omega arith) (omega arith) (omega arith)

@@ -6,8 +6,7 @@ use denote.Ref.{now}
 use borrow.Author.Needs.{needs}
 use borrow.Author.Tests.{not-true, not-false}
 use Rattle.memory.proofs.Branches.{branches}
-use Rattle.layout.specs.Layout.{firstAt, numberAt}
-use Rattle.numbers.specs.Plain.{withinNumbers, sendingFits}
+use Rattle.numbers.specs.Plain.{withinNumbers}
 use Rattle.numbers.proofs.Numbers.{othersWithin, within-others, within-unfit, others-last}
 use Rattle.numbers.proofs.plain.is_within.Statement.{statement}
 use Rattle.numbers.proofs.plain.is_within.Tie as tie

@@ -1,6 +1,5 @@
 -- `numbers::plain::sending_of` meets its contract.
 -- Assumes nothing.
-use borrow.Author.Needs.{needs}
 use Rattle.memory.proofs.Branches.{branches}
 use Rattle.numbers.proofs.plain.sending_of.Statement.{statement}
 use Rattle.numbers.proofs.plain.sending_of.Tie as tie

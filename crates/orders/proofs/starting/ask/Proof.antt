@@ -1,10 +1,9 @@
 -- `orders::starting::ask` meets its contract.
 -- Assumes nothing.
-use mathlib.Core.Path.{_≡_, refl, sym, ap, _∙_}
+use mathlib.Core.Path.{ap, _∙_}
 use native.Mathlib.Omega.{arith}
 use denote.Ref.{now}
 use lib.ListN.{length}
-use Rattle.memory.specs.Sizes.{lines}
 use Rattle.memory.proofs.Moves.{copied-fits}
 use Rattle.line.specs.Line.{askedLine}
 use Rattle.line.specs.declared.Line.{Line}

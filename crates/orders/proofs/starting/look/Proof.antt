@@ -3,13 +3,11 @@
 use mathlib.Core.Path.{_≡_, sym, ap, _∙_}
 use mathlib.Core.Bool.{true}
 use native.Mathlib.Omega.{arith}
-use Prim.Native.Nat.{_<_}
 use denote.Ref.{now}
 use borrow.Author.Tests.{not-true, not-false}
-use Rattle.memory.specs.Sizes.{lines}
 use Rattle.looking.specs.Lent.{rightLengths}
 use Rattle.line.specs.declared.Line.{Line}
-use Rattle.numbers.specs.Plain.{withinNumbers, lineOf}
+use Rattle.numbers.specs.Plain.{lineOf}
 use Rattle.numbers.specs.Changes.{isWithin, recordOf}
 use Rattle.numbers.proofs.Changes.{within-facts, not-within}
 use Rattle.orders.specs.Starts.{isNeutral, textLook}
