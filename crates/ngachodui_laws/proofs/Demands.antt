@@ -9,6 +9,7 @@ use Rattle.ngachodui_laws.proofs.Outcomes.{one-outcome, the-outcome, fr
 use Rattle.ngachodui_laws.proofs.Deciding.{decided-exactly, wrong-at}
 use Rattle.ngachodui_laws.proofs.Sending.{sent, given-back}
 use Rattle.ngachodui_laws.proofs.Orders.{sent-whole, order-taken, fetched, six-sends, sending-ends}
+use Rattle.ngachodui_laws.proofs.Among.{sent-among}
 use Rattle.ngachodui_laws.proofs.FromFresh.{can-send}
 use Rattle.ngachodui_laws.proofs.Stretches.{stretches, stretches-met, stretches-all}
 use Rattle.ngachodui_laws.proofs.Rooms.{share-kept, no-space, space, freed-own, freed-others, alone-refused, alone-stored, acknowledged-stored, only-4-stores}
@@ -52,6 +53,7 @@ kept = record {
   only-messages = only-messages;
   read-never-refused = read-never-refused;
   sent-whole = sent-whole;
+  sent-among = sent-among;
   order-taken = order-taken;
   fetched = fetched;
   six-sends = six-sends;

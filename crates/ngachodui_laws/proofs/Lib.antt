@@ -14,6 +14,7 @@ pub mod Stretches
 pub mod Queue
 pub mod Sending
 pub mod Orders
+pub mod Among
 pub mod FromFresh
 pub mod Texts
 pub mod Escapes

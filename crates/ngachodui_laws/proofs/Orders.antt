@@ -65,6 +65,11 @@ out-seen : (i : ℕ) (ys : List (GatewayItem × Response)) → outOn (λ (r : Ho
 out-seen i [] = refl
 out-seen i (y ∷ ys) = ap (λ (bs : List ℕ). cond (isOf i (y .0)) (y .1 .buffer) [] ++ bs) (out-seen i ys)
 
+-- and its calls are answered by the gateway's numbers
+numbers-seen : (n : ℕ) (ys : List (GatewayItem × Response)) → Every (λ y. answered (y .1) ≡ n) ys → Every (λ x. x .1 .answered .number ≡ n) (map seenOf ys)
+numbers-seen n [] h = tt
+numbers-seen n (y ∷ ys) h = (h .0, numbers-seen n ys (h .1))
+
 acks-apart : (i n l : ℕ) → l ≢ i → Every (λ e. l ≢ lineIn e) (acks i n)
 acks-apart i zero l n = tt
 acks-apart i (suc k) l n = (n, acks-apart i k l n)
@@ -81,6 +86,7 @@ module _ (s : HostState) (i : ℕ) (m : List ℕ) (c : CanStart s i m) where
 
   pub sent-whole : SentWhole s i m
   sent-whole = record {
+    answers = subst (Every (λ x. x .1 .answered .number ≡ sends)) (sym (runs-alike s o es)) (numbers-seen sends (annotate step (gatewayState s) es) (there-whole .answers));
     out = ap (outOn (λ (r : HostResponse). r .buffer) i) (runs-alike s o es) ∙ out-seen i (annotate step (gatewayState s) es) ∙ there-whole .out;
     line = sym (line-at (final hostStep s es .numbers) i (c .line)) ∙ ap (λ (x : State). lineAt (x .gateway) i) (ends-alike s o es) ∙ there-whole .line;
     others = λ l h n. run-keeps s es l h (n, (n, acks-apart i (length (piecesOf frameLimit m)) l n));

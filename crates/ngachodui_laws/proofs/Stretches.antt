@@ -42,23 +42,23 @@ decides-alike r =
     both-or-none (isDeciding (r .answer)) (isDecision (classOf (r .answer))) (every-answer test (λ vs. refl) (r .answer))
 
 -- what a line has to itself, and what all lines share, is that of the gateway; responses are as the host sees them
-abbrev partsIn : HostState → ℕ → Parts
+abbrev pub partsIn : HostState → ℕ → Parts
 partsIn s i = partsOf (gatewayState s) i
 
-abbrev storeIn : HostState → Store
+abbrev pub storeIn : HostState → Store
 storeIn s = storeOf (gatewayState s)
 
-abbrev onHostEvent : ℕ → Parts → Coming → Store → HostResponse × Parts × Store
+abbrev pub onHostEvent : ℕ → Parts → Coming → Store → HostResponse × Parts × Store
 onHostEvent i p k j = (inNumbersOf ((onComing i p k j) .0), (onComing i p k j) .1, (onComing i p k j) .2)
 
-abbrev onHostTaking : ℕ → List ℕ → Store → HostResponse × Store
+abbrev pub onHostTaking : ℕ → List ℕ → Store → HostResponse × Store
 onHostTaking i b j = (inNumbersOf ((onTaking i b j) .0), (onTaking i b j) .1)
 
-record SoundHost (s : HostState) : Type 0 where
-  in-order : InOrder s
-  sound : Sound (gatewayState s)
+pub record SoundHost (s : HostState) : Type 0 where
+  pub in-order : InOrder s
+  pub sound : Sound (gatewayState s)
 
-host-lined : Lined partsIn storeIn onHostEvent onHostTaking decides lines hostStep SoundHost May
+pub host-lined : Lined partsIn storeIn onHostEvent onHostTaking decides lines hostStep SoundHost May
 host-lined = record {
   keeps = λ s e w m. record {
     in-order = one-call s (w .in-order) e .in-order;

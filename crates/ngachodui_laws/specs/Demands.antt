@@ -23,7 +23,7 @@ use Rattle.answers.specs.Paper.{ack}
 use Rattle.looking.specs.declared.Kind.{Kind}
 use Rattle.receiving.specs.Steps.{Memory}
 use Rattle.serial.specs.Serial.{event, taking, annotate, final, serialize, count, Every, OrderOf, GoesAlike}
-use Rattle.serial.specs.Kept.{Rearranged}
+use Rattle.serial.specs.Kept.{only, isOf, Rearranged}
 use Rattle.promises.specs.Machine.{Coming, GatewayItem, came, starting, May}
 use Rattle.promises.specs.Orders.{orderedOn, longest, ticks}
 use Rattle.promises.specs.Clean.{WrongAt}
@@ -38,7 +38,7 @@ use Rattle.ngachodui_laws.specs.Outcomes.{Allows, ignores, lineIn, LineK
 use Rattle.ngachodui_laws.specs.Deciding.{DecidedExactly}
 use Rattle.ngachodui_laws.specs.Queue.{allTaken, NothingLost, OnlyMessages}
 use Rattle.ngachodui_laws.specs.Sending.{CanSend, sentTo, Delivered, GivesBack}
-use Rattle.ngachodui_laws.specs.Orders.{CanStart, sentOn, SentWhole, OrderTaken, SentSparingly, neutralAlong, FetchedAs}
+use Rattle.ngachodui_laws.specs.Orders.{CanStart, sentOn, SentWhole, SentAmong, OrderTaken, SentSparingly, neutralAlong, FetchedAs}
 use Rattle.ngachodui_laws.specs.Texts.{Cut, Readable, ComesBack, GoesBack}
 use Rattle.ngachodui_laws.specs.Freed.{takenThen, Frees, Alone}
 
@@ -165,6 +165,10 @@ pub record Demands : Type 0 where
   -- A message that is started on a neutral line, with an ACK to our ENQ and to each frame, goes out as the very bytes of its transfer: ENQ, the frames that cutting makes,
   -- EOT. The line is then as fresh, and nothing else has changed.
   pub sent-whole : (s : HostState) (i : ℕ) (m : List ℕ) → CanStart s i m → SentWhole s i m
+  --
+  -- It does whatever comes on the other lines meanwhile, and whatever is taken: all that is asked is that the calls of its own line are these.
+  pub sent-among : (r : Run) (i : ℕ) (m : List ℕ) → CanStart (endOf r) i m → (es : List GatewayItem) → Every May es → only (isOf i) es ≡ orderedOn i m
+      → SentAmong (endOf r) i m es
   --
   -- So, sent to a fresh line of another gateway that has the room, it ends with the message stored there, once; and that gateway's replies are the ACKs.
   pub order-taken : (s : HostState) (i : ℕ) (m : List ℕ) → CanStart s i m → (t : HostState) (l : ℕ) (c : CanSend t l m)

@@ -19,7 +19,8 @@ use Rattle.line.specs.Line.{freshLine, mostTries}
 use Rattle.line.specs.declared.State.the-variants.{Neutral}
 use Rattle.orders.specs.Starts.{isNeutral}
 use Rattle.orders.specs.Calls.{Fetched}
-use Rattle.serial.specs.Serial.{annotate, final}
+use Rattle.gateway.specs.Out.{sends}
+use Rattle.serial.specs.Serial.{annotate, final, Every}
 use Rattle.promises.specs.Machine.{GatewayItem}
 use Rattle.promises.specs.Sending.{bytesOn, transfer}
 use Rattle.promises.specs.Orders.{outOn, orderedOn, beginsOn, sendsOn, offersAt, countUntil, turnsNeutral}
@@ -41,13 +42,19 @@ pub record CanStart (s : HostState) (i : ℕ) (m : List ℕ) : Type 0 where
 abbrev pub sentOn : ℕ → HostState → List GatewayItem → List ℕ
 sentOn i s es = outOn (λ (r : HostResponse). r .buffer) i (annotate hostStep s es)
 
--- with an ACK to our ENQ and to each frame, all that is sent from the start on is the transfer of the message; the line is then as fresh, every other line has what it
--- had, and nothing is stored or taken
+-- with an ACK to our ENQ and to each frame, every call is answered 9, and all that is sent from the start on is the transfer of the message; the line is then as fresh, every
+-- other line has what it had, and nothing is stored or taken
 pub record SentWhole (s : HostState) (i : ℕ) (m : List ℕ) : Type 0 where
+  pub answers : Every (λ x. x .1 .answered .number ≡ sends) (annotate hostStep s (orderedOn i m))
   pub out : sentOn i s (orderedOn i m) ≡ transfer frameLimit (m ∷ [])
   pub line : lineOf (final hostStep s (orderedOn i m) .numbers) i ≡ freshLine
   pub others : (l : ℕ) → l < lines → l ≢ i → LineKept l s (final hostStep s (orderedOn i m))
   pub store : StoreKept s (final hostStep s (orderedOn i m))
+
+-- the same where other calls, on other lines and takings, come among these: all that is sent on the line is the transfer, and the line is then as fresh
+pub record SentAmong (s : HostState) (i : ℕ) (m : List ℕ) (es : List GatewayItem) : Type 0 where
+  pub out : sentOn i s es ≡ transfer frameLimit (m ∷ [])
+  pub line : lineOf (final hostStep s es .numbers) i ≡ freshLine
 
 -- these bytes, sent to line l of a gateway whose journal holds the entries es, get 1, then the answers to the frames, then 5, all but the last with ACK where a reply is
 -- due; the journal then holds es and, behind them, the message once

@@ -150,3 +150,7 @@ sending-ends s w i h m e es may enough =
     let going : Going (partsOf t i) (Asking 0) = record { out = ap (λ (p : Parts). p .line .state) own; waiting = omega (arith, seconds) } in
     let frames = ap (λ (x : List ℕ). length (piecesOf frameLimit (drop 0 x))) text in
     going-ends i h t es (keeps s (starting i m) w h) may (Asking 0) going (omega (arith, enough, seconds, frames))
+
+-- the figures
+pub longest-figures : (frames : ℕ) → longest frames ≡ 140 + 90 * frames
+longest-figures frames = omega arith

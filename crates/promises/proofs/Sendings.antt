@@ -17,7 +17,7 @@ use Rattle.faults.proofs.Messages.{message-some}
 use Rattle.frame.specs.Piece.{Piece}
 use Rattle.framing.specs.Frames.{framesFrom}
 use Rattle.pieces.specs.Pieces.{piecesOf}
-use Rattle.answers.specs.Paper.{ack}
+use Rattle.answers.specs.Paper.{ack, numberOf}
 use Rattle.line.specs.Line.{freshLine}
 use Rattle.line.specs.declared.State.the-variants.{Neutral, Out}
 use Rattle.line.specs.declared.Sending.{Sending}
@@ -33,9 +33,11 @@ use Rattle.orders.specs.Starts.{isNeutral, startAnswer}
 use Rattle.orders.specs.declared.Start.{Start}
 use Rattle.orders.specs.declared.Start.the-variants.{Asks}
 use Rattle.gateway.specs.Events.{lineAt}
-use Rattle.serial.specs.Serial.{event, annotate, final}
+use Rattle.gateway.specs.Out.{sends}
+use Rattle.serial.specs.Serial.{event, annotate, final, Every}
 use Rattle.promises.specs.Machine.{State, Response, Coming, happens, starts, GatewayItem, came, starting, step, Parts, partsOf, told, storeOf}
 use Rattle.promises.specs.Inner.ByParts.{partsStarted}
+use Rattle.promises.specs.Runs.{answered}
 use Rattle.promises.specs.Clean.{unfinishedIn}
 use Rattle.promises.specs.Sending.{Intact, transferReplies, HasRoom, Delivers}
 use Rattle.promises.specs.Orders.{acks, outOn, orderedOn, SendsWhole}
@@ -64,18 +66,20 @@ module _ (p : Parts) where
   frame-out at number there = rw (lt-ltb at (p .line .joined) there)
 
 module _ (i : ℕ) (h : i < lines) where
-  -- bs go out on line i in the run es, the line is then as fresh, and nothing else has changed but its memory
+  -- every item of the run es is answered 9, bs go out on line i, the line is then as fresh, and nothing else has changed but its memory
   record Sends (s : State) (es : List GatewayItem) (bs : List ℕ) : Type 0 where
+    answers : Every (λ x. answered (x .1) ≡ sends) (annotate step s es)
     out : outOn (λ (r : Response). r .buffer) i (annotate step s es) ≡ bs
     line : partsOf (final step s es) i .line ≡ freshLine
     others : (l : ℕ) → l ≢ i → partsOf (final step s es) l ≡ partsOf s l
     store : storeOf (final step s es) ≡ storeOf s
 
   -- one item of line i in front
-  sends-onto : (s : State) (k : Coming) (es : List GatewayItem) (b bs : List ℕ) → (step s (event i k)) .0 .buffer ≡ b
+  sends-onto : (s : State) (k : Coming) (es : List GatewayItem) (b bs : List ℕ) → answered ((step s (event i k)) .0) ≡ sends → (step s (event i k)) .0 .buffer ≡ b
       → ((l : ℕ) → l ≢ i → partsOf ((step s (event i k)) .1) l ≡ partsOf s l) → storeOf ((step s (event i k)) .1) ≡ storeOf s
       → Sends ((step s (event i k)) .1) es bs → Sends s (event i k ∷ es) (b ++ bs)
-  sends-onto s k es b bs goes others store x = record {
+  sends-onto s k es b bs nine goes others store x = record {
+    answers = (nine, x .answers);
     out = rw (eq-eqb i i refl) (ap₂ _++_ goes (x .out));
     line = x .line;
     others = λ l n. x .others l n ∙ others l n;
@@ -95,11 +99,15 @@ module _ (i : ℕ) (h : i < lines) where
       buffer-is : (step s (came i k)) .0 .buffer ≡ told (answerOn o) (partsOn o (partsOf s i)) .buffer
       buffer-is = ap (λ (r : Response). r .buffer) (out-answer s (x .intact) i h t (x .out) k) ∙ ap (λ (y : Onward). told (answerOn y) (partsOn y (partsOf s i)) .buffer) is
 
+      number-is : answered ((step s (came i k)) .0) ≡ numberOf (answerOn o)
+      number-is = ap answered (out-answer s (x .intact) i h t (x .out) k) ∙ ap (λ (y : Onward). numberOf (answerOn y)) is
+
       own-is : partsOf ((step s (came i k)) .1) i ≡ partsOn o (partsOf s i)
       own-is = out-own s (x .intact) i h t (x .out) k ∙ ap (λ (y : Onward). partsOn y (partsOf s i)) is
 
-      onto : (es : List GatewayItem) (b bs : List ℕ) → told (answerOn o) (partsOn o (partsOf s i)) .buffer ≡ b → Sends ((step s (came i k)) .1) es bs → Sends s (came i k ∷ es) (b ++ bs)
-      onto es b bs goes = sends-onto s (happens k) es b bs (buffer-is ∙ goes) (event-others s (x .intact) i k h) (out-store s (x .intact) i h t (x .out) k)
+      onto : (es : List GatewayItem) (b bs : List ℕ) → numberOf (answerOn o) ≡ sends → told (answerOn o) (partsOn o (partsOf s i)) .buffer ≡ b → Sends ((step s (came i k)) .1) es bs
+          → Sends s (came i k ∷ es) (b ++ bs)
+      onto es b bs nine goes = sends-onto s (happens k) es b bs (number-is ∙ nine) (buffer-is ∙ goes) (event-others s (x .intact) i k h) (out-store s (x .intact) i h t (x .out) k)
 
     -- ACK, where the text has a byte at the place that is to be offered: its frame goes out
     module _ (s : State) (t : Sending) (number : ℕ) (x : At s t number) (at then : ℕ) (there : at < length m)
@@ -123,7 +131,7 @@ module _ (i : ℕ) (h : i < lines) where
 
       sends-frame : (es : List GatewayItem) (bs : List ℕ) → Sends ((step s (came i (Byte ack))) .1) es bs → Sends s (came i (Byte ack) ∷ es) (frameAt frameLimit then at m ++ bs)
       sends-frame es bs =
-          onto s t number x (Byte ack) (Goes (Offering 1 at) then) goes-is es (frameAt frameLimit then at m) bs (frame-out (partsOf s i) at then in-text ∙ ap (frameAt frameLimit then at) (x .text))
+          onto s t number x (Byte ack) (Goes (Offering 1 at) then) goes-is es (frameAt frameLimit then at m) bs refl (frame-out (partsOf s i) at then in-text ∙ ap (frameAt frameLimit then at) (x .text))
 
     -- and where it has none, our EOT does
     sends-end : (s : State) (t : Sending) (number : ℕ) (x : At s t number) (at then : ℕ) → length m ≤ at → onwardBy (partsOf s i) t (Byte ack) ≡ offer (partsOf s i .line) at then
@@ -131,7 +139,7 @@ module _ (i : ℕ) (h : i < lines) where
     sends-end s t number x at then past is =
         let ended : onwardBy (partsOf s i) t (Byte ack) ≡ Ends = is ∙ rw (le-ltb at (partsOf s i .line .joined) (omega (arith, x .joined))) in
         let fresh = ap (λ (p : Parts). p .line) (own-is s t number x (Byte ack) Ends ended) in
-        onto s t number x (Byte ack) Ends ended [] (eot ∷ []) [] refl (record { out = refl; line = fresh; others = λ l n. refl; store = refl })
+        onto s t number x (Byte ack) Ends ended [] (eot ∷ []) [] refl refl (record { answers = tt; out = refl; line = fresh; others = λ l n. refl; store = refl })
 
     -- ---- the frames, one behind the other
 
@@ -190,6 +198,9 @@ module _ (s : State) (w : Intact s) (i : ℕ) (h : i < lines) (neutral : lineAt 
         next = ap (λ (p : Parts). p .line .next) own;
       }
 
+  enq-answered : answered ((step s (starting i m)) .0) ≡ sends
+  enq-answered = ap answered (start-answer s w i m h) ∙ ap (λ (x : Start). numberOf (startAnswer x)) asks
+
   enq-out : (step s (starting i m)) .0 .buffer ≡ enq ∷ []
   enq-out = ap (λ (r : Response). r .buffer) (start-answer s w i m h) ∙ ap (λ (x : Start). told (startAnswer x) (partsStarted x (partsOf s i) m) .buffer) asks
 
@@ -206,8 +217,9 @@ module _ (s : State) (w : Intact s) (i : ℕ) (h : i < lines) (neutral : lineAt 
 
   all-out : SendsWhole s i m
   all-out =
-      let x = sends-onto i h s (starts m) (came i (Byte ack) ∷ acks i (length (piecesOf frameLimit m))) (enq ∷ []) _ enq-out (start-others s w i m h) (start-store s w i m h) frames-out in
+      let x = sends-onto i h s (starts m) (came i (Byte ack) ∷ acks i (length (piecesOf frameLimit m))) (enq ∷ []) _ enq-answered enq-out (start-others s w i m h) (start-store s w i m h) frames-out in
       record {
+        answers = x .answers;
         out = x .out ∙ ap (λ (ps : List Piece). enq ∷ (framesFrom firstNumber ps ++ (eot ∷ []))) (sym (append-nil (piecesOf frameLimit m)));
         line = x .line;
         others = x .others;

@@ -1,7 +1,7 @@
 -- Work orders: what goes out on a line in a sending, how often, and for how long.
 -- A sending on line i begins with a start there that is answered 9, and what is counted is counted up to the next one.
 -- Assumes nothing.
-use Prim.Native.Nat.{ℕ, _+_, _*_, _≤_}
+use Prim.Native.Nat.{ℕ, _+_, _*_, _-_, _≤_}
 use mathlib.Core.Path.{_≡_}
 use mathlib.Core.Logic.{_≢_}
 use mathlib.Core.Bool.{Bool, false, cond, _&&_, _||_}
@@ -18,11 +18,12 @@ use Rattle.line.specs.Line.{freshLine, mostTries}
 use Rattle.line.specs.declared.State.{State as LineState}
 use Rattle.line.specs.declared.State.the-variants.{Neutral, Waiting, Inside, Out}
 use Rattle.line.specs.declared.Sending.the-variants.{Asking, Pausing, Offering}
+use Rattle.sending.specs.Onward.{replySeconds, pauseSeconds}
 use Rattle.looking.specs.declared.Kind.the-variants.{Byte, Seconds}
 use Rattle.orders.specs.Starts.{isNeutral}
 use Rattle.gateway.specs.Events.{lineAt}
 use Rattle.gateway.specs.Out.{sends}
-use Rattle.serial.specs.Serial.{event, taking, annotate, final}
+use Rattle.serial.specs.Serial.{event, taking, annotate, final, Every}
 use Rattle.serial.specs.Kept.{isOf}
 use Rattle.promises.specs.Machine.{State, Response, GatewayItem, happens, starts, came, starting, step, partsOf, storeOf}
 use Rattle.promises.specs.Runs.{answered}
@@ -43,8 +44,10 @@ outOn buffer i (x ∷ xs) = cond (isOf i (x .0)) (buffer (x .1)) [] ++ outOn buf
 abbrev pub orderedOn : ℕ → List ℕ → List GatewayItem
 orderedOn i m = starting i m ∷ came i (Byte ack) ∷ acks i (length (piecesOf frameLimit m))
 
--- what goes out is the transfer of the message, byte for byte, as demand 2 has it; the line is then as fresh, and nothing else has changed but its part of the unfinished texts [S11]
+-- each is answered 9, and what goes out is the transfer of the message, byte for byte, as demand 2 has it; the line is then as fresh, and nothing else has changed but its part
+-- of the unfinished texts [S11]
 pub record SendsWhole (s : State) (i : ℕ) (m : List ℕ) : Type 0 where
+  pub answers : Every (λ x. answered (x .1) ≡ sends) (annotate step s (orderedOn i m))
   pub out : outOn (λ (r : Response). r .buffer) i (annotate step s (orderedOn i m)) ≡ transfer frameLimit (m ∷ [])
   pub line : partsOf (final step s (orderedOn i m)) i .line ≡ freshLine
   pub others : (l : ℕ) → l ≢ i → partsOf (final step s (orderedOn i m)) l ≡ partsOf s l
@@ -122,6 +125,7 @@ turnsNeutral next neutral s (e ∷ es) = neutral s || turnsNeutral next neutral 
 abbrev pub neutralAlong : ℕ → State → List GatewayItem → Bool
 neutralAlong i s es = turnsNeutral (λ t e. (step t e) .1) (λ t. isNeutral (lineAt (t .gateway) i .state)) s es
 
--- so many seconds a sending of so many frames lasts at most, told one by one: six waits of 15 for our ENQ with five pauses of 10 between, and six waits for each frame [S12]
+-- so many seconds a sending of so many frames lasts at most, told one by one: six waits of 15 for our ENQ with five pauses of 10 between them, and six waits of 15 for each frame,
+-- which are 140 and 90 [S12]
 abbrev pub longest : ℕ → ℕ
-longest frames = 140 + 90 * frames
+longest frames = mostTries * replySeconds + (mostTries - 1) * pauseSeconds + mostTries * replySeconds * frames

@@ -7,3 +7,4 @@ pub mod Kept
 pub mod Unique
 pub mod Demand
 pub mod Orders
+pub mod ByItself
