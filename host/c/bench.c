@@ -9,6 +9,8 @@
  * bytes: how many bytes). An operation that reads a text is then done once with other delimiters, for
  * the checksum alone.
  *
+ * Plain C sends nothing: what a sending costs is the library's alone.
+ *
  *     bench OPERATION times ROUNDS [SIZE]
  *
  * runs the three in turn, so many rounds of short runs, and says how long the best run of each took:
@@ -501,6 +503,39 @@ static void make_text(size_t size, bool many, bool escaped)
     }
 }
 
+/* ---- Sendings ---- */
+
+enum sending_call { START, REPLY, FETCH };
+
+/* The start of a sending; an ACK to its second frame, behind which there is a third; or the second frame, fetched. */
+FOR_EACH_SIDE void sending(enum side side, uint64_t count, enum sending_call call)
+{
+    if (side == PLAIN)
+        stop("plain C sends nothing");
+    fresh(LIBRARY);
+    if (call != START) {
+        ngachodui_on_send(&library, 3, text, length);
+        ngachodui_on_byte(&library, 3, NGACHODUI_ACK);
+        if (ngachodui_on_byte(&library, 3, NGACHODUI_ACK).reply != NGACHODUI_STX)
+            stop("the message has no second frame");
+    }
+    save();
+    for (uint64_t i = 0; i < count; i++) {
+        if (side == LIBRARY && call == FETCH) {
+            out_length = ngachodui_on_outgoing(&library, 3, out, FRAME).length;
+        } else if (side == LIBRARY) {
+            ngachodui_answered answer = call == START ? ngachodui_on_send(&library, 3, text, length)
+                                                      : ngachodui_on_byte(&library, 3, NGACHODUI_ACK);
+            if (answer.reply != (call == START ? NGACHODUI_ENQ : NGACHODUI_STX))
+                stop("the sending does not go on as it should");
+            note(answer.reply);
+        }
+        put_back();
+    }
+    note_bytes(out, out_length);
+    done = count;
+}
+
 /* ---- The command ---- */
 
 static uint64_t nanoseconds(void)
@@ -539,7 +574,8 @@ static bool starts(struct operation o, const char *start)
 
 static bool takes_message(struct operation o)
 {
-    return starts(o, "decided-") || starts(o, "faulty-") || starts(o, "check-") || starts(o, "cut-") || starts(o, "read-");
+    return starts(o, "decided-") || starts(o, "faulty-") || starts(o, "check-") || starts(o, "cut-") || starts(o, "read-") ||
+           starts(o, "started-") || starts(o, "replied-") || starts(o, "fetched-");
 }
 
 static bool takes_component(struct operation o)
@@ -593,6 +629,12 @@ FOR_EACH_SIDE void run_side(enum side side, struct operation o, uint64_t count)
         over_text(side, count, ESCAPE);
     else if (starts(o, "unescape-"))
         over_text(side, count, UNESCAPE);
+    else if (starts(o, "started-"))
+        sending(side, count, START);
+    else if (starts(o, "replied-"))
+        sending(side, count, REPLY);
+    else if (starts(o, "fetched-"))
+        sending(side, count, FETCH);
     else
         stop("no such operation");
 }

@@ -256,32 +256,20 @@ mod tests {
         }
     }
 
-    #[test]
-    fn every_byte_to_a_frame_with_one_behind_it() {
+    /// Every byte in reply to the frame at a place, sent so often, where ACK comes to `next`.
+    fn every_byte_to_a_frame(place: usize, next: fn(Line) -> (Answer, Line)) {
         for tries in 0..=6 {
-            let line = sends(State::Offering, tries, 0);
+            let line = sends(State::Offering, tries, place);
+            let again = Line {
+                tries: tries + 1,
+                seconds: 0,
+                ..line
+            };
             for byte in 0..=255 {
                 let expected = match byte {
-                    0x04 | 0x06 => {
-                        let next = Line {
-                            tries: 1,
-                            place: 6,
-                            seconds: 0,
-                            // Behind 7 comes 0.
-                            next: 0,
-                            ..line
-                        };
-                        (Answer::sending(Some(0x02)), next)
-                    }
+                    0x04 | 0x06 => next(line),
                     _ if tries == 6 => neutral(Some(0x04)),
-                    _ => {
-                        let again = Line {
-                            tries: tries + 1,
-                            seconds: 0,
-                            ..line
-                        };
-                        (Answer::sending(Some(0x02)), again)
-                    }
+                    _ => (Answer::sending(Some(0x02)), again),
                 };
                 let found = after_event(line, Kind::Byte(byte));
                 assert_eq!(found, expected, "{:02X} to send {}", byte, tries);
@@ -290,25 +278,23 @@ mod tests {
     }
 
     #[test]
+    fn every_byte_to_a_frame_with_one_behind_it() {
+        every_byte_to_a_frame(0, |line| {
+            let next = Line {
+                tries: 1,
+                place: 6,
+                seconds: 0,
+                // Behind 7 comes 0.
+                next: 0,
+                ..line
+            };
+            (Answer::sending(Some(0x02)), next)
+        });
+    }
+
+    #[test]
     fn every_byte_to_the_last_frame() {
-        for tries in 0..=6 {
-            let line = sends(State::Offering, tries, 6);
-            for byte in 0..=255 {
-                let is_over = matches!(byte, 0x04 | 0x06) || tries == 6;
-                let expected = if is_over {
-                    neutral(Some(0x04))
-                } else {
-                    let again = Line {
-                        tries: tries + 1,
-                        seconds: 0,
-                        ..line
-                    };
-                    (Answer::sending(Some(0x02)), again)
-                };
-                let found = after_event(line, Kind::Byte(byte));
-                assert_eq!(found, expected, "{:02X} to send {}", byte, tries);
-            }
-        }
+        every_byte_to_a_frame(6, |_| neutral(Some(0x04)));
     }
 
     #[test]

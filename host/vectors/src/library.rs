@@ -1,7 +1,13 @@
 //! The library with the memory that a host lends it.
 
 use crate::boundary::{self, Answered, Counts, Made, Numbers};
-use crate::layout::{COUNTS, FIELDS, IN_USE, LINES, NUMBERS, SERIAL};
+use crate::layout::{COUNTS, FIELDS, FRAME_LIMIT, IN_USE, LINES, NUMBERS, SERIAL};
+
+/// What a buffer holds before a frame is fetched into it: no byte of a frame.
+pub const FILLER: u8 = 0x7F;
+
+/// The first byte of a frame.
+const STX: u8 = 0x02;
 
 /// An answer's number, and where it has one the place of the record that is wrong.
 pub fn numbered(number: u8, place: u16) -> String {
@@ -106,6 +112,20 @@ impl Gateway {
 
     pub fn outgoing(&self, line: u8, out: &mut [u8]) -> Made {
         boundary::outgoing(line, &self.numbers, self.unfinished.show(), out)
+    }
+
+    /// All that goes to the analyzer where an answer tells its first byte: nothing, that byte, or the frame that
+    /// is fetched for it.
+    pub fn sent(&self, line: u8, first: u8) -> Vec<u8> {
+        match first {
+            0 => Vec::new(),
+            STX => {
+                let mut frame = [FILLER; FRAME_LIMIT];
+                let made = self.outgoing(line, &mut frame);
+                frame[..made.length].to_vec()
+            }
+            byte => vec![byte],
+        }
     }
 
     pub fn take(&mut self, line: u8, buffer: &mut [u8]) -> Answered {

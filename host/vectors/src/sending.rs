@@ -17,18 +17,12 @@
 
 use crate::boundary::Answered;
 use crate::layout::*;
-use crate::library::{numbered, Gateway, Memory};
+use crate::library::{numbered, Gateway, Memory, FILLER};
 use crate::script::{each_step, hex, spelt, unknown, Step};
 use crate::shown::{digest, record, spell};
 
 /// Each memory has so much more than its right size, and can be lent too long.
 const SPARE_BYTES: usize = 1;
-
-/// What a buffer holds before a frame is fetched into it: no byte of a frame.
-const FILLER: u8 = 0x7F;
-
-/// The first byte of a frame.
-const STX: u8 = 0x02;
 
 /// The most that a number of a line can be, and the length of a buffer.
 const MOST: usize = 65_535;
@@ -91,16 +85,11 @@ fn answered(gateway: &mut Gateway, line: u8, call: impl Fn(&mut Gateway) -> Answ
     );
 }
 
-/// All that goes to the analyzer: nothing, a byte, or the frame that is fetched for it.
+/// All that goes to the analyzer, spelt; -- for nothing.
 fn sent(gateway: &Gateway, line: u8, first: u8) -> String {
-    match first {
-        0 => "--".to_string(),
-        STX => {
-            let mut frame = [FILLER; FRAME_LIMIT];
-            let made = gateway.outgoing(line, &mut frame);
-            spell(&frame[..made.length])
-        }
-        byte => spell(&[byte]),
+    match gateway.sent(line, first).as_slice() {
+        [] => "--".to_string(),
+        bytes => spell(bytes),
     }
 }
 

@@ -1,4 +1,4 @@
-//! An item of a trace: an event of a line, or a taking.
+//! An item of a trace: an event of a line, the start of a sending there, or a taking.
 
 use crate::layout::LINES;
 
@@ -11,6 +11,12 @@ pub enum Item {
     Seconds {
         line: u8,
         seconds: u8,
+    },
+    /// Of a sending on a line, with a text of so many bytes (`queueing::message`).
+    Start {
+        line: u8,
+        length: usize,
+        salt: usize,
     },
     /// From a line, with a buffer of so many bytes.
     Taking {
@@ -28,10 +34,12 @@ impl Item {
         matches!(self, Item::Taking { .. })
     }
 
-    /// The line of an event, or the takings.
+    /// The line of an event or a start, or the takings.
     pub fn queue(self) -> usize {
         match self {
-            Item::Byte { line, .. } | Item::Seconds { line, .. } => usize::from(line),
+            Item::Byte { line, .. } | Item::Seconds { line, .. } | Item::Start { line, .. } => {
+                usize::from(line)
+            }
             Item::Taking { .. } => TAKINGS,
         }
     }

@@ -7,6 +7,8 @@
 //!                  ETX or + for ETB, its text with / for CR
 //!     G L N        a frame of the line's next number, with ETB and N times A
 //!     M L N        ENQ and a message of N bytes, cut into frames
+//!     O L N        a start of a sending on line L, a work order of N bytes; where no message has so few, it is
+//!                  refused
 //!     T L N        a taking from line L with a buffer of N bytes
 //!     : STEP       a piece, with a dot for its line;   X L N   N pieces on line L, chosen by dice
 //!     D 0 N        the dice start from N

@@ -25,6 +25,8 @@ pub enum Queued {
     },
     /// ENQ and a message of so many bytes, in frames.
     Message(usize),
+    /// The start of a sending of such a message.
+    Start(usize),
     Taking(usize),
 }
 
@@ -51,6 +53,7 @@ impl Queued {
                 end: ETB,
             },
             'M' => Queued::Message(number(TEXT_LIMIT)?),
+            'O' => Queued::Start(number(TEXT_LIMIT)?),
             'T' => Queued::Taking(number(MOST_LENT)?),
             _ => return unknown(letter),
         })
@@ -115,6 +118,11 @@ impl Queues {
             }),
             Queued::Frame { number, text, end } => self.frame(line, number, text, *end),
             Queued::Message(length) => self.message(line, *length)?,
+            Queued::Start(length) => self.items.push(Item::Start {
+                line,
+                length: *length,
+                salt: self.items.len(),
+            }),
             Queued::Taking(lends) => self.items.push(Item::Taking {
                 line,
                 lends: *lends,
@@ -162,7 +170,7 @@ impl Queues {
 }
 
 /// A message of n bytes, where there is one: H with a long field, then L. Messages of other salts differ.
-fn message(n: usize, salt: usize) -> Vec<u8> {
+pub fn message(n: usize, salt: usize) -> Vec<u8> {
     const HEAD: &[u8] = b"H|\\^&|";
     const LAST: &[u8] = b"\rL|1|N\r";
     let filled = (0..n).map(|i| match HEAD.get(i) {

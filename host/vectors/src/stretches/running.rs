@@ -2,11 +2,12 @@
 //! two runs can be compared.
 
 use super::items::Item;
+use super::queueing::message;
 use crate::boundary::Answered;
 use crate::layout::{FRAMES_SIZE, JOURNAL_SIZE, UNFINISHED_SIZE};
 use crate::library::Gateway;
 
-/// The answer to an item, and the buffer of a taking, whole.
+/// The answer to an item, and the buffer of a taking, whole, or all that goes out with the answer.
 #[derive(PartialEq)]
 pub struct Outcome {
     pub answer: Answered,
@@ -14,9 +15,10 @@ pub struct Outcome {
 }
 
 impl Outcome {
-    /// Whether a message is decided by it: stored or finally refused.
+    /// Whether a message is decided by it: stored or finally refused. A text that is not sent, whose fault has
+    /// no reply, decides nothing.
     pub fn decides(&self) -> bool {
-        matches!(self.answer.number, 4 | 30 | 31 | 50..=53 | 55)
+        self.answer.reply != 0 && matches!(self.answer.number, 4 | 30 | 31 | 50..=53 | 55)
     }
 }
 
@@ -41,14 +43,16 @@ pub fn run(trace: &[Item], order: &[usize]) -> (Vec<Outcome>, Gateway) {
 }
 
 fn step(gateway: &mut Gateway, item: Item) -> Outcome {
-    let mut buffer = Vec::new();
-    let answer = match item {
-        Item::Byte { line, byte } => gateway.byte(line, byte),
-        Item::Seconds { line, seconds } => gateway.seconds(line, seconds),
+    let (line, answer) = match item {
+        Item::Byte { line, byte } => (line, gateway.byte(line, byte)),
+        Item::Seconds { line, seconds } => (line, gateway.seconds(line, seconds)),
+        Item::Start { line, length, salt } => (line, gateway.send(line, &message(length, salt))),
         Item::Taking { line, lends } => {
-            buffer = filled(lends);
-            gateway.take(line, &mut buffer)
+            let mut buffer = filled(lends);
+            let answer = gateway.take(line, &mut buffer);
+            return Outcome { answer, buffer };
         }
     };
+    let buffer = gateway.sent(line, answer.reply);
     Outcome { answer, buffer }
 }

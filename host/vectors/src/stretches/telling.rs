@@ -73,8 +73,9 @@ fn stretches(trace: &[Item], outcomes: &[Outcome]) -> (Vec<Vec<usize>>, Vec<Vec<
     (whole, pending)
 }
 
-/// How often each answer came, by its number, of which 55 is the highest.
-type Counts = [u64; 56];
+/// How often each answer came, by its number, of which 61 is the highest.
+const ANSWERS: usize = 62;
+type Counts = [u64; ANSWERS];
 
 fn show_counts(counts: &Counts) {
     let came = counts.iter().enumerate().filter(|(_, &times)| times > 0);
@@ -97,7 +98,7 @@ pub struct Totals {
 impl Totals {
     pub fn new() -> Totals {
         Totals {
-            counts: [0; 56],
+            counts: [0; ANSWERS],
             items: 0,
             ruled: 0,
             same: 0,
@@ -148,7 +149,7 @@ pub fn tell(trace: &[Item], telling: Telling, totals: &mut Totals) {
 
 /// What the trace has, and how often each answer came.
 fn show_sizes(trace: &[Item], telling: Telling, outcomes: &[Outcome], order: &[usize]) -> Counts {
-    let mut counts = [0; 56];
+    let mut counts = [0; ANSWERS];
     for outcome in outcomes {
         counts[usize::from(outcome.answer.number)] += 1;
     }
