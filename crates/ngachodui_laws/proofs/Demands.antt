@@ -8,7 +8,7 @@ use Rattle.ngachodui_laws.proofs.Sound.{always-sound}
 use Rattle.ngachodui_laws.proofs.Outcomes.{one-outcome, the-outcome, fresh-outcome, refused-leaves, start-leaves, buffer-left, ignored-is-left, others-kept}
 use Rattle.ngachodui_laws.proofs.Deciding.{decided-exactly, wrong-at}
 use Rattle.ngachodui_laws.proofs.Sending.{sent, given-back}
-use Rattle.ngachodui_laws.proofs.Orders.{sent-whole, order-taken, fetched, six-sends, sending-ends}
+use Rattle.ngachodui_laws.proofs.Orders.{sent-whole, order-taken, fetched, six-sends, eot-tells, sending-ends}
 use Rattle.ngachodui_laws.proofs.Among.{sent-among}
 use Rattle.ngachodui_laws.proofs.FromFresh.{can-send}
 use Rattle.ngachodui_laws.proofs.Stretches.{stretches, stretches-met, stretches-all}
@@ -57,6 +57,7 @@ kept = record {
   order-taken = order-taken;
   fetched = fetched;
   six-sends = six-sends;
+  eot-tells = eot-tells;
   sending-ends = sending-ends;
   message-four = message-four;
   standard-stays = standard-stays;

@@ -12,7 +12,7 @@ use lib.Dec.{eqb}
 use lib.ListN.{length}
 use Rattle.memory.specs.Sizes.{lines, frameLimit, unfinishedSize}
 use Rattle.memory.proofs.Tests.{clash}
-use Rattle.characters.specs.Control.{stx}
+use Rattle.characters.specs.Control.{stx, eot}
 use Rattle.pieces.specs.Pieces.{piecesOf}
 use Rattle.header.specs.Header.{entrySize}
 use Rattle.room.specs.Room.{todaysShares}
@@ -23,6 +23,7 @@ use Rattle.answers.specs.declared.Answer.{Answer}
 use Rattle.answers.specs.declared.Answer.the-variants.{Ended}
 use Rattle.answers.proofs.Paper.{every-answer}
 use Rattle.line.specs.declared.Line.{Line}
+use Rattle.looking.specs.declared.Kind.{Kind}
 use Rattle.looking.specs.Views.{textsOf, unfinishedText}
 use Rattle.sending.proofs.Offered.{offered-short}
 use Rattle.orders.specs.Starts.{isNeutral}
@@ -31,17 +32,18 @@ use Rattle.gateway.specs.Events.{lineAt}
 use Rattle.gateway.specs.Out.{sends, outBytes}
 use Rattle.serial.specs.Serial.{event, annotate, final, Every}
 use Rattle.serial.specs.Kept.{isOf}
-use Rattle.promises.specs.Machine.{State, Response, response, Coming, happens, starts, GatewayItem, starting, step, storeOf, May, Sound}
+use Rattle.promises.specs.Machine.{State, Response, response, Coming, happens, starts, GatewayItem, came, starting, step, storeOf, May, Sound}
 use Rattle.promises.specs.Runs.{answered}
 use Rattle.promises.specs.Sending.{bytesOn, transfer, replies, transferReplies, HasRoom}
 use Rattle.promises.specs.Sending as sending
-use Rattle.promises.specs.Orders.{acks, outOn, orderedOn, sendsOn, offersAt, countUntil, longest, ticks, firstOf}
+use Rattle.promises.specs.Orders.{acks, outOn, orderedOn, sendsOn, offersAt, countUntil, isAck, EotTells, longest, ticks, firstOf}
 use Rattle.promises.specs.Orders as there
 use Rattle.promises.proofs.Kept.{keeps}
 use Rattle.promises.proofs.Transfers as transfers
 use Rattle.promises.proofs.Sendings.{sends-whole}
 use Rattle.promises.proofs.Sparing as sparing
 use Rattle.promises.proofs.Ending as ending
+use Rattle.promises.proofs.EotTells as eots
 use Rattle.ledger.proofs.Ledgers.{serial-at}
 use Rattle.numbers.specs.Plain.{lineOf}
 use Rattle.calls.specs.Calls.{HostState}
@@ -49,7 +51,7 @@ use Rattle.ngachodui_laws.specs.HostRuns.{gatewayState, InOrder, HostRes
 use Rattle.ngachodui_laws.specs.Outcomes.{lineIn}
 use Rattle.ngachodui_laws.specs.Sound.{Holds}
 use Rattle.ngachodui_laws.specs.Sending.{CanSend, says, toFrames}
-use Rattle.ngachodui_laws.specs.Orders.{CanStart, sentOn, SentWhole, OrderTaken, enquiries, framesAt, SentSparingly, neutralAlong, FetchedAs}
+use Rattle.ngachodui_laws.specs.Orders.{CanStart, sentOn, SentWhole, OrderTaken, enquiries, framesAt, SentSparingly, acknowledgements, neutralAlong, FetchedAs}
 use Rattle.ngachodui_laws.specs.Inner.Hosting.{inNumbersOf, seenOf}
 use Rattle.ngachodui_laws.proofs.PutBack.{line-at, line-anywhere}
 use Rattle.ngachodui_laws.proofs.HostRuns.{one-call, runs-alike, ends-alike, stays-in-order, end-in-order, host-always-sound}
@@ -242,7 +244,24 @@ module _ (r : Run) (i : ℕ) (h : i < lines) (m : List ℕ) (asks : numberTo (en
       let few = sparing.six-sends (gatewayState (endOf r)) (host-always-sound r) i h m asks-there es may in
       record { asked = omega (arith, few .asked, enquiries-are); offered = λ at. omega (arith, few .offered at, frames-are at) }
 
+  acknowledgements-are : (fs : List GatewayItem) → acknowledgements i began fs ≡ there.acknowledgements i there-began fs
+  acknowledgements-are fs = counts-alike _ _ _ _ (λ e x. refl) (λ e x t q. refl) began began-in-order fs ∙ ap (λ (x : State). there.acknowledgements i x fs) began-is
+
+  neutral-is : neutralAlong i began es ≡ there.neutralAlong i there-began es
+  neutral-is = neutral-alike i began began-in-order es ∙ ap (λ (x : State). there.neutralAlong i x es) began-is
+
+  -- what goes out first with an event behind these calls
+  first-is : (k : Kind) → replyTo (final hostStep began es) (came i k) ≡ firstOf ((step (final step there-began es) (came i k)) .0)
+  first-is k =
+      ap (λ (x : HostResponse). x .answered .reply) (one-call (final hostStep began es) (stays-in-order began began-in-order es) (came i k) .response)
+      ∙ ap (λ (x : State). firstOf ((step x (came i k)) .0)) (ends-alike began began-in-order es ∙ ap (λ (x : State). final step x es) began-is)
+
+  pub eot-tells : neutralAlong i began es ≡ false → (k : Kind) → replyTo (final hostStep began es) (came i k) ≡ eot
+      → EotTells (isAck k) (acknowledgements i began (es ++ (came i k ∷ []))) (1 + length (piecesOf frameLimit m))
+  eot-tells on k e =
+      subst (λ (n : ℕ). EotTells (isAck k) n (1 + length (piecesOf frameLimit m))) (sym (acknowledgements-are (es ++ (came i k ∷ []))))
+      (eots.eot-tells (gatewayState (endOf r)) (host-always-sound r) i h m asks-there es may (sym neutral-is ∙ on) k (sym (first-is k) ∙ e))
+
   pub sending-ends : longest (length (piecesOf frameLimit m)) ≤ ticks i es → neutralAlong i began es ≡ true
   sending-ends long =
-      neutral-alike i began began-in-order es ∙ ap (λ (x : State). there.neutralAlong i x es) began-is
-      ∙ ending.sending-ends (gatewayState (endOf r)) (host-always-sound r) i h m asks-there es may long
+      neutral-is ∙ ending.sending-ends (gatewayState (endOf r)) (host-always-sound r) i h m asks-there es may long

@@ -7,11 +7,11 @@ use Prim.Native.Nat.{ℕ, _+_, _≤_, _<_}
 use mathlib.Core.Path.{_≡_}
 use mathlib.Core.Logic.{_≢_}
 use mathlib.Core.Bool.{Bool, true, false}
-use mathlib.Core.List.{List}
+use mathlib.Core.List.{List, [], _∷_, _++_}
 use mathlib.Core.Option.{some}
 use lib.ListN.{length}
 use Rattle.memory.specs.Sizes.{lines, frameLimit}
-use Rattle.characters.specs.Control.{stx}
+use Rattle.characters.specs.Control.{stx, eot}
 use Rattle.pieces.specs.Pieces.{piecesOf}
 use Rattle.gateway.specs.Out.{sends}
 use Rattle.kinds.specs.Delimiters.{standard, fourAt, delimitersOf, areDelimiters}
@@ -25,7 +25,7 @@ use Rattle.receiving.specs.Steps.{Memory}
 use Rattle.serial.specs.Serial.{event, taking, annotate, final, serialize, count, Every, OrderOf, GoesAlike}
 use Rattle.serial.specs.Kept.{only, isOf, Rearranged}
 use Rattle.promises.specs.Machine.{Coming, GatewayItem, came, starting, May}
-use Rattle.promises.specs.Orders.{orderedOn, longest, ticks}
+use Rattle.promises.specs.Orders.{orderedOn, isAck, EotTells, longest, ticks}
 use Rattle.promises.specs.Clean.{WrongAt}
 use Rattle.promises.specs.Runs.{RightSizes, isDamage, offered, Completes, Overfull, NoSpace, Space, Larger, usedBy, usedWith, mostAlone}
 use Rattle.layout.specs.Layout.{Fresh, serialAt, numberAt}
@@ -38,7 +38,7 @@ use Rattle.ngachodui_laws.specs.Outcomes.{Allows, ignores, lineIn, LineK
 use Rattle.ngachodui_laws.specs.Deciding.{DecidedExactly}
 use Rattle.ngachodui_laws.specs.Queue.{allTaken, NothingLost, OnlyMessages}
 use Rattle.ngachodui_laws.specs.Sending.{CanSend, sentTo, Delivered, GivesBack}
-use Rattle.ngachodui_laws.specs.Orders.{CanStart, sentOn, SentWhole, SentAmong, OrderTaken, SentSparingly, neutralAlong, FetchedAs}
+use Rattle.ngachodui_laws.specs.Orders.{CanStart, sentOn, SentWhole, SentAmong, OrderTaken, SentSparingly, acknowledgements, neutralAlong, FetchedAs}
 use Rattle.ngachodui_laws.specs.Texts.{Cut, Readable, ComesBack, GoesBack}
 use Rattle.ngachodui_laws.specs.Freed.{takenThen, Frees, Alone}
 
@@ -181,6 +181,12 @@ pub record Demands : Type 0 where
   -- In a sending, whatever comes, our ENQ goes out six times at most, and so does each frame.
   pub six-sends : (r : Run) (i : ℕ) → i < lines → (m : List ℕ) → numberTo (endOf r) (starting i m) ≡ sends → (es : List GatewayItem) → Every May es
       → SentSparingly i (after (endOf r) (starting i m)) es
+  --
+  -- Our EOT tells whether it was acknowledged: in a sending that is not over yet, whatever has come, an event with which our EOT goes out is ACK, or EOT, which counts as ACK,
+  -- exactly if our ENQ and every frame have each had theirs.
+  pub eot-tells : (r : Run) (i : ℕ) → i < lines → (m : List ℕ) → numberTo (endOf r) (starting i m) ≡ sends → (es : List GatewayItem) → Every May es
+      → neutralAlong i (after (endOf r) (starting i m)) es ≡ false → (k : Kind) → replyTo (final hostStep (after (endOf r) (starting i m)) es) (came i k) ≡ eot
+      → EotTells (isAck k) (acknowledgements i (after (endOf r) (starting i m)) (es ++ (came i k ∷ []))) (1 + length (piecesOf frameLimit m))
   --
   -- And it ends: once its line was told that a second or more has passed so often, 140 times and 90 times more for each frame, whatever came between, it has been neutral.
   pub sending-ends : (r : Run) (i : ℕ) → i < lines → (m : List ℕ) → numberTo (endOf r) (starting i m) ≡ sends → (es : List GatewayItem) → Every May es

@@ -1,4 +1,4 @@
--- Work orders, as a host sends them: what goes out, how often, and for how long; and that the other side has them.
+-- Work orders, as a host sends them: what goes out, how often, how many acknowledgements come, and for how long; and that the other side has them.
 -- Assumes nothing.
 use Prim.Native.Nat.{ℕ, _+_, _≤_, _<_}
 use mathlib.Core.Path.{_≡_}
@@ -23,7 +23,7 @@ use Rattle.gateway.specs.Out.{sends}
 use Rattle.serial.specs.Serial.{annotate, final, Every}
 use Rattle.promises.specs.Machine.{GatewayItem}
 use Rattle.promises.specs.Sending.{bytesOn, transfer}
-use Rattle.promises.specs.Orders.{outOn, orderedOn, beginsOn, sendsOn, offersAt, countUntil, turnsNeutral}
+use Rattle.promises.specs.Orders.{outOn, orderedOn, beginsOn, sendsOn, offersAt, acknowledges, countUntil, turnsNeutral}
 use Rattle.numbers.specs.Plain.{lineOf}
 use Rattle.calls.specs.Calls.{HostState}
 use Rattle.ngachodui_laws.specs.HostRuns.{HostResponse, hostStep, after}
@@ -77,6 +77,10 @@ framesAt i at s es =
 pub record SentSparingly (i : ℕ) (s : HostState) (es : List GatewayItem) : Type 0 where
   pub asked : 1 + enquiries i s es ≤ mostTries
   pub offered : (at : ℕ) → framesAt i at s es ≤ mostTries
+
+-- how many acknowledgements come on line i, of our ENQ and of frames
+abbrev pub acknowledgements : ℕ → HostState → List GatewayItem → ℕ
+acknowledgements i s es = countUntil hostStep (begins i) (λ e r t. acknowledges i e (r .answered .number) (r .answered .reply)) s es
 
 -- line i is neutral here, or somewhere along the run
 abbrev pub neutralAlong : ℕ → HostState → List GatewayItem → Bool

@@ -22,6 +22,11 @@ use Rattle.pieces.specs.Pieces.{pieceSize, recordsWithCr, chunksWithin, 
 use Rattle.pieces.specs.Inner.Wholes.{bytesOf, every, isSized, isEtb, goesOn}
 use Rattle.pieces.proofs.Steps.{chunks-first, by-pieces}
 
+-- an empty text has none
+pub no-pieces : (limit : ℕ) → piecesOf limit [] ≡ []
+unfolding piecesOf
+no-pieces limit = refl
+
 module _ (limit : ℕ) (text : List ℕ) (h : aroundText < limit) where
   -- the pieces' bytes, joined, are the text
   pub pieces-bytes : bytesOf (piecesOf limit text) ≡ text

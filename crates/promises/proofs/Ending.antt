@@ -31,7 +31,7 @@ use Rattle.promises.proofs.Sound.{sound-intact}
 use Rattle.promises.proofs.Starts.{start-sends, asks-own, asks-text}
 use Rattle.promises.proofs.Kept.{keeps}
 use Rattle.promises.proofs.Onward.{partsOn, onward, out-own}
-use Rattle.promises.proofs.Moves.{placeBehind, Moves, offers-first, pauses, ignores, asks-again, offers-next, offers-again, waits, ends, gives-up, moves}
+use Rattle.promises.proofs.Moves.{placeBehind, Moves, offers-first, pauses, ignores, asks-again, offers-next, offers-again, waits, ends-whole, ends-short, ends-past, gives-up, moves}
 use Rattle.promises.proofs.Items.{isOut, stateOf, text-long, ItemOn, idle, begun, received, sending, item-on}
 
 -- ---- how long a sending can still last, in seconds told one by one
@@ -45,7 +45,7 @@ abbrev askSeconds : ℕ
 askSeconds = replySeconds + pauseSeconds
 
 -- how many frames the text has from this place on
-abbrev framesFrom : List ℕ → ℕ → ℕ
+abbrev pub framesFrom : List ℕ → ℕ → ℕ
 framesFrom text at = length (piecesOf frameLimit (drop at text))
 
 abbrev behind : List ℕ → Sending → ℕ
@@ -73,7 +73,7 @@ passes (Byte b) = false
 passes (Seconds n) = leb 1 n
 
 -- one more frame behind, one less from its place on
-one-less : (p : Parts) → length (unfinishedIn p) ≡ p .line .joined → (at : ℕ) → at < p .line .joined → framesFrom (unfinishedIn p) at ≡ framesFrom (unfinishedIn p) (placeBehind p at) + 1
+pub one-less : (p : Parts) → length (unfinishedIn p) ≡ p .line .joined → (at : ℕ) → at < p .line .joined → framesFrom (unfinishedIn p) at ≡ framesFrom (unfinishedIn p) (placeBehind p at) + 1
 one-less p long at there =
     omega (arith, ap (λ (ps : List Piece). length ps) (piece-first frameLimit at (unfinishedIn p) (omega arith) (omega (arith, long))))
 
@@ -92,19 +92,21 @@ tick-seconds n = by-test (leb 1 n) refl
 
 module _ (p : Parts) (long : length (unfinishedIn p) ≡ p .line .joined) where
   row-nearer : (k : Kind) (t : Sending) (o : Onward) → Going p t → Moves p k t o → Nearer (passes k) p t (partsOn o p)
-  row-nearer k t o g (offers-first some) =
+  row-nearer k t o g (offers-first acked some) =
       nearer (Offering 1 0) (record { out = refl; waiting = omega arith }) (omega (arith, tick-most (passes k), g .waiting, one-less p long 0 some))
   row-nearer k (Asking n) o g (pauses few) =
       nearer (Pausing (n + 1)) (record { out = refl; waiting = omega arith }) (omega (arith, tick-most (passes k), g .waiting))
   row-nearer k t o g ignores = nearer t g (omega arith)
-  row-nearer k (Pausing n) o g asks-again = nearer (Asking n) (record { out = refl; waiting = omega arith }) (omega (arith, tick-most (passes k), g .waiting))
-  row-nearer k (Offering n at) o g (offers-next there more) =
+  row-nearer k (Pausing n) o g (asks-again late) = nearer (Asking n) (record { out = refl; waiting = omega arith }) (omega (arith, tick-most (passes k), g .waiting))
+  row-nearer k (Offering n at) o g (offers-next acked there more) =
       nearer (Offering 1 (placeBehind p at)) (record { out = refl; waiting = omega arith }) (omega (arith, tick-most (passes k), g .waiting, one-less p long (placeBehind p at) more))
-  row-nearer k (Offering n at) o g (offers-again few) =
+  row-nearer k (Offering n at) o g (offers-again refused few) =
       nearer (Offering (n + 1) at) (record { out = refl; waiting = omega arith }) (omega (arith, tick-most (passes k), g .waiting))
   row-nearer (Seconds n) t o g (waits short) =
       nearer t (record { out = g .out; waiting = short }) (omega (arith, tick-seconds n, short))
-  row-nearer k t o g ends = over refl
+  row-nearer k t o g (ends-whole acked there past) = over refl
+  row-nearer k t o g (ends-short refused) = over refl
+  row-nearer k t o g (ends-past past) = over refl
   row-nearer k t o g gives-up = over refl
 
 -- ---- items and runs
@@ -124,7 +126,7 @@ module _ (i : ℕ) (h : i < lines) where
       subst (λ (q : Parts). Nearer (isTick i (came i k)) (partsOf s i) t q) (sym (out-own s v i h t (g .out) k))
       (rw (event-tick k) (row-nearer (partsOf s i) (text-long s v i h) k t (onward s v i h t (g .out) k) g (moves (partsOf s i) k t)))
 
-  neutral-here : (s : State) (es : List GatewayItem) → isNeutral (stateOf s i) ≡ true → neutralAlong i s es ≡ true
+  pub neutral-here : (s : State) (es : List GatewayItem) → isNeutral (stateOf s i) ≡ true → neutralAlong i s es ≡ true
   neutral-here s [] e = e
   neutral-here s (x ∷ es) e = rw e
 

@@ -14,6 +14,7 @@ pub mod Moves
 pub mod Items
 pub mod Sparing
 pub mod Ending
+pub mod EotTells
 pub mod Examples
 pub mod Fronts
 pub mod Feeding

@@ -8,7 +8,7 @@ use Prim.Native.Nat.{ℕ, zero, suc, _+_, _≤_, _<_}
 use native.Mathlib.Decide.{decLt}
 use native.Mathlib.Omega.{arith}
 use borrow.Author.Tests.{eq-eqb, lt-ltb, le-ltb}
-use lib.ListN.{length, drop, drop-of-length-le}
+use lib.ListN.{length, drop}
 use Rattle.memory.specs.Sizes.{lines, frameLimit}
 use Rattle.characters.specs.Control.{enq, eot}
 use Rattle.digits.specs.Number.{firstNumber, nextNumber}
@@ -26,7 +26,7 @@ use Rattle.sending.specs.Onward.{pieceAt, offer, askReply, frameReply}
 use Rattle.sending.specs.Offered.{frameAt}
 use Rattle.sending.specs.declared.Onward.{Onward}
 use Rattle.sending.specs.declared.Onward.the-variants.{Goes, Ends}
-use Rattle.sending.proofs.Pieces.{piece-first, offered-cut}
+use Rattle.sending.proofs.Pieces.{piece-first, pieces-past, offered-cut}
 use Rattle.looking.specs.declared.Kind.{Kind}
 use Rattle.looking.specs.declared.Kind.the-variants.{Byte}
 use Rattle.orders.specs.Starts.{isNeutral, startAnswer}
@@ -152,10 +152,6 @@ module _ (i : ℕ) (h : i < lines) where
         frame-acked (partsOf s i) n at (omega (arith, x .joined))
         ∙ ap₂ (λ (text : List ℕ) (next : ℕ). offer (partsOf s i .line) (at + pieceAt frameLimit at text) (nextNumber next)) (x .text) (x .next)
 
-    no-pieces : piecesOf frameLimit [] ≡ []
-    unfolding piecesOf
-    no-pieces = refl
-
     walk : (k : ℕ) (s : State) (n at number : ℕ) → At s (Offering n at) number → at < length m → length (piecesOf frameLimit (drop at m)) ≡ k
         → Sends s (acks i k) (framesFrom (nextNumber number) (piecesOf frameLimit (drop (behind at) m)) ++ (eot ∷ []))
     walk zero s n at number x there many = absurd (omega (arith, ap (λ (ps : List Piece). length ps) (piece-first frameLimit at m (omega arith) there)))
@@ -171,7 +167,7 @@ module _ (i : ℕ) (h : i < lines) where
               subst (Sends s (acks i (suc k))) (sym whole) (sends-frame s (Offering n at) number x (behind at) then more acked (acks i k) (rest ++ (eot ∷ [])) later)
           | no past ↦
               let none : length m ≤ behind at = omega arith in
-              let nothing : piecesOf frameLimit (drop (behind at) m) ≡ [] = ap (piecesOf frameLimit) (drop-of-length-le m none) ∙ no-pieces in
+              let nothing = pieces-past frameLimit (behind at) m none in
               let last : 0 ≡ k = sym (ap (λ (ps : List Piece). length ps) nothing) ∙ left in
               subst (λ (j : ℕ). Sends s (acks i (suc j)) (framesFrom (nextNumber number) (piecesOf frameLimit (drop (behind at) m)) ++ (eot ∷ []))) last
               (subst (λ (ps : List Piece). Sends s (acks i 1) (framesFrom (nextNumber number) ps ++ (eot ∷ []))) (sym nothing) (sends-end s (Offering n at) number x (behind at) (nextNumber number) none acked))

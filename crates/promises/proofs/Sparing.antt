@@ -33,7 +33,7 @@ use Rattle.promises.proofs.Sound.{sound-intact}
 use Rattle.promises.proofs.Starts.{start-sends, asks-own}
 use Rattle.promises.proofs.Kept.{keeps}
 use Rattle.promises.proofs.Onward.{answerOn, partsOn, stateOn, onward, out-answer, out-state}
-use Rattle.promises.proofs.Moves.{placeBehind, Moves, offers-first, pauses, ignores, asks-again, offers-next, offers-again, waits, ends, gives-up, place-grows, moves}
+use Rattle.promises.proofs.Moves.{placeBehind, Moves, offers-first, pauses, ignores, asks-again, offers-next, offers-again, waits, ends-whole, ends-short, ends-past, gives-up, place-grows, moves}
 use Rattle.promises.proofs.Items.{isOut, stateOf, text-long, ItemOn, idle, begun, received, sending, item-on}
 
 -- ---- how often something can still go out
@@ -92,14 +92,16 @@ sendsFirst b o = eqb (numberOf (answerOn o)) sends && is b (replyByte (firstOut 
 
 module _ (p : Parts) where
   asks-fall : (k : Kind) (t : Sending) (o : Onward) → sendingWithin t ≡ true → Moves p k t o → cond (sendsFirst enq o) 1 0 + asksLeft (stateOn o t) ≤ asksLeft (Out t)
-  asks-fall k t o in-limits (offers-first some) = omega arith
+  asks-fall k t o in-limits (offers-first acked some) = omega arith
   asks-fall k t o in-limits (pauses few) = omega arith
   asks-fall k t o in-limits ignores = omega arith
-  asks-fall k (Pausing n) o in-limits asks-again = omega (arith, ltb-true n mostTries in-limits)
-  asks-fall k t o in-limits (offers-next there more) = omega arith
-  asks-fall k t o in-limits (offers-again few) = omega arith
+  asks-fall k (Pausing n) o in-limits (asks-again late) = omega (arith, ltb-true n mostTries in-limits)
+  asks-fall k t o in-limits (offers-next acked there more) = omega arith
+  asks-fall k t o in-limits (offers-again refused few) = omega arith
   asks-fall k t o in-limits (waits short) = omega arith
-  asks-fall k t o in-limits ends = omega arith
+  asks-fall k t o in-limits (ends-whole acked there past) = omega arith
+  asks-fall k t o in-limits (ends-short refused) = omega arith
+  asks-fall k t o in-limits (ends-past past) = omega arith
   asks-fall k t o in-limits gives-up = omega arith
 
   module _ (at : ℕ) (long : length (unfinishedIn p) ≡ p .line .joined) where
@@ -132,14 +134,16 @@ module _ (p : Parts) where
         by-test false rest = omega arith
 
     frames-fall : (k : Kind) (t : Sending) (o : Onward) → Moves p k t o → cond (sendsFirst stx o && offersAt at (stateOn o t)) 1 0 + framesLeft at (stateOn o t) ≤ framesLeft at (Out t)
-    frames-fall k t o (offers-first some) = first-falls 0
+    frames-fall k t o (offers-first acked some) = first-falls 0
     frames-fall k t o (pauses few) = omega arith
     frames-fall k t o ignores = omega arith
-    frames-fall k t o asks-again = omega arith
-    frames-fall k (Offering n place) o (offers-next there more) = next-falls n place (placeBehind p place) (place-grows p long place there)
-    frames-fall k (Offering n place) o (offers-again few) = again-falls n place few
+    frames-fall k t o (asks-again late) = omega arith
+    frames-fall k (Offering n place) o (offers-next acked there more) = next-falls n place (placeBehind p place) (place-grows p long place there)
+    frames-fall k (Offering n place) o (offers-again refused few) = again-falls n place few
     frames-fall k t o (waits short) = omega arith
-    frames-fall k t o ends = omega arith
+    frames-fall k t o (ends-whole acked there past) = omega arith
+    frames-fall k t o (ends-short refused) = omega arith
+    frames-fall k t o (ends-past past) = omega arith
     frames-fall k t o gives-up = omega arith
 
 -- ---- a sending

@@ -18,6 +18,7 @@ use Rattle.faults.specs.Message.{isMessage}
 use Rattle.frame.specs.Piece.{Piece, piece}
 use Rattle.pieces.specs.Pieces.{pieceSize, piecesOf, endAfter, throughCr, firstPiece}
 use Rattle.framing.specs.Frames.{framesFrom}
+use Rattle.pieces.proofs.Laws.{no-pieces}
 use Rattle.pieces.proofs.Steps.{turn}
 use Rattle.records.proofs.Scans.{tailAt, rest-part}
 use Rattle.line.specs.declared.Line.{Line}
@@ -165,10 +166,6 @@ module _ (limit : ℕ) (usable : Usable limit) (i : ℕ) (j : Store) where
   goes-on : (z : List ℕ) → 0 < length z → lastAnswer (piecesOf limit z) ≡ Accepted
   goes-on z h = ap lastAnswer (cut z h .pieces)
 
-  no-pieces : piecesOf limit [] ≡ []
-  unfolding piecesOf
-  no-pieces = refl
-
   -- what the walk says of at most k bytes
   abbrev Walks : ℕ → Type 0
   Walks k =
@@ -187,7 +184,7 @@ module _ (limit : ℕ) (usable : Usable limit) (i : ℕ) (j : Store) where
         let now = last-delivered x t number l texts frames some room g fits-now p refl in
         let whole = subst (λ (u : List ℕ). Delivered i j (x ++ u) (p ∷ []) (nextNumber number) (feed i (ready i j l texts frames) j f)) (sym (append-nil t)) now in
         let sent = subst (λ (bs : List ℕ). Delivered i j (x ++ (t ++ [])) (p ∷ []) (nextNumber number) (feed i (ready i j l texts frames) j bs)) (sym (append-nil f)) whole in
-        subst (λ (ps : List Piece). Delivered i j (x ++ (t ++ [])) (p ∷ ps) (numberAfter (nextNumber number) ps) (feed i (ready i j l texts frames) j (f ++ framesFrom (nextNumber number) ps))) (sym no-pieces) sent
+        subst (λ (ps : List Piece). Delivered i j (x ++ (t ++ [])) (p ∷ ps) (numberAfter (nextNumber number) ps) (feed i (ready i j l texts frames) j (f ++ framesFrom (nextNumber number) ps))) (sym (no-pieces limit)) sent
     by-rest (b ∷ z) low g fits =
         let p = piece (endAfter (getD t (length t - 1) 0)) t in
         let ps = piecesOf limit (b ∷ z) in

@@ -1,16 +1,16 @@
--- Work orders: what goes out on a line in a sending, how often, and for how long.
+-- Work orders: what goes out on a line in a sending, how often, what our EOT tells, and for how long.
 -- A sending on line i begins with a start there that is answered 9, and what is counted is counted up to the next one.
 -- Assumes nothing.
-use Prim.Native.Nat.{ℕ, _+_, _*_, _-_, _≤_}
+use Prim.Native.Nat.{ℕ, _+_, _*_, _-_, _≤_, _<_}
 use mathlib.Core.Path.{_≡_}
 use mathlib.Core.Logic.{_≢_}
-use mathlib.Core.Bool.{Bool, false, cond, _&&_, _||_}
+use mathlib.Core.Bool.{Bool, true, false, cond, not, _&&_, _||_}
 use mathlib.Core.List.{List, [], _∷_, _++_}
 use lib.Dec.{eqb, leb}
 use lib.ListN.{length, replicate}
 use Rattle.memory.specs.Sizes.{frameLimit}
 use Rattle.memory.specs.Tests.{is}
-use Rattle.characters.specs.Control.{enq, stx}
+use Rattle.characters.specs.Control.{enq, eot, stx}
 use Rattle.pieces.specs.Pieces.{piecesOf}
 use Rattle.answers.specs.Paper.{ack, firstOut}
 use Rattle.answers.specs.InNumbers.{replyByte}
@@ -19,6 +19,7 @@ use Rattle.line.specs.declared.State.{State as LineState}
 use Rattle.line.specs.declared.State.the-variants.{Neutral, Waiting, Inside, Out}
 use Rattle.line.specs.declared.Sending.the-variants.{Asking, Pausing, Offering}
 use Rattle.sending.specs.Onward.{replySeconds, pauseSeconds}
+use Rattle.looking.specs.declared.Kind.{Kind}
 use Rattle.looking.specs.declared.Kind.the-variants.{Byte, Seconds}
 use Rattle.orders.specs.Starts.{isNeutral}
 use Rattle.gateway.specs.Events.{lineAt}
@@ -103,6 +104,30 @@ framesAt i at s es = countUntil step (begins i) (λ e r t. sendsOn stx i e (answ
 pub record SendsSparingly (i : ℕ) (s : State) (es : List GatewayItem) : Type 0 where
   pub asked : 1 + enquiries i s es ≤ mostTries
   pub offered : (at : ℕ) → framesAt i at s es ≤ mostTries
+
+-- ---- what our EOT tells
+
+-- ACK, and EOT, which counts as ACK
+abbrev pub isAck : Kind → Bool
+isAck (Byte b) = is ack b || is eot b
+isAck (Seconds n) = false
+
+abbrev pub hasAck : GatewayItem → Bool
+hasAck (event l (happens k)) = isAck k
+hasAck (event l (starts text)) = false
+hasAck (taking l b) = false
+
+-- on line i it acknowledges our ENQ or a frame: something goes out then, the next frame or our EOT
+abbrev pub acknowledges : ℕ → GatewayItem → ℕ → ℕ → Bool
+acknowledges i e number first = isSent i e number && (not (eqb first 0) && hasAck e)
+
+abbrev pub acknowledgements : ℕ → State → List GatewayItem → ℕ
+acknowledgements i s es = countUntil step (begins i) (λ e r t. acknowledges i e (answered r) (firstOf r)) s es
+
+-- in answer to an ACK it tells that all were acknowledged, and else that not all were [S6, S7, S10]
+pub record EotTells (acked : Bool) (acknowledged all : ℕ) : Type 0 where
+  pub whole : acked ≡ true → acknowledged ≡ all
+  pub short : acked ≡ false → acknowledged < all
 
 -- ---- how long
 

@@ -1,15 +1,16 @@
 -- The piece at a place of the text that is sent, and what lies behind it.
 -- Assumes nothing.
 use mathlib.Core.Path.{_≡_, ap, _∙_}
-use mathlib.Core.List.{List, _∷_, _++_}
+use mathlib.Core.List.{List, [], _∷_, _++_}
 use Prim.Native.Nat.{ℕ, _+_, _-_, _≤_, _<_}
 use native.Mathlib.Omega.{arith}
-use lib.ListN.{length, take, drop, length-drop, length-take}
+use lib.ListN.{length, take, drop, length-drop, length-take, drop-of-length-le}
 use lib.Seq.{drop-drop}
 use Rattle.digits.specs.Number.{nextNumber}
 use Rattle.frame.specs.Shape.{aroundText}
 use Rattle.framing.specs.Frames.{framesFrom}
 use Rattle.pieces.specs.Pieces.{pieceSize, piecesOf}
+use Rattle.pieces.proofs.Laws.{no-pieces}
 use Rattle.pieces.proofs.Steps.{through-most, through-some, first-piece}
 use Rattle.sending.specs.Onward.{pieceAt}
 use Rattle.sending.specs.Offered.{pieceFrom, frameAt}
@@ -29,6 +30,10 @@ module _ (limit at : ℕ) (text : List ℕ) where
       let most = through-most (take (pieceSize limit) (drop at text)) in
       let taken = length-take (pieceSize limit) (drop at text) in
       omega arith
+
+  -- behind the text's end there is none
+  pub pieces-past : length text ≤ at → piecesOf limit (drop at text) ≡ []
+  pieces-past past = ap (piecesOf limit) (drop-of-length-le text past) ∙ no-pieces limit
 
   module _ (h : aroundText < limit) (k : at < length text) where
     -- where the text has a byte there and a frame holds one, it has one at least, and ends within the text
