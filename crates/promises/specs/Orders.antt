@@ -124,7 +124,7 @@ acknowledges i e number first = isSent i e number && (not (eqb first 0) && hasAc
 abbrev pub acknowledgements : ℕ → State → List GatewayItem → ℕ
 acknowledgements i s es = countUntil step (begins i) (λ e r t. acknowledges i e (answered r) (firstOf r)) s es
 
--- in answer to an ACK it tells that all were acknowledged, and else that not all were [S6, S7, S10]
+-- in answer to an ACK it tells that all were acknowledged, and else that not all were [S13]
 pub record EotTells (acked : Bool) (acknowledged all : ℕ) : Type 0 where
   pub whole : acked ≡ true → acknowledged ≡ all
   pub short : acked ≡ false → acknowledged < all
