@@ -47,7 +47,7 @@
  *     and then 06 is sent. After 4 the gateway's copy of the message is the only one.
  *   - Sendings: the host keeps its message until the sending is over. Our EOT (`reply` 04) in answer to
  *     the byte 06 or 04 says that every frame was acknowledged. In answer to seconds or to another byte it
- *     says that not all were, and 61 says that none was sent. Then the host decides whether and when to
+ *     says that not all were, and 61 says that none was sent [S13]. Then the host decides whether and when to
  *     start again. The analyzer may have the message even so, where only a reply was lost on its way: what
  *     is sent once more may be there twice. After 61 it may be the analyzer that wants to send, so the next
  *     start should wait a while. In the 10 seconds behind a refusal the line hears nothing: the analyzer's
