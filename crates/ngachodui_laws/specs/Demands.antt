@@ -166,7 +166,7 @@ pub record Demands : Type 0 where
   -- EOT. The line is then as fresh, and nothing else has changed.
   pub sent-whole : (s : HostState) (i : ℕ) (m : List ℕ) → CanStart s i m → SentWhole s i m
   --
-  -- It does whatever comes on the other lines meanwhile, and whatever is taken: all that is asked is that the calls of its own line are these.
+  -- It goes out so whatever comes on the other lines meanwhile, and whatever is taken: all that is asked is that the calls of its own line are these.
   pub sent-among : (r : Run) (i : ℕ) (m : List ℕ) → CanStart (endOf r) i m → (es : List GatewayItem) → Every May es → only (isOf i) es ≡ orderedOn i m
       → SentAmong (endOf r) i m es
   --
@@ -182,8 +182,8 @@ pub record Demands : Type 0 where
   pub six-sends : (r : Run) (i : ℕ) → i < lines → (m : List ℕ) → numberTo (endOf r) (starting i m) ≡ sends → (es : List GatewayItem) → Every May es
       → SentSparingly i (after (endOf r) (starting i m)) es
   --
-  -- Our EOT tells whether it was acknowledged: in a sending that is not over yet, whatever has come, an event with which our EOT goes out is ACK, or EOT, which counts as ACK,
-  -- exactly if our ENQ and every frame have each had theirs.
+  -- Our EOT tells whether it was acknowledged: in a sending that is not over yet, whatever has come, let our EOT go out with an event. If that is ACK, or EOT, which counts as
+  -- ACK, then as many acknowledgements have come, with it, as our ENQ and the frames together are; and else fewer.
   pub eot-tells : (r : Run) (i : ℕ) → i < lines → (m : List ℕ) → numberTo (endOf r) (starting i m) ≡ sends → (es : List GatewayItem) → Every May es
       → neutralAlong i (after (endOf r) (starting i m)) es ≡ false → (k : Kind) → replyTo (final hostStep (after (endOf r) (starting i m)) es) (came i k) ≡ eot
       → EotTells (isAck k) (acknowledgements i (after (endOf r) (starting i m)) (es ++ (came i k ∷ []))) (1 + length (piecesOf frameLimit m))

@@ -111,14 +111,18 @@ module _ (i : ℕ) (h : i < lines) where
   not-begun (event l (starts text)) r q = q
   not-begun (taking l b) r q = refl
 
+  -- whether an item acknowledges
+  abbrev isAcked : State → GatewayItem → Bool
+  isAcked s e = acknowledges i e (answered ((step s e) .0)) (firstOf ((step s e) .0))
+
   record Step (s : State) (e : GatewayItem) (t : Sending) : Type 0 where
     same-sending : begins i e ((step s e) .0) ≡ false
-    goes : Further (acknowledges i e (answered ((step s e) .0)) (firstOf ((step s e) .0))) (partsOf s i) t (partsOf ((step s e) .1) i)
+    goes : Further (isAcked s e) (partsOf s i) t (partsOf ((step s e) .1) i)
 
   item-further : (s : State) (w : Sound s) (e : GatewayItem) (t : Sending) → UnderWay (partsOf s i) t → ItemOn i s e → Step s e t
   item-further s w e t g (idle quiet still same) = record {
     same-sending = not-begun e ((step s e) .0) quiet;
-    goes = subst (Further (acknowledges i e (answered ((step s e) .0)) (firstOf ((step s e) .0))) (partsOf s i) t) (sym same) (rw quiet (further t g (omega arith)));
+    goes = subst (Further (isAcked s e) (partsOf s i) t) (sym same) (rw quiet (further t g (omega arith)));
   }
   item-further s w e t g (begun now neutral) = let z : false ≡ true = sym (ap isNeutral (g .out)) ∙ neutral in clash cc
   item-further s w e t g (received k quiet before after) = never-both (isOut (stateOf s i)) (ap isOut (g .out)) before
@@ -144,28 +148,23 @@ module _ (i : ℕ) (h : i < lines) where
       (rw (eq-eqb i i refl) (row-tells (partsOf s i) (text-long s v i h) k t o g (moves (partsOf s i) k t) (sym (ap firstOf r) ∙ e)))
 
   module _ (k : Kind) where
+    -- what is told by the event k, behind the run es
+    abbrev Tells : State → Sending → List GatewayItem → Type 0
+    Tells s t es = EotTells (isAck k) (acknowledgements i s (es ++ (came i k ∷ []))) (toCome (unfinishedIn (partsOf s i)) t)
+
     along : (s : State) (es : List GatewayItem) → Sound s → Every May es → (t : Sending) → UnderWay (partsOf s i) t → neutralAlong i s es ≡ false
-        → firstOf ((step (final step s es) (came i k)) .0) ≡ eot
-        → EotTells (isAck k) (acknowledgements i s (es ++ (came i k ∷ []))) (toCome (unfinishedIn (partsOf s i)) t)
+        → firstOf ((step (final step s es) (came i k)) .0) ≡ eot → Tells s t es
     along s [] w may t g on e = last-tells s w k t g e
     along s (x ∷ es) w may t g on e =
-        by-step (item-further s w x t g (item-on s w i h x (may .0))) (rw (ap isNeutral (g .out)) at on)
-        (λ u v on′. along ((step s x) .1) es (keeps s x w (may .0)) (may .1) u v on′ e)
+        let later : neutralAlong i ((step s x) .1) es ≡ false = rw (ap isNeutral (g .out)) at on in
+        let y = item-further s w x t g (item-on s w i h x (may .0)) in
+        rw (y .same-sending) (by-step (y .goes) later (λ u v. along ((step s x) .1) es (keeps s x w (may .0)) (may .1) u v later e))
       where
-        by-further : Further (acknowledges i x (answered ((step s x) .0)) (firstOf ((step s x) .0))) (partsOf s i) t (partsOf ((step s x) .1) i)
-            → neutralAlong i ((step s x) .1) es ≡ false
-            → ((u : Sending) → UnderWay (partsOf ((step s x) .1) i) u → neutralAlong i ((step s x) .1) es ≡ false
-            → EotTells (isAck k) (acknowledgements i ((step s x) .1) (es ++ (came i k ∷ []))) (toCome (unfinishedIn (partsOf ((step s x) .1) i)) u))
-            → EotTells (isAck k) (cond (acknowledges i x (answered ((step s x) .0)) (firstOf ((step s x) .0))) 1 0 + acknowledgements i ((step s x) .1) (es ++ (came i k ∷ [])))
-            (toCome (unfinishedIn (partsOf s i)) t)
-        by-further (over n) on later = never-both (neutralAlong i ((step s x) .1) es) (neutral-here i h ((step s x) .1) es n) on
-        by-further (further u g sum) on later = tells-more (isAck k) _ _ _ _ sum (later u g on)
-
-        by-step : Step s x t → neutralAlong i ((step s x) .1) es ≡ false
-            → ((u : Sending) → UnderWay (partsOf ((step s x) .1) i) u → neutralAlong i ((step s x) .1) es ≡ false
-            → EotTells (isAck k) (acknowledgements i ((step s x) .1) (es ++ (came i k ∷ []))) (toCome (unfinishedIn (partsOf ((step s x) .1) i)) u))
-            → EotTells (isAck k) (acknowledgements i s (x ∷ (es ++ (came i k ∷ [])))) (toCome (unfinishedIn (partsOf s i)) t)
-        by-step y on later = rw (y .same-sending) (by-further (y .goes) on later)
+        by-step : Further (isAcked s x) (partsOf s i) t (partsOf ((step s x) .1) i) → neutralAlong i ((step s x) .1) es ≡ false
+            → ((u : Sending) → UnderWay (partsOf ((step s x) .1) i) u → Tells ((step s x) .1) u es)
+            → EotTells (isAck k) (cond (isAcked s x) 1 0 + acknowledgements i ((step s x) .1) (es ++ (came i k ∷ []))) (toCome (unfinishedIn (partsOf s i)) t)
+        by-step (over n) later rest = never-both (neutralAlong i ((step s x) .1) es) (neutral-here i h ((step s x) .1) es n) later
+        by-step (further u v sum) later rest = tells-more (isAck k) _ _ _ _ sum (rest u v)
 
 -- a sending that is not over yet, and an event with which our EOT goes out
 pub eot-tells : (s : State) → Sound s → (i : ℕ) → i < lines → (m : List ℕ) → answered ((step s (starting i m)) .0) ≡ 9 → (es : List GatewayItem) → Every May es

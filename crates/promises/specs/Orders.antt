@@ -117,14 +117,14 @@ hasAck (event l (happens k)) = isAck k
 hasAck (event l (starts text)) = false
 hasAck (taking l b) = false
 
--- on line i it acknowledges our ENQ or a frame: something goes out then, the next frame or our EOT
+-- on line i it acknowledges our ENQ or a frame: the next frame goes out then, or our EOT, so that nothing is acknowledged twice
 abbrev pub acknowledges : ℕ → GatewayItem → ℕ → ℕ → Bool
 acknowledges i e number first = isSent i e number && (not (eqb first 0) && hasAck e)
 
 abbrev pub acknowledgements : ℕ → State → List GatewayItem → ℕ
 acknowledgements i s es = countUntil step (begins i) (λ e r t. acknowledges i e (answered r) (firstOf r)) s es
 
--- in answer to an ACK it tells that all were acknowledged, and else that not all were [S13]
+-- in answer to an ACK it tells that all acknowledgements have come, and else that fewer have [S13]
 pub record EotTells (acked : Bool) (acknowledged all : ℕ) : Type 0 where
   pub whole : acked ≡ true → acknowledged ≡ all
   pub short : acked ≡ false → acknowledged < all
