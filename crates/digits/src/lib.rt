@@ -3,12 +3,13 @@ ghost use mathlib.Core.Path.{_≡_};
 ghost use Rattle.digits.specs.Check.{checkOf, digitsOf};
 ghost use Rattle.digits.specs.Number.{nextNumber};
 
-mod hex; // hex.rt: the digit of a number below 16
-
 // The number of the first frame, and the largest.
 pub const FIRST_NUMBER: u8 = 1;
 
 pub const MOST_NUMBER: u8 = 7;
+
+// The digits of the numbers below 16, each at its number.
+const HEX_DIGITS: [u8; 16] = *b"0123456789ABCDEF";
 
 // The two digits of a check.
 pub struct Digits {
@@ -29,13 +30,15 @@ pub fn check_sum(counted: &[u8]) -> u8
     sum
 }
 
-// The two digits of a check, by division.
+// The two digits of a check. The list is taken once, as a constant is laid out anew wherever it is named.
 pub fn check_digits(check: u8) -> Digits
     ensures { λ r. ⌜ r ≡ digitsOf check ⌝ }
 {
+    let digits = HEX_DIGITS;
+    let n = check as usize;
     Digits {
-        high: hex::hex_digit(check / 16),
-        low: hex::hex_digit(check % 16),
+        high: digits[n / 16],
+        low: digits[n % 16],
     }
 }
 
