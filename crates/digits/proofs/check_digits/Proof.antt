@@ -15,13 +15,13 @@ abbrev list : List ℕ
 list = values hexDigit 0 16
 
 -- those at the two halves of a check are its digits
-taken : (check : ℕ) → check < 256 → record { high = getD list (check / 16) 0; low = getD list (check % 16) 0 } ≡ digitsOf check
+at-halves : (check : ℕ) → check < 256 → record { high = getD list (check / 16) 0; low = getD list (check % 16) 0 } ≡ digitsOf check
 unfolding digitsOf
-taken check h = rw (entry hexDigit 0 16 (check / 16) (omega (arith, h)), entry hexDigit 0 16 (check % 16) (omega arith))
+at-halves check h = rw (entry hexDigit 0 16 (check / 16) (omega (arith, h)), entry hexDigit 0 16 (check % 16) (omega arith))
 
 returns : tie.Need-returns
 unfolding hexDigit
-returns c = taken (c .args .check) (omega arith)
+returns c = at-halves (c .args .check) (omega arith)
 
 pub check-digits-spec : {M : Type 1} → statement M
 check-digits-spec = tie.close (tie.spec (λ c. omega arith) (λ c. omega arith) returns)
