@@ -71,7 +71,9 @@ impl Line {
     pub fn fresh() -> Line
         ensures { λ r. ⌜ r ≡ freshLine ⌝ }
     {
-        let settings = Settings { dialogue: Dialogue::Frames };
+        let settings = Settings {
+            dialogue: Dialogue::Frames,
+        };
         Line {
             state: State::Neutral, // no transfer has begun
             collected: 0,

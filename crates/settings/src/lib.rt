@@ -25,7 +25,9 @@ pub struct Settings {
 pub fn standard() -> Settings
     ensures { λ r. ⌜ r ≡ standardSettings ⌝ }
 {
-    Settings { dialogue: Dialogue::Frames }
+    Settings {
+        dialogue: Dialogue::Frames,
+    }
 }
 
 // Whether a line speaks frames.
