@@ -1,3 +1,4 @@
 pub mod Places
 pub mod Layouts
 pub mod Judged
+pub mod Inner
