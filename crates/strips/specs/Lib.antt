@@ -1,4 +1,3 @@
 pub mod Readers
 pub mod Sights
 pub mod Hearings
-pub mod Uploads

@@ -2,6 +2,7 @@
 ghost use mathlib.Core.Path.{_≡_};
 ghost use Rattle.strips.specs.Readers.{freshReader};
 ghost use Rattle.strips.specs.Sights.{isInside, sightOf};
+ghost use Rattle.block.specs.declared.Judged.the-variants.{Results};
 ghost use Rattle.strips.specs.Hearings.{repliedWith, markedWith, replyAnswer, filedReader, hears, hearingOf};
 use answers::Answer;
 use block::Judged;
@@ -53,7 +54,7 @@ impl Reader {
 }
 
 // A byte on a reader's line: between blocks all but STX is ignored.
-pub fn sight(patient: Patient, line: Line, byte: u8) -> Sight
+pub fn see(patient: Patient, line: Line, byte: u8) -> Sight
     ensures { λ r. ⌜ r ≡ sightOf patient line byte ⌝ }
 {
     let state = line.state;
