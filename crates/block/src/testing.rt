@@ -14,10 +14,12 @@ pub fn is_tested(block: &[u8]) -> bool
 {
     let counted = block.len() - 3;
     let test = test_byte(&block[0..counted]);
-    if block[counted] != high_half(test) {
+    let high = high_half(test);
+    let low = low_half(test);
+    if block[counted] != high {
         return false;
     }
-    block[counted + 1] == low_half(test)
+    block[counted + 1] == low
 }
 
 // The exclusive or of the bytes that it counts.
