@@ -8,6 +8,7 @@ pub mod Findings
 pub mod CameFrames
 pub mod CameBlocks
 pub mod Came
+pub mod Shapes
 pub mod Kept
 pub mod Runs
 pub mod Exactly
