@@ -10,6 +10,7 @@ pub mod CameBlocks
 pub mod Came
 pub mod Shapes
 pub mod Kept
+pub mod Dialogues
 pub mod Runs
 pub mod Exactly
 pub mod Queue
