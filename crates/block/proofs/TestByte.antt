@@ -1,7 +1,7 @@
--- Laws of the test byte: a scan of the bytes that it counts, and both of its halves told apart from the bytes of a block.
+-- Laws of the test byte: a scan of the bytes that it counts, and a block tested by its two halves.
 -- Assumes nothing.
-use mathlib.Core.Path.{_≡_, refl, sym, ap, _∙_}
-use mathlib.Core.Bool.{Bool, false}
+use mathlib.Core.Path.{_≡_}
+use mathlib.Core.Bool.{false}
 use mathlib.Core.List.{List}
 use Prim.Native.Nat.{ℕ, _+_, _-_, _≤_, _<_}
 use native.Mathlib.Numerals.{add-one}
@@ -11,7 +11,7 @@ use lib.Bits.{bitXor}
 use lib.Dec.{eqb}
 use lib.ListN.{length, getD, take, drop, drop-of-length-le}
 use lib.Seq.{drop-cons}
-use Rattle.block.specs.Judged.{testFrom, testByte, highTest, lowTest, isTested}
+use Rattle.block.specs.Judged.{controlLength, testFrom, testByte, highTest, lowTest, isTested}
 
 -- a scan that stands at i with t: it takes a byte more, or has come to the end
 module _ (s : List ℕ) (i t : ℕ) where
@@ -32,7 +32,7 @@ module _ (bs : List ℕ) where
   unfolding isTested
   high-wrong {high = high} p q n = rw (← p, ← q, ne-eqb (getD bs at 0) high n)
 
-  pub low-tells : {t high low : ℕ} → 3 ≤ length bs → t ≡ testByte (take at bs) → high ≡ highTest t → getD bs at 0 ≡ high → low ≡ lowTest t
+  pub low-tells : {t high low : ℕ} → controlLength ≤ length bs → t ≡ testByte (take at bs) → high ≡ highTest t → getD bs at 0 ≡ high → low ≡ lowTest t
       → eqb (getD bs (at + 1) 0) low ≡ isTested bs
   unfolding isTested
   low-tells {high = high} h p q e r =

@@ -2,22 +2,24 @@
 ghost use mathlib.Core.Path.{_≡_};
 ghost use Prim.Native.Nat.{_≤_};
 ghost use lib.ListN.{length};
-ghost use Rattle.block.specs.Judged.{testByte, highTest, lowTest, isTested};
+ghost use Rattle.block.specs.Judged.{controlLength, testByte, highTest, lowTest, isTested};
 
 // What each half of a test byte is joined with.
 const HALF: u8 = 0x30;
 
-// Whether the two bytes before the last are the test bytes of all before them.
+// Whether the two bytes before the last are the test bytes of all before them, from STX on.
 pub fn is_tested(block: &[u8]) -> bool
-    requires { ⌜ 3 ≤ length (now block) ⌝ }
+    requires { ⌜ controlLength ≤ length (now block) ⌝ }
     ensures { λ r. ⌜ r ≡ isTested (now (block .entry)) ⌝ }
 {
     let counted = block.len() - 3;
-    let test = test_byte(&block[..counted]);
-    if block[counted] != high_half(test) {
+    let test = test_byte(&block[0..counted]);
+    let high = high_half(test);
+    let low = low_half(test);
+    if block[counted] != high {
         return false;
     }
-    block[counted + 1] == low_half(test)
+    block[counted + 1] == low
 }
 
 // The exclusive or of the bytes that it counts.

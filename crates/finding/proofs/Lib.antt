@@ -1,1 +1,4 @@
+pub mod Trims
+pub mod Puts
+pub mod Fills
 pub mod Examples
