@@ -103,7 +103,12 @@ fn put_datum(datum: &[u8], out: &mut [u8], at: usize) -> usize
     ensures { λ r. ⌜ (r ≡ at + length (saying (now (datum .entry)))) × (now (out .exit) ≡ splice (now (out .entry)) at (saying (now (datum .entry)))) ⌝ }
 {
     let plain = crate::trimming::trimmed(datum);
-    let standard = Delimiters { field: b'|', repeat: b'\\', component: b'^', escape: b'&' };
+    let standard = Delimiters {
+        field: b'|',
+        repeat: b'\\',
+        component: b'^',
+        escape: b'&',
+    };
     let put = escaping::escape(standard, plain, &mut out[at..]);
     let n = length_put(put);
     at + n

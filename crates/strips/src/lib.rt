@@ -4,6 +4,7 @@ ghost use mathlib.Core.Bool.{_||_};
 ghost use Rattle.memory.specs.Tests.{is};
 ghost use Rattle.characters.specs.Control.{stx};
 ghost use Rattle.strips.specs.Readers.{freshReader};
+ghost use Rattle.strips.specs.Replies.{repliedOf, replyNumber};
 ghost use Rattle.strips.specs.Sights.{isInside, sightOf};
 ghost use Rattle.block.specs.declared.Judged.the-variants.{Results};
 ghost use Rattle.strips.specs.Hearings.{repliedWith, markedWith, replyAnswer, filedReader, hears, hearingOf};
@@ -53,6 +54,29 @@ impl Reader {
             since: false,
             kept: false,
         }
+    }
+}
+
+// Our last reply by its number, and its number.
+pub fn replied_of(n: u16) -> Replied
+    ensures { λ r. ⌜ r ≡ repliedOf n ⌝ }
+{
+    if n == 0 {
+        return Replied::NoneYet;
+    }
+    if n == 1 {
+        return Replied::More;
+    }
+    Replied::Again
+}
+
+pub fn reply_number(reply: Replied) -> u16
+    ensures { λ r. ⌜ r ≡ replyNumber reply ⌝ }
+{
+    match reply {
+        Replied::NoneYet => 0,
+        Replied::More => 1,
+        Replied::Again => 2,
     }
 }
 

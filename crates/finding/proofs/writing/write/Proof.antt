@@ -80,8 +80,8 @@ here c = getD (spotsOf (start (turn (c .before .before)) .args .patient)) (turn 
 
 said : (c : tie.After-struct-known Inv-loop μ-loop)
     → saying
-      (take (c .before .spot-of .result .at + c .before .spot-of .result .width - c .before .spot-of .result .at)
-      (drop (c .before .spot-of .result .at) (now (start (turn (c .before .before)) .args .block))))
+    (take (c .before .spot-of .result .at + c .before .spot-of .result .width - c .before .spot-of .result .at)
+    (drop (c .before .spot-of .result .at) (now (start (turn (c .before .before)) .args .block))))
     ≡ saying (part (now (start (turn (c .before .before)) .args .block)) (here c .at) (here c .width))
 said c =
     let bs = now (start (turn (c .before .before)) .args .block) in
