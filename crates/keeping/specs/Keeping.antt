@@ -1,34 +1,18 @@
 -- What is kept of a strip reader in plain numbers, as a host keeps it, and what each function does to these. On a line that is not there nothing changes.
 -- Assumes nothing.
-use Prim.Native.Nat.{ℕ, _+_}
+use Prim.Native.Nat.{ℕ, zero, suc, _+_}
 use mathlib.Core.Bool.{Bool, cond, _&&_}
-use mathlib.Core.List.{List}
+use mathlib.Core.List.{List, [], _∷_}
 use lib.Dec.{eqb, leb, ltb}
-use lib.ListN.{length, set}
+use lib.ListN.{length, getD, set}
+use lib.Seq.{sets}
 use Rattle.memory.specs.Sizes.{lines}
-use Rattle.memory.specs.Parts.{part, splice}
 use Rattle.memory.specs.Tests.{unless}
 use Rattle.settings.specs.Settings.{blockLimit}
 use Rattle.layout.specs.Layout.{start, numberAt, replyAt, sinceAt, keptAt, blockStart}
 use Rattle.strips.specs.Readers.{Memo, freshReader, beginsWith}
+use Rattle.strips.specs.Replies.{repliedOf, replyNumber}
 use Rattle.strips.specs.declared.Reader.{Reader}
-use Rattle.strips.specs.declared.Replied.{Replied}
-use Rattle.strips.specs.declared.Replied.the-variants.{NoneYet, More, Again}
-
--- our last reply: 1 that the reader may send more, 2 that it is to send again, else none [H2]
-abbrev pub more : ℕ
-more = 1
-
-abbrev pub again : ℕ
-again = 2
-
-abbrev pub repliedOf : ℕ → Replied
-repliedOf n = cond (eqb n more) More (cond (eqb n again) Again NoneYet)
-
-abbrev pub replyNumber : Replied → ℕ
-replyNumber NoneYet = 0
-replyNumber More = more
-replyNumber Again = again
 
 -- yes or no
 abbrev pub yes : Bool → ℕ
@@ -38,9 +22,14 @@ yes b = cond b 1 0
 abbrev pub readerOf : List ℕ → ℕ → Reader
 readerOf ns i = record { reply = repliedOf (numberAt ns i replyAt); since = eqb (numberAt ns i sinceAt) 1; kept = eqb (numberAt ns i keptAt) 1 }
 
+-- n numbers from `at` on
+abbrev pub numbersFrom : List ℕ → ℕ → ℕ → List ℕ
+numbersFrom ns at zero = []
+numbersFrom ns at (suc n) = getD ns at 0 ∷ numbersFrom ns (suc at) n
+
 -- its last stored block, a byte to a number; a shorter one leaves the numbers behind it [H1]
 abbrev pub keptBlock : List ℕ → ℕ → List ℕ
-keptBlock ns i = part ns (blockStart i) blockLimit
+keptBlock ns i = numbersFrom ns (blockStart i) blockLimit
 
 -- both
 abbrev pub memoOf : List ℕ → ℕ → Memo
@@ -55,7 +44,7 @@ withReader ns i r =
     (start i + keptAt) (yes (r .kept))
 
 abbrev pub withBlock : List ℕ → ℕ → List ℕ → List ℕ
-withBlock ns i bs = splice ns (blockStart i) bs
+withBlock ns i bs = sets ns (blockStart i) bs
 
 abbrev pub withMemo : List ℕ → ℕ → Memo → List ℕ
 withMemo ns i w = withBlock (withReader ns i (w .reader)) i (w .block)

@@ -1,6 +1,6 @@
 // What is kept of a strip reader in plain numbers, as a host keeps it (`layout` says where each stands).
 ghost use mathlib.Core.Path.{_≡_};
-ghost use Rattle.keeping.specs.Keeping.{yes, repliedOf, replyNumber, readerAt, readerAfter, isKept, blockAfter};
+ghost use Rattle.keeping.specs.Keeping.{yes, readerAt, readerAfter, isKept, blockAfter};
 use layout::BLOCKS;
 use layout::FIELDS;
 use layout::KEPT;
@@ -9,12 +9,6 @@ use layout::REPLY;
 use layout::SINCE;
 use settings::BLOCK_LIMIT;
 use strips::Reader;
-use strips::Replied;
-
-// Our last reply: that the reader may send more, or that it is to send again.
-const MORE: u16 = 1;
-
-const AGAIN: u16 = 2;
 
 // What is kept of a line's reader.
 pub fn reader_of(numbers: &[u16; NUMBERS], i: usize) -> Reader
@@ -25,22 +19,10 @@ pub fn reader_of(numbers: &[u16; NUMBERS], i: usize) -> Reader
     }
     let at = i * FIELDS;
     Reader {
-        reply: replied_of(numbers[at + REPLY]),
+        reply: strips::replied_of(numbers[at + REPLY]),
         since: numbers[at + SINCE] == 1,
         kept: numbers[at + KEPT] == 1,
     }
-}
-
-fn replied_of(n: u16) -> Replied
-    ensures { λ r. ⌜ r ≡ repliedOf n ⌝ }
-{
-    if n == MORE {
-        return Replied::More;
-    }
-    if n == AGAIN {
-        return Replied::Again;
-    }
-    Replied::NoneYet
 }
 
 // Puts what is kept of a line's reader.
@@ -52,19 +34,9 @@ pub fn put_reader(numbers: &mut [u16; NUMBERS], i: usize, reader: Reader)
     }
     let at = i * FIELDS;
     let reply = reader.reply;
-    numbers[at + REPLY] = reply_number(reply);
+    numbers[at + REPLY] = strips::reply_number(reply);
     numbers[at + SINCE] = yes_number(reader.since);
     numbers[at + KEPT] = yes_number(reader.kept);
-}
-
-fn reply_number(reply: Replied) -> u16
-    ensures { λ r. ⌜ r ≡ replyNumber reply ⌝ }
-{
-    match reply {
-        Replied::NoneYet => 0,
-        Replied::More => MORE,
-        Replied::Again => AGAIN,
-    }
 }
 
 fn yes_number(b: bool) -> u16

@@ -8,8 +8,7 @@ use denote.Ref.{now}
 use lib.ListN.{length}
 use Rattle.memory.specs.Sizes.{lines}
 use Rattle.settings.specs.Settings.{blockLimit}
-use Rattle.layout.specs.Layout.{numbersSize}
-use Rattle.keeping.proofs.Walks.{Compared, kept-nowhere, kept-short, kept-end, kept-differs, kept-on}
+use Rattle.keeping.proofs.Walks.{Compared, none-compared, kept-nowhere, kept-short, kept-end, kept-differs, kept-on}
 use Rattle.keeping.proofs.is_kept.Statement.{statement}
 use Rattle.keeping.proofs.is_kept.Tie as tie
 
@@ -34,34 +33,32 @@ returns c =
 returns-2 : tie.Need-returns-2 Inv-loop μ-loop
 returns-2 c =
     let a = c .before .before .before .args in
-    let long : length (now (a .numbers)) ≡ numbersSize = search needs in
-    kept-short (now (a .numbers)) (a .i) (now (a .block)) (search needs) long (search needs)
+    kept-short (now (a .numbers)) (a .i) (now (a .block)) (search needs) (search needs)
 
 loop-holds : tie.Need-loop-holds Inv-loop μ-loop
-loop-holds c = record { within = search needs; same = refl }
+loop-holds c =
+    let a = start c .args in
+    none-compared (now (a .numbers)) (a .i) (now (a .block))
 
 returns-3 : tie.Need-returns-3 Inv-loop μ-loop
 returns-3 c =
     let l = turn (c .before) in
     let a = start (l .before) .args in
-    let long : length (now (a .numbers)) ≡ numbersSize = search needs in
-    kept-differs (now (a .numbers)) (a .i) (now (a .block)) (omega arith) long (omega arith) (l .loop .k) (omega arith) (l .loop .inv)
+    kept-differs (now (a .numbers)) (a .i) (now (a .block)) (omega arith) (omega arith) (l .loop .k) (omega arith) (l .loop .inv)
     (λ e. c .if3 .taken (c .before .before .wide .ensures ∙ e))
 
 loop-again : tie.Need-loop-again Inv-loop μ-loop
 loop-again c =
     let l = turn (c .before) in
     let a = start (l .before) .args in
-    let long : length (now (a .numbers)) ≡ numbersSize = search needs in
-    kept-on (now (a .numbers)) (a .i) (now (a .block)) (omega arith) long (omega arith) (l .loop .k) (omega arith) (l .loop .inv)
+    kept-on (now (a .numbers)) (a .i) (now (a .block)) (omega arith) (omega arith) (l .loop .k) (omega arith) (l .loop .inv)
     (sym (c .before .before .wide .ensures) ∙ c .if3 .left)
 
 returns-4 : tie.Need-returns-4 Inv-loop μ-loop
 returns-4 c =
     let l = c .before in
     let a = start (l .before) .args in
-    let long : length (now (a .numbers)) ≡ numbersSize = search needs in
-    kept-end (now (a .numbers)) (a .i) (now (a .block)) (omega arith) long (omega arith) (l .loop .k) (omega arith) (l .loop .inv)
+    kept-end (now (a .numbers)) (a .i) (now (a .block)) (omega arith) (omega arith) (l .loop .k) (omega arith) (l .loop .inv)
 
 pub is-kept-spec : {M : Type 1} → statement M
 is-kept-spec =

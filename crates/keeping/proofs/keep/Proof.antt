@@ -1,14 +1,13 @@
 -- `keeping::keep` meets its contract.
 -- Assumes nothing.
-use mathlib.Core.Path.{_≡_, _∙_}
+use mathlib.Core.Path.{_≡_, refl, _∙_}
 use Prim.Native.Nat.{_-_, _≤_, _<_}
 use native.Mathlib.Omega.{arith}
 use borrow.Author.Needs.{needs}
 use denote.Ref.{now}
 use lib.ListN.{length}
 use Rattle.memory.specs.Sizes.{lines}
-use Rattle.layout.specs.Layout.{numbersSize}
-use Rattle.keeping.proofs.Walks.{Kept, put-nowhere, put-none, nothing-put, put-on, put-end}
+use Rattle.keeping.proofs.Walks.{Kept, nothing-put, put-nowhere, put-none, put-on, put-end}
 use Rattle.keeping.proofs.keep.Statement.{statement}
 use Rattle.keeping.proofs.keep.Tie as tie
 
@@ -44,15 +43,13 @@ loop-again : tie.Need-loop-again Inv-loop μ-loop
 loop-again c =
     let l = turn c in
     let a = start (l .before) .args in
-    let long : length (now (a .numbers)) ≡ numbersSize = search needs in
-    rw (c .wide .ensures) (put-on (now (a .numbers)) (a .i) (now (a .block)) (omega arith) long (omega arith) (l .loop .k) (omega arith) (l .loop .inv))
+    rw (c .wide .ensures) (put-on (now (a .numbers)) (a .i) (now (a .block)) (omega arith) (omega arith) (l .loop .k) (omega arith) (l .loop .inv))
 
 returns-3 : tie.Need-returns-3 Inv-loop μ-loop
 returns-3 c =
     let l = c .before in
     let a = start (l .before) .args in
-    let long : length (now (a .numbers)) ≡ numbersSize = search needs in
-    put-end (now (a .numbers)) (a .i) (now (a .block)) (omega arith) long (omega arith) (l .loop .k) (omega arith) (l .loop .inv)
+    put-end (now (a .numbers)) (a .i) (now (a .block)) (omega arith) (omega arith) (l .loop .k) (omega arith) (l .loop .inv)
 
 pub keep-spec : {M : Type 1} → statement M
 keep-spec =
