@@ -4,7 +4,6 @@ use Prim.Native.Nat.{ℕ, _+_, _-_}
 use mathlib.Core.Path.{_≡_}
 use mathlib.Core.List.{List, [], _∷_}
 use mathlib.Core.Option.{Option, some}
-use mathlib.Core.Unit.{Unit}
 use lib.ListN.{length, getD}
 use Rattle.memory.specs.Parts.{part}
 use Rattle.kinds.specs.Delimiters.{delimitersOf}
@@ -42,7 +41,7 @@ pub record SaysResult (bs m : List ℕ) (k at : ℕ) (r : Result) : Type 0 where
   pub rest : readAt m (k + 3) 4 ≡ some (trimmed (part bs (at + length (r .name)) (r .value + r .blank)))
 
 abbrev pub SaysResults : List ℕ → List ℕ → ℕ → ℕ → List Result → Type 0
-SaysResults bs m k at [] = Unit
+SaysResults bs m k at [] = Unit {0}
 SaysResults bs m k at (r ∷ rs) = SaysResult bs m k at r × SaysResults bs m (k + 1) (at + length (r .name) + r .value + r .blank) rs
 
 -- P has the patient number in field 3, O the sequence number in field 3, both trimmed, and each result its R [B6]
