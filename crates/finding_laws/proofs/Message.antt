@@ -47,7 +47,7 @@ pub said-ordinary : (bs : List ℕ) (at n : ℕ) → all isDatum (part bs at n) 
 said-ordinary bs at n h = escaped-ordinary (trimmed (part bs at n)) (trimmed-keeps ordinary (part bs at n) (data-ordinary (part bs at n) h))
 
 -- the names and numbers of the results
-abbrev isCapital : ℕ → Bool
+abbrev pub isCapital : ℕ → Bool
 isCapital b = between 0x41 0x5a b
 
 pub record Named (k : ℕ) (r : Result) : Type 0 where
