@@ -1,13 +1,13 @@
 -- Fields that are put together with delimiters between them, and read again.
 -- Assumes nothing.
-use mathlib.Core.Path.{_≡_, refl, sym, ap, _∙_}
-use mathlib.Core.Bool.{Bool, true, false, not, cond, _&&_}
+use mathlib.Core.Path.{_≡_, refl, ap}
+use mathlib.Core.Bool.{Bool, true, false, not, cond}
 use mathlib.Core.List.{List, [], _∷_, _++_}
 use mathlib.Core.Option.{some}
 use Prim.Native.Nat.{ℕ, suc, _+_, _≤_}
 use native.Mathlib.Omega.{arith}
-use lib.Dec.{eqb, leb}
-use lib.ListN.{length, take, drop}
+use lib.Dec.{leb}
+use lib.ListN.{length}
 use lib.Seq.{take-length, take-append-seam, drop-append-add}
 use borrow.Author.Tests.{leb-true, ne-eqb}
 use Rattle.memory.specs.Tests.{is, between, all, find}
@@ -15,7 +15,7 @@ use Rattle.memory.proofs.Tests.{and-left, and-right, never-both}
 use Rattle.kinds.specs.Delimiters.{standard}
 use Rattle.records.specs.Fields.{before, behind, fieldOf}
 use Rattle.sequence.specs.Numbers.{isDigit}
-use Rattle.escaping.specs.Unescape.{front, unescaped}
+use Rattle.escaping.specs.Unescape.{unescaped}
 use Rattle.finding.specs.Trimmed.{trimmedFront, trimmedBack, trimmed}
 use Rattle.finding.specs.Findings.{fielded}
 use Rattle.finding_laws.proofs.Texts.{isNotBar}

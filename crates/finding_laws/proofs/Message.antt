@@ -1,6 +1,6 @@
 -- The finding of every right block with results is a message.
 -- Assumes nothing.
-use mathlib.Core.Path.{_≡_, refl, sym, ap, _∙_}
+use mathlib.Core.Path.{_≡_, refl, _∙_}
 use mathlib.Core.Bool.{Bool, true, _&&_}
 use mathlib.Core.List.{List, [], _∷_, _++_}
 use Prim.Native.Nat.{ℕ, _+_, _≤_}
@@ -14,16 +14,15 @@ use Rattle.memory.specs.Tests.{between, all}
 use Rattle.memory.proofs.Tests.{and-left, and-right, and-both, all-append, between-yes}
 use Rattle.characters.specs.Control.{cr}
 use Rattle.characters.specs.Allowed.{allowed, ordinary}
-use Rattle.kinds.specs.Delimiters.{standard, delimitersOf, isDelimiter, different, areDelimiters}
+use Rattle.kinds.specs.Delimiters.{standard, isDelimiter, different, areDelimiters}
 use Rattle.kinds.specs.Header.{isHeader}
 use Rattle.kinds.specs.Kinds.{letterOf, kindOf, typeOf, mayFollow}
-use Rattle.kinds.specs.declared.Kind.the-variants.{Patient as PatientKind, Order, Result as ResultKind, Terminator}
+use Rattle.kinds.specs.declared.Kind.the-variants.{Result as ResultKind}
 use Rattle.records.specs.Records.{records, joined, isNotCr, endsWithCr}
 use Rattle.records.proofs.Joined.{every, records-joined, joined-ends}
 use Rattle.sequence.specs.Numbers.{isDigit, numberOf}
 use Rattle.faults.specs.Message.{areRecords, isMessageBy, isMessage}
 use Rattle.faults.proofs.InForce.{standard-stays}
-use Rattle.escaping.specs.Escape.{escaped}
 use Rattle.settings.specs.Settings.{patientLength}
 use Rattle.settings.specs.declared.Patient.{Patient}
 use Rattle.block.specs.Places.{isDatum, matches}
@@ -32,7 +31,7 @@ use Rattle.block.specs.Judged.{judgedOf}
 use Rattle.block.specs.declared.Judged.the-variants.{Results}
 use Rattle.block.proofs.Laws.{results-matches}
 use Rattle.finding.specs.Trimmed.{trimmed}
-use Rattle.finding.specs.Findings.{findingLimit, numeral, fielded, Saying, resultRecords, headerRecord, patientRecord, orderRecord, lastRecord, recordsSaying, sayingOf, findingOf, patientAt, sequenceAt, sequenceLength, resultsAt}
+use Rattle.finding.specs.Findings.{numeral, fielded, Saying, resultRecords, headerRecord, patientRecord, orderRecord, lastRecord, recordsSaying, sayingOf, findingOf, patientAt, sequenceAt, sequenceLength, resultsAt}
 use Rattle.finding.proofs.Fills.{finding-short, finding-some}
 use Rattle.finding_laws.proofs.Placed.{AllStand, behindIt, placed}
 use Rattle.finding_laws.proofs.Texts.{data-ordinary, trimmed-keeps, escaped-ordinary}

@@ -1,11 +1,10 @@
 -- The finding of every right block with results says what stands in the block.
 -- Assumes nothing.
 use mathlib.Core.Path.{_≡_, refl, sym, ap, _∙_}
-use mathlib.Core.Bool.{Bool, true, _&&_}
+use mathlib.Core.Bool.{true}
 use mathlib.Core.List.{List, [], _∷_, _++_}
 use mathlib.Core.Option.{some}
 use Prim.Native.Nat.{ℕ, _+_, _-_}
-use native.Mathlib.Nat.{add-zero}
 use native.Mathlib.Omega.{arith}
 use lib.ListN.{length, getD, drop}
 use lib.Seq.{getD-drop, drop-drop}
@@ -14,14 +13,12 @@ use Rattle.memory.specs.Tests.{all}
 use Rattle.memory.proofs.Parts.{part-add}
 use Rattle.kinds.specs.Delimiters.{standard, delimitersOf}
 use Rattle.kinds.specs.Kinds.{letterOf, kindOf, typeOf}
-use Rattle.kinds.specs.declared.Delimiters.{Delimiters}
 use Rattle.kinds.specs.declared.Kind.{Kind}
-use Rattle.kinds.specs.declared.Kind.the-variants.{Patient as PatientKind, Order, Result as ResultKind}
+use Rattle.kinds.specs.declared.Kind.the-variants.{Result as ResultKind}
 use Rattle.kinds.specs.declared.Letter.the-variants.{Known}
 use Rattle.records.specs.Fields.{fieldOf}
 use Rattle.records.specs.Records.{records}
 use Rattle.sequence.specs.Numbers.{numberOf}
-use Rattle.faults.specs.Message.{typeIn, numberIn}
 use Rattle.escaping.specs.Escape.{escaped}
 use Rattle.escaping.specs.Unescape.{unescaped}
 use Rattle.escaping.proofs.RoundTrips.{escaped-plain}
@@ -33,9 +30,9 @@ use Rattle.block.specs.Judged.{judgedOf}
 use Rattle.block.specs.declared.Judged.the-variants.{Results}
 use Rattle.block.proofs.Laws.{results-matches}
 use Rattle.finding.specs.Trimmed.{trimmed}
-use Rattle.finding.specs.Findings.{numeral, fielded, resultRecords, lastRecord, recordsSaying, sayingOf, findingOf, patientAt, sequenceAt, sequenceLength, resultsAt}
+use Rattle.finding.specs.Findings.{numeral, fielded, resultRecords, lastRecord, sayingOf, findingOf, patientAt, sequenceAt, sequenceLength, resultsAt}
 use Rattle.finding_laws.specs.Says.{recordOf, readAt, IsRecord, SaysResult, SaysResults, Says}
-use Rattle.finding_laws.proofs.Placed.{Stands, AllStand, behindIt, Placed, placed}
+use Rattle.finding_laws.proofs.Placed.{Stands, AllStand, behindIt, placed}
 use Rattle.finding_laws.proofs.Texts.{trimmed-more, isNotBar, escaped-bare}
 use Rattle.finding_laws.proofs.Message.{Named, isNamed, names, named, finding-records}
 use Rattle.finding_laws.proofs.Fields.{field-first, field-next, capitals-bare, digits-bare, capitals-plain, capitals-trimmed}
