@@ -4,11 +4,13 @@
  * each byte that comes in, and each second that passes, to the library; the library says what it
  * did, by the number of an answer, and what to send to the analyzer. Whole messages wait in one
  * journal until the host takes them. And the host sends messages of its own, work orders, down the
- * same lines: it starts a sending, and goes on handing over bytes and seconds.
+ * same lines: it starts a sending, and goes on handing over bytes and seconds. On lines that are set so at
+ * the start it is urine strip readers (Miditron Junior II) that send: each finding of theirs is turned into a
+ * message, and waits in the same journal.
  *
  * What goes to the analyzer is told by the answer's `reply`: 0 for nothing; 06, 15, 05 or 04 for that one
- * byte; and 02 for a whole frame, which begins with that byte. 02 is never sent alone: fetch the frame
- * with ngachodui_on_outgoing before the line's next event, and send all of it.
+ * byte; and 02 for a whole frame, or on a strip reader's line for a whole block, which begins with that byte.
+ * 02 is never sent alone: fetch it with ngachodui_on_outgoing before the line's next event, and send all of it.
  *
  *     uint8_t frame[NGACHODUI_FRAME_LIMIT];
  *     if (answer.reply == NGACHODUI_STX)
@@ -16,13 +18,14 @@
  *     else if (answer.reply != 0)
  *         send_bytes(line, &answer.reply, 1);
  *
- * A host that starts no sending never gets 02, 04 or 05.
+ * A host that starts no sending and has no strip reader never gets 02, 04 or 05.
  *
  * The library keeps nothing between calls, allocates nothing, and calls nothing but memcpy, memmove
  * and memset; a call needs at most NGACHODUI_STACK_LIMIT bytes of stack. All that a gateway is lies in
  * memory of the host's: a ngachodui_gateway, which is three memories of fixed sizes and a state. A host
- * calls ngachodui_start on it once, then ngachodui_on_byte, ngachodui_on_seconds and ngachodui_on_take, and
- * to send messages ngachodui_on_send and ngachodui_on_outgoing. These lend state and memories to the
+ * calls ngachodui_on_fresh on it once, or ngachodui_on_start where it has strip readers; then ngachodui_on_byte,
+ * ngachodui_on_seconds and ngachodui_on_take; and to send messages, or to reply to strip readers,
+ * ngachodui_on_send and ngachodui_on_outgoing. These lend state and memories to the
  * library's own functions, which a host may call itself if it keeps them in other places. Only the library
  * changes them.
  *
@@ -43,8 +46,13 @@
  *     a clock that nobody sets (CLOCK_MONOTONIC), and keeps the fraction for the next time. One timer
  *     of a second serves all eight. Of a byte and a timer that fall together either may come first. A
  *     line that sends must be told its seconds: nothing else ends a wait for a reply that does not come.
- *   - Replies: 06 lets the analyzer forget what it has sent. So first what the call has left is saved,
- *     and then 06 is sent. After 4 the gateway's copy of the message is the only one.
+ *   - Replies: 06 lets the analyzer forget what it has sent, and so does our MOR a strip reader. So first what
+ *     the call has left is saved, and then it is sent. After 4 the gateway's copy of the message is the only one.
+ *   - Strip readers: which lines have one, and how long the patient numbers are that it is set up for, is
+ *     said once, at the start; it never changes. The reader keeps its own time: it needs no seconds. Where there
+ *     is no room (31) it gets no reply, asks again by itself a few times, and then stops: the finding stays in
+ *     the reader, and is sent when somebody presses its key again. A finding can be stored twice where a reply
+ *     or the reader's own block was lost or damaged on its way; its sequence number, date and time tell.
  *   - Sendings: the host keeps its message until the sending is over. Our EOT (`reply` 04) in answer to
  *     the byte 06 or 04 says that every frame was acknowledged. In answer to seconds or to another byte it
  *     says that not all were, and 61 says that none was sent [S13]. Then the host decides whether and when to
@@ -81,13 +89,14 @@ extern "C" {
 
 /* The version of the layout, that is of the sizes and structs below. A library of another layout has
  * another version, and what a host saved under one version is no state of another: save the number in
- * front of it. It stands here alone, for C: the library's ngachodui_fresh has it in its name, so that
- * an object of another version does not find it. */
-#define NGACHODUI_VERSION 2
+ * front of it. It stands here alone, for C: the library's ngachodui_fresh and ngachodui_start have it in their
+ * names, so that an object of another version does not find them. */
+#define NGACHODUI_VERSION 3
 
 #define NGACHODUI_JOINED(name, version) name##_##version
 #define NGACHODUI_NAMED(name, version) NGACHODUI_JOINED(name, version)
 #define ngachodui_fresh NGACHODUI_NAMED(ngachodui_fresh, NGACHODUI_VERSION)
+#define ngachodui_start NGACHODUI_NAMED(ngachodui_start, NGACHODUI_VERSION)
 
 /* These two took no delimiters once, under their names without a number: an object that still calls them
  * so does not link. Their number is their own, and not that of the layout. */
@@ -98,13 +107,14 @@ extern "C" {
 
 enum {
     NGACHODUI_LINES = 8,                         /* the lines are numbered 0 to 7 */
-    NGACHODUI_NUMBERS = 16 * NGACHODUI_LINES,    /* the numbers of all lines, of 16 bits */
+    NGACHODUI_BLOCK_LIMIT = 239,                 /* bytes of a strip reader's block, from STX to CR */
+    NGACHODUI_NUMBERS = (16 + NGACHODUI_BLOCK_LIMIT) * NGACHODUI_LINES,   /* the numbers of all lines, of 16 bits */
     NGACHODUI_COUNTS = NGACHODUI_LINES + 1,      /* the counts: one for each line, one of them all */
     NGACHODUI_DELIMITERS = 4,                    /* the delimiters of a message */
 
     /* What is never exceeded: memory for so many is never too short. */
     NGACHODUI_TEXT_LIMIT = 4000,                 /* bytes of a message, for a taking */
-    NGACHODUI_FRAME_LIMIT = 247,                 /* bytes of a frame, from STX to LF, for one that is fetched */
+    NGACHODUI_FRAME_LIMIT = 247,                 /* bytes of a frame, from STX to LF, for what is fetched */
     NGACHODUI_FRAME_PART = NGACHODUI_FRAME_LIMIT - 1,   /* without STX, as a line keeps it */
     NGACHODUI_RECORDS_LIMIT = 999,               /* records of a message, for reading */
     NGACHODUI_CUT_LIMIT = 10993,                 /* bytes of a message's frames: 4,000 in 999 frames */
@@ -123,21 +133,26 @@ enum {
 
 /* ---- Answers ---- */
 
-/* What an event, a start or a taking is answered, by number: 22 is rule A22 of docs/RULES.md. With 1 to 4
- * the byte to send back is ACK (06); with 20 to 31, and with a fault that answers an event, it is NAK (15);
- * with 9 there is a frame to send (02), our EOT (04), our ENQ (05), or nothing (0); and with the others
- * nothing. Faults are those of enum ngachodui_fault; 54 answers no event, and a start may get it. */
+/* What an event, a start or a taking is answered, by number: 22 is rule A22 of docs/RULES.md. On a line of
+ * frames the byte to send back is ACK (06) with 1 to 4; with 20 to 31, and with a fault that answers an event,
+ * it is NAK (15); with 9 there is a frame to send (02), our EOT (04), our ENQ (05), or nothing (0); and with the
+ * others nothing. On a strip reader's line a block is to be sent (02) with 4, 70, 71 and 72, and with 11 a
+ * block or nothing; with the others nothing, with 31 neither. Faults are those of enum ngachodui_fault; 54
+ * answers no event, and a start may get it. */
 enum ngachodui_number {
     NGACHODUI_NOTHING = 0,          /* the byte was ignored or collected, or the seconds were counted */
     NGACHODUI_OPENED = 1,           /* ENQ: a transfer is open */
     NGACHODUI_ACCEPTED = 2,         /* a frame accepted; its message goes on */
     NGACHODUI_REPEATED = 3,         /* the last accepted frame once more, by its number; not kept again */
-    NGACHODUI_STORED = 4,           /* the frame that ends a message, and the message is in the journal */
+    NGACHODUI_STORED = 4,           /* the frame that ends a message, and the message is in the journal; of a
+                                     * strip reader a finding, whose message is in the journal */
     NGACHODUI_ENDED = 5,            /* EOT: the transfer is over */
     NGACHODUI_DROPPED = 6,          /* EOT: the transfer is over, and unfinished text was dropped */
     NGACHODUI_TIMED_OUT = 7,        /* 30 seconds without a judged frame: the transfer is over */
     NGACHODUI_TAKEN = 8,            /* a message is in the buffer, with its length and serial */
     NGACHODUI_SENDING = 9,          /* the start or an event of a sending; `reply` says what is to be sent */
+    NGACHODUI_HEARD = 11,           /* a right block of a strip reader that is not to be stored: it asks, it ends,
+                                     * it tells colours, or it repeats what is stored */
 
     NGACHODUI_BUSY = 20,            /* ENQ while a transfer is open */
     NGACHODUI_UNENDED = 21,         /* a frame of 246 bytes, and the last is no LF */
@@ -151,33 +166,40 @@ enum ngachodui_number {
     NGACHODUI_NO_CR = 29,           /* ETX, and the text is empty or does not end with CR */
     NGACHODUI_NO_MESSAGE = 30,      /* the text is complete and has a byte that is not allowed, which no frame
                                      * brings: only memory that the host has set can hold it */
-    NGACHODUI_NO_ROOM = 31,         /* the message has no room in the journal */
+    NGACHODUI_NO_ROOM = 31,         /* the message has no room in the journal; a strip reader gets no reply then */
 
     /* Refusals of the call: nothing at all has changed. */
     NGACHODUI_NO_LINE = 40,         /* the line is not 0 to 7 */
     NGACHODUI_WRONG_SIZE = 41,      /* a memory was lent at another size */
-    NGACHODUI_BEYOND_LIMITS = 42,   /* the line's record holds what no record can */
+    NGACHODUI_BEYOND_LIMITS = 42,   /* the line's record holds what no record can, or a line is to speak what
+                                     * is nothing */
     NGACHODUI_BROKEN = 43,          /* the journal's bytes and counts do not agree */
     NGACHODUI_NOTHING_WAITING = 44, /* the line has no message to take */
     NGACHODUI_BUFFER_SHORT = 45,    /* the buffer is shorter than the message */
-    NGACHODUI_NOT_NEUTRAL = 60,     /* a start on a line that receives or sends */
+    NGACHODUI_NOT_NEUTRAL = 60,     /* a start on a line that receives or sends, or on a strip reader's */
 
     /* No refusal: the line is neutral now. */
-    NGACHODUI_GIVEN_UP = 61         /* a sending is over and nothing is sent: our ENQ was answered by ENQ, or
+    NGACHODUI_GIVEN_UP = 61,        /* a sending is over and nothing is sent: our ENQ was answered by ENQ, or
                                      * refused for the sixth time */
+
+    /* Blocks that are none of a strip reader's upload: REP is to be sent, and the reader sends again. */
+    NGACHODUI_ODD_LENGTH = 70,      /* no block of this line has so many bytes */
+    NGACHODUI_ODD_TEST = 71,        /* the two test bytes are not those of the block's bytes */
+    NGACHODUI_ODD_BYTE = 72         /* a byte is not what such a block has there */
 };
 
 /* What `reply` may be, by name. */
 enum ngachodui_control {
-    NGACHODUI_STX = 0x02,           /* a frame is to be sent: fetch all of it with ngachodui_outgoing */
+    NGACHODUI_STX = 0x02,           /* a frame is to be sent, or our block MOR or REP to a strip reader: fetch all
+                                     * of it with ngachodui_outgoing */
     NGACHODUI_EOT = 0x04,           /* our EOT: the end of a sending */
     NGACHODUI_ENQ = 0x05,           /* our ENQ: asks whether one may begin */
     NGACHODUI_ACK = 0x06,
     NGACHODUI_NAK = 0x15
 };
 
-/* What a text function answers, by the numbers of the same table; a start gets 46 too, and a frame that is
- * fetched 40, 41, 42 and 47. */
+/* What a text function answers, by the numbers of the same table; a start gets 46 too, and what is fetched 40,
+ * 41, 42 and 47. */
 enum ngachodui_outcome {
     NGACHODUI_DONE = 0,             /* the output is written */
     NGACHODUI_MALFORMED = 46,       /* to cut, read or send: over 4,000 bytes, or one that is not allowed;
@@ -205,8 +227,9 @@ enum ngachodui_fault {
 /* The answer to an event, a start or a taking. */
 typedef struct ngachodui_answered {
     uint8_t number;    /* enum ngachodui_number, enum ngachodui_fault, or to a start 46 */
-    uint8_t reply;     /* the first byte to send to the analyzer, enum ngachodui_control, or 0 for nothing. 02
-                        * is the first of a frame, which is fetched and sent whole; the others are sent alone */
+    uint8_t reply;     /* the first byte to send to the analyzer, enum ngachodui_control, or 0 for nothing. 02 is
+                        * the first of a frame or a block, which is fetched and sent whole; the others are sent
+                        * alone */
     uint16_t serial;   /* with answer 8 the message's serial, else 0 */
     uint16_t place;    /* with a fault the wrong record's place, from 1; else 0 */
     uint16_t digits;   /* 0 in this version */
@@ -225,20 +248,41 @@ typedef struct ngachodui_made {
 /* ---- State ---- */
 
 enum ngachodui_line_state {
-    NGACHODUI_NEUTRAL = 0,   /* no transfer */
+    NGACHODUI_NEUTRAL = 0,   /* no transfer; of a strip reader, between blocks */
     NGACHODUI_WAITING = 1,   /* a transfer is open, between frames */
-    NGACHODUI_INSIDE = 2,    /* inside a frame */
+    NGACHODUI_INSIDE = 2,    /* inside a frame, or inside a block */
     NGACHODUI_ASKING = 3,    /* in a sending: our ENQ awaits its reply */
     NGACHODUI_PAUSING = 4,   /* in a sending: the 10 seconds behind a refusal of our ENQ */
     NGACHODUI_OFFERING = 5   /* in a sending: a frame awaits its reply */
 };
 
+/* What a line speaks, by number: set at the start, and never changed. [B1] */
+enum ngachodui_dialogue {
+    NGACHODUI_FRAMES = 0,         /* frames, as E1381 has them */
+    NGACHODUI_STRIPS_10 = 10,     /* blocks of a strip reader with patient numbers of 10 characters */
+    NGACHODUI_STRIPS_13 = 13      /* the same with 13 */
+};
+
+/* What our last reply to a strip reader was, by number. */
+enum ngachodui_replied {
+    NGACHODUI_NONE_YET = 0,
+    NGACHODUI_MORE = 1,           /* MOR: it may go on */
+    NGACHODUI_AGAIN = 2           /* REP: it is to send the block again */
+};
+
+/* What a line is to be from the start. */
+typedef struct ngachodui_settings {
+    uint16_t speaks;      /* enum ngachodui_dialogue */
+} ngachodui_settings;
+
 /* One line. A host may read it at any time, and may save state and memories and load them again. A
  * record that the host sets itself is used as it is if it is within the limits here; if not, events on
- * that line are answered 42. */
+ * that line are answered 42. On a line of frames `reply`, `since` and `kept` are not looked at; on a strip
+ * reader's every state but inside is taken for neutral. [H3, B12] */
 typedef struct ngachodui_line {
     uint16_t state;       /* enum ngachodui_line_state */
-    uint16_t collected;   /* bytes of the frame so far, up to 245 */
+    uint16_t collected;   /* bytes of the frame so far, without its STX, up to 245; of the block so far, with its
+                           * STX, up to 235 or 238 */
     uint16_t joined;      /* bytes of unfinished text, or of the text that is being sent, up to 4,000 */
     uint16_t seconds;     /* since the transfer opened or a frame was judged, or of the wait so far, up to 29 */
     uint16_t next;        /* the number of the next frame, or of the frame that is offered, up to 7 */
@@ -248,12 +292,19 @@ typedef struct ngachodui_line {
     uint16_t tries;       /* asking, pausing: how often our ENQ was refused, up to 5; offering: how often the
                            * frame was sent, up to 6; else 0 */
     uint16_t place;       /* offering: where the frame's text starts in the text, up to 4,000; else 0 */
-    uint16_t spare[6];    /* 0 when fresh; in this version no call looks at them or changes them [H1] */
+    uint16_t speaks;      /* enum ngachodui_dialogue */
+    uint16_t reply;       /* our last reply to the strip reader, enum ngachodui_replied */
+    uint16_t since;       /* 1: an SPM or REP of the reader came since the last stored block; else 0 */
+    uint16_t kept;        /* 1: a block was stored; else 0 */
+    uint16_t spare[2];    /* 0 when fresh; in this version no call looks at them or changes them [H1] */
 } ngachodui_line;
 
 /* The numbers: those of all lines. */
 typedef struct ngachodui_numbers {
     ngachodui_line lines[NGACHODUI_LINES];
+    /* Each strip reader's last stored block, a byte to a number, 0 when fresh. A block of 236 bytes leaves the
+     * last three as they were. They may be anything: they are only compared with what comes. [B10] */
+    uint16_t blocks[NGACHODUI_LINES][NGACHODUI_BLOCK_LIMIT];
 } ngachodui_numbers;
 
 /* The counts: how much of the journal is used, in bytes. Counts that do not agree with the journal are
@@ -269,7 +320,7 @@ typedef struct ngachodui_state {
     ngachodui_counts counts;
 } ngachodui_state;
 
-/* A gateway with them: all that a host keeps of it. With 67,028 bytes it is large for a stack: make it
+/* A gateway with them: all that a host keeps of it. With 70,852 bytes it is large for a stack: make it
  * static. */
 typedef struct ngachodui_gateway {
     uint8_t journal[NGACHODUI_JOURNAL_SIZE];
@@ -296,6 +347,8 @@ typedef struct ngachodui_layout {
 #define NGACHODUI_FACT(fact) struct ngachodui_layout
 #endif
 NGACHODUI_FACT(sizeof(ngachodui_numbers) == sizeof(uint16_t) * NGACHODUI_NUMBERS);
+NGACHODUI_FACT(sizeof(ngachodui_line) == sizeof(uint16_t) * 16);
+NGACHODUI_FACT(sizeof(ngachodui_settings) == sizeof(uint16_t));
 NGACHODUI_FACT(sizeof(ngachodui_counts) == sizeof(uint32_t) * NGACHODUI_COUNTS);
 NGACHODUI_FACT(sizeof(ngachodui_answered) == 16);
 NGACHODUI_FACT(sizeof(ngachodui_made) == 16);
@@ -308,13 +361,21 @@ NGACHODUI_FACT(sizeof(ngachodui_layout) == 24);
 ngachodui_layout ngachodui_sizes(void);
 
 /* Makes every line neutral with next number 1 and serial 0, and the journal empty; the memories may
- * hold anything. Call it once, before all else; later it forgets every message that waits. [E3] */
+ * hold anything. Every line speaks frames. Call it once, before all else; later it forgets every message that
+ * waits. [E3] */
 void ngachodui_fresh(ngachodui_numbers *numbers, ngachodui_counts *counts);
+
+/* The same where some lines have strip readers: each line speaks what its settings say. Call this or
+ * ngachodui_fresh. Answers 0; or 42 where one of the eight is none of 0, 10 and 13, and then nothing is changed.
+ * [B1, B12] */
+uint8_t ngachodui_start(const ngachodui_settings settings[NGACHODUI_LINES],
+                        ngachodui_numbers *numbers, ngachodui_counts *counts);
 
 /* A byte has come in on a line.
  *
- * Answers 0 to 6, 9, 20 to 31, 40 to 43, 50 to 53, 55 and 61, tested in this order: 40, 41, 42, then the
- * byte's work. What `reply` says goes to the analyzer, 06 once what the call has left is saved.
+ * Answers 0 to 6, 9, 20 to 31, 40 to 43, 50 to 53, 55 and 61, and on a strip reader's line 0, 4, 11, 31, 40 to
+ * 43 and 70 to 72, tested in this order: 40, 41, 42, then the byte's work. What `reply` says goes to the
+ * analyzer, 06 or a block once what the call has left is saved.
  *
  * On a line that sends, the byte is the analyzer's reply:
  *   asking    06 sends the first frame; 05 gives the sending up (61); any other byte, 04 too, refuses our
@@ -324,7 +385,16 @@ void ngachodui_fresh(ngachodui_numbers *numbers, ngachodui_counts *counts);
  *             same frame again, and behind its sixth send our EOT
  * All of these but 0 and 61 are answered 9. [S5, S6, S7, S8, S9]
  *
- * Changes, by the answer:
+ * On a strip reader's line a block is taken from its STX to the first CR, or to as many bytes as its longest
+ * block has (236 with patient numbers of 10, 239 with 13); between blocks every byte but STX is ignored. Then it is
+ * judged: 70 for its length, 71 for its test bytes, 72 for a byte that is out of place, each with REP to be
+ * sent. The reader's SPM (may I begin?) and its D blocks (colours) get MOR, and its END gets nothing; its REP
+ * gets our last reply, if there is one. An E block is a finding: it is stored as a message (4) with MOR. Where
+ * it is the last stored block byte for byte, and an SPM or REP of the reader came since, it gets MOR and is not
+ * stored again (11). Where it has no room (31) nothing is sent, and nothing later is refused for it.
+ * [B3, B4, B5, B6, B9, B10, B11]
+ *
+ * Changes, by the answer, on a line of frames:
  *   0        at most this line's record, and its frame's next byte
  *   1, 5, 6, 61   this line's record: its counts 0, next number 1, no last number, not refusing
  *   9        this line's record: with our EOT as after 5; else its state, tries, place and next number, and
@@ -337,7 +407,15 @@ void ngachodui_fresh(ngachodui_numbers *numbers, ngachodui_counts *counts);
  *   3, 21 to 29   the frame's last byte; the line waits, its collected and second counts 0
  *   20, 40 to 43  nothing
  * A complete text is tested for 30, then its faults, 43 and 31. 43 leaves the line inside its frame; 30
- * seconds free it. [E5, E6, E7, O3, O4] */
+ * seconds free it. [E5, E6, E7, O3, O4]
+ * On a strip reader's line:
+ *   0        nothing, or the block's next byte, the state and the collected count
+ *   11, 31, 70, 71, 72   the block's last byte; the line is neutral, its three counts 0; `reply` is what was
+ *            sent, but stays with 31, END and REP; `since` is 1 after SPM and REP
+ *   4        the same, and the entry at the journal's end, the line's used count, the bytes in use, the line's
+ *            serial; the block is kept, `kept` is 1 and `since` 0
+ *   40 to 43  nothing: after 43 the block lacks its last byte
+ * The unfinished text is never written there. [B7] */
 ngachodui_answered ngachodui_byte(uint8_t line, uint8_t byte,
                                   ngachodui_numbers *numbers, ngachodui_counts *counts,
                                   uint8_t *journal, size_t journal_length,
@@ -350,8 +428,9 @@ ngachodui_answered ngachodui_byte(uint8_t line, uint8_t byte,
  * neutral line; 7 makes the line neutral, as after 5; 40 to 42 change nothing. On a line that sends the
  * answer is 9: at 15 seconds without a reply our EOT is sent and the line is neutral; at 10 seconds of a
  * pause our ENQ is sent again; before that nothing is sent, and the second count grows. What is over 15 or
- * 10 is not carried on. The lines have no clock in common: tell each one, as often as is convenient, at
- * least every few seconds while its transfer is open or while it sends. [E8, E9, E10, S8, S10] */
+ * 10 is not carried on. On a strip reader's line the answer is 0, and nothing is changed. The lines have no
+ * clock in common: tell each one, as often as is convenient, at least every few seconds while its transfer is
+ * open or while it sends. [E8, E9, E10, S8, S10, B6] */
 ngachodui_answered ngachodui_seconds(uint8_t line, uint8_t seconds,
                                      ngachodui_numbers *numbers, ngachodui_counts *counts,
                                      uint8_t *journal, size_t journal_length,
@@ -361,25 +440,26 @@ ngachodui_answered ngachodui_seconds(uint8_t line, uint8_t seconds,
 /* Starts to send a message on a line: our ENQ is to be sent now (`reply` 05), and all that follows comes with
  * the answers to the analyzer's replies and to the seconds that pass.
  *
- * Answers 9, and tested in this order 40, 41 (of all three memories), 42, 60, and then the text as
- * ngachodui_cut tests it: 46, 50 to 55 with `place`. With 9 the text is copied over the start of the line's
- * unfinished text, the host's own copy is not needed for the sending, and the line asks: its counts are 0
- * but for `joined`, which is the text's length, next number 1, no last number, not refusing. The others change
- * nothing, and `reply` is 0: nothing goes to the analyzer, with a fault neither. The journal and the frames
- * are lent for their lengths alone. [S1, O7, L13] */
+ * Answers 9, and tested in this order 40, 41 (of all three memories), 42, 60 (on a strip reader's line
+ * always), and then the text as ngachodui_cut tests it: 46, 50 to 55 with `place`. With 9 the text is copied
+ * over the start of the line's unfinished text, the host's own copy is not needed for the sending, and the line
+ * asks: its counts are 0 but for `joined`, which is the text's length, next number 1, no last number, not
+ * refusing. The others change nothing, and `reply` is 0: nothing goes to the analyzer, with a fault neither. The
+ * journal and the frames are lent for their lengths alone. [S1, O7, L13] */
 ngachodui_answered ngachodui_send(uint8_t line, const uint8_t *text, size_t text_length,
                                   ngachodui_numbers *numbers,
                                   const uint8_t *journal, size_t journal_length,
                                   uint8_t *unfinished, size_t unfinished_length,
                                   const uint8_t *frames, size_t frames_length);
 
-/* The frame that a line offers, written over the start of the output: to be called, and all of it sent, each
- * time that `reply` is 02. It is the one that ngachodui_cut would make there.
+/* The frame that a line offers, or on a strip reader's line our last reply, MOR or REP, written over the start
+ * of the output: to be called, and all of it sent, each time that `reply` is 02. The frame is the one that
+ * ngachodui_cut would make there; MOR and REP have six bytes.
  *
- * Answers 0 with the frame's length, or with length 0 where the line offers no frame, which is never so where
- * `reply` was 02; and 40, 41 (of the unfinished text), 42, 47 in this order. It changes nothing but the
- * output's first `length` bytes: called again before the line's next event, it gives the same frame. An
- * output of NGACHODUI_FRAME_LIMIT bytes is never too short. [S2, O7] */
+ * Answers 0 with the length, or with length 0 where the line offers no frame or has replied nothing yet, which
+ * is never so where `reply` was 02; and 40, 41 (of the unfinished text), 42, 47 in this order. It changes nothing but the
+ * output's first `length` bytes: called again before the line's next event, it gives the same. An output of
+ * NGACHODUI_FRAME_LIMIT bytes is never too short. [S2, O7, B11] */
 ngachodui_made ngachodui_outgoing(uint8_t line, const ngachodui_numbers *numbers,
                                   const uint8_t *unfinished, size_t unfinished_length,
                                   uint8_t *out, size_t out_length);
@@ -408,12 +488,22 @@ static inline bool ngachodui_is_this_layout(void)
 }
 
 /* As ngachodui_fresh. False: the library is of another layout than this header, and nothing is done. */
-static inline bool ngachodui_start(ngachodui_gateway *gateway)
+static inline bool ngachodui_on_fresh(ngachodui_gateway *gateway)
 {
     if (!ngachodui_is_this_layout())
         return false;
     ngachodui_fresh(&gateway->state.numbers, &gateway->state.counts);
     return true;
+}
+
+/* As ngachodui_start: 0, or 42 and nothing is changed. 41: the library is of another layout than this header, and
+ * nothing is done. */
+static inline uint8_t ngachodui_on_start(ngachodui_gateway *gateway,
+                                         const ngachodui_settings settings[NGACHODUI_LINES])
+{
+    if (!ngachodui_is_this_layout())
+        return NGACHODUI_WRONG_SIZE;
+    return ngachodui_start(settings, &gateway->state.numbers, &gateway->state.counts);
 }
 
 /* As ngachodui_byte. */

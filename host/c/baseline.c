@@ -490,7 +490,7 @@ struct plain_gateway plain_fresh(void)
     return gateway;
 }
 
-/* A transfer opened or over. Tries and place are 0 already, and the serial and the spare numbers stay. */
+/* A transfer opened or over. Tries and place are 0 already, and the serial and the numbers behind them stay. */
 static void reset(struct plain_line *line, enum plain_state state)
 {
     line->state = (uint16_t)state;
@@ -502,12 +502,12 @@ static void reset(struct plain_line *line, enum plain_state state)
     line->refusing = 0;
 }
 
-/* A line that sends is not within them: this gateway could not go on with it. */
+/* A line that sends, or that speaks with a strip reader, is not within them: this gateway could not go on with it. */
 static bool within_limits(const struct plain_line *line)
 {
     return line->collected < PLAIN_FRAME && line->joined <= PLAIN_TEXT && line->seconds < PLAIN_SECONDS_LIMIT
         && line->next <= 7 && line->last <= 8 && line->refusing <= 1 && line->state <= PLAIN_INSIDE
-        && (line->tries | line->place) == 0;
+        && (line->tries | line->place | line->speaks) == 0;
 }
 
 static bool right_sizes(const struct plain_memory *memory)

@@ -1,9 +1,9 @@
 /* The gateway in plain C: no proofs, written from the requirements. It is the
  * yardstick for the proved gateway: a second reading of the rules, and a measure of speed.
  *
- * It is a receiver: it does not send messages. Its lines have the numbers that the library's have, and
- * every event tests all of them that the library tests; but a line that sends is none here, and so
- * its state is answered 42.
+ * It is a receiver of frames: it does not send messages, and it has no strip readers. Its lines have the
+ * numbers that the library's have, and every event tests all of them that the library tests on a line of frames;
+ * but a line that sends, or that speaks with a reader, is none here, and so it is answered 42.
  *
  * Nothing is allocated and nothing is kept between calls but what the caller lends. Every call
  * is answered with its number. A refusal of 40 to 47 changes nothing, nor does one of a text
@@ -86,7 +86,11 @@ struct plain_line {
     uint16_t serial;      /* of the line's next entry */
     uint16_t tries;       /* of a sending; 0 here */
     uint16_t place;       /* of a sending; 0 here */
-    uint16_t spare[6];    /* not looked at */
+    uint16_t speaks;      /* 0: frames */
+    uint16_t reply;       /* of a strip reader, as the two that follow: not looked at */
+    uint16_t since;
+    uint16_t kept;
+    uint16_t spare[2];    /* not looked at */
 };
 
 struct plain_ledger {

@@ -9,7 +9,7 @@
  * bytes: how many bytes). An operation that reads a text is then done once with other delimiters, for
  * the checksum alone.
  *
- * Plain C sends nothing: what a sending costs is the library's alone.
+ * Plain C sends nothing and has no strip readers: what a sending or a block costs is the library's alone.
  *
  *     bench OPERATION times ROUNDS [SIZE]
  *
@@ -40,7 +40,7 @@ static void stop(const char *why)
 
 /* ---- The two gateways ---- */
 
-_Static_assert(sizeof(ngachodui_numbers) == sizeof((struct plain_gateway){ 0 }.lines), "the lines' numbers lie alike");
+_Static_assert(sizeof((ngachodui_numbers){ 0 }.lines) == sizeof((struct plain_gateway){ 0 }.lines), "the lines' numbers lie alike");
 
 /* Each has its own records; the memories, which lie alike on both sides, are the library's. */
 static ngachodui_gateway library;
@@ -50,8 +50,10 @@ static const struct plain_memory memory = {
 };
 static uint8_t buffer[TEXT];
 
-/* What is saved in front of an operation and put back behind it. */
-static ngachodui_state saved_library;
+/* What is saved in front of an operation and put back behind it: all but the blocks of strip readers, which plain C has
+ * not, and which would cost more than most operations. */
+static ngachodui_line saved_lines[LINES];
+static ngachodui_counts saved_counts;
 static struct plain_gateway saved_plain;
 static uint8_t saved_journal[NGACHODUI_JOURNAL_SIZE];
 
@@ -131,13 +133,15 @@ FOR_EACH_SIDE void take_out(enum side side, unsigned line, size_t room)
 /* Both sides' records, whatever the side, so that it costs the same. */
 static void save(void)
 {
-    saved_library = library.state;
+    memcpy(saved_lines, library.state.numbers.lines, sizeof saved_lines);
+    saved_counts = library.state.counts;
     saved_plain = plain;
 }
 
 static inline void put_back(void)
 {
-    library.state = saved_library;
+    memcpy(library.state.numbers.lines, saved_lines, sizeof saved_lines);
+    library.state.counts = saved_counts;
     plain = saved_plain;
     KEEP_MEMORY();
 }
@@ -536,6 +540,64 @@ FOR_EACH_SIDE void sending(enum side side, uint64_t count, enum sending_call cal
     done = count;
 }
 
+/* ---- Strip readers ---- */
+
+enum block_call { BLOCK_BYTE, BLOCK_STORED, BLOCK_REPEATED, BLOCK_REFUSED, BLOCK_FETCHED };
+
+/* A finding, with patient numbers of 10. */
+static const char finding[] =
+    "\x02;E 4711       00012 15.03.01 09:30 SG1.030      PH  7      LEU     500/ul ++++ NITpos pos  PRO   0.75 g/l ++++ "
+    "GLU  56 mmol/l ++++ KET 0.5 mmol/l   ++ UBG  68 umol/l ++++ BIL  50 umol/l ++++ ERY      25/ul ++++ NAG                 "
+    "\x03" "30\r";
+enum { E_BLOCK = sizeof finding - 1 };
+
+static const ngachodui_settings readers[LINES] = { { 10 }, { 10 }, { 10 }, { 10 }, { 10 }, { 10 }, { 10 }, { 10 } };
+
+/* Bytes on a reader's line; the answer to the last. */
+static unsigned block_in(unsigned line, const char *bytes, size_t n)
+{
+    unsigned number = 0;
+    for (size_t i = 0; i < n; i++)
+        number = byte_in(LIBRARY, line, (uint8_t)bytes[i]).number;
+    return number;
+}
+
+/* Eight blocks, 200 bytes of each, byte by byte in turn; or the last byte of a finding, of a repeat, of one with wrong test
+ * bytes; or our reply, fetched. */
+FOR_EACH_SIDE void block(enum side side, uint64_t count, enum block_call call)
+{
+    enum { BYTES = 200 };
+    if (side == PLAIN)
+        stop("plain C has no strip readers");
+    if (ngachodui_start(readers, &library.state.numbers, &library.state.counts) != 0)
+        stop("the lines are not set");
+    if (call == BLOCK_REPEATED && (block_in(3, finding, E_BLOCK) != NGACHODUI_STORED || block_in(3, "\x02<\x03" "3=\r", 6) != NGACHODUI_HEARD))
+        stop("the finding is not stored");
+    for (unsigned line = 0; line < LINES; line++)
+        block_in(line, finding, call == BLOCK_BYTE ? 1 : E_BLOCK - 1);
+    if (call == BLOCK_REFUSED)
+        library.frames[3 * NGACHODUI_FRAME_PART + 5] ^= 1;
+    if (call == BLOCK_FETCHED)
+        block_in(3, "\r", 1);
+    save();
+    for (uint64_t i = 0; i < count; i++) {
+        static const unsigned judged_as[] = { [BLOCK_STORED] = NGACHODUI_STORED, [BLOCK_REPEATED] = NGACHODUI_HEARD, [BLOCK_REFUSED] = NGACHODUI_ODD_TEST };
+        if (call == BLOCK_BYTE) {
+            for (unsigned at = 1; at <= BYTES; at++)
+                for (unsigned line = 0; line < LINES; line++)
+                    byte_in(side, line, (uint8_t)finding[at]);
+        } else if (call == BLOCK_FETCHED) {
+            if (side == LIBRARY)
+                out_length = ngachodui_on_outgoing(&library, 3, out, FRAME).length;
+        } else if (byte_in(side, 3, CR).number != judged_as[call] && side == LIBRARY) {
+            stop("the block is not judged as it should be");
+        }
+        put_back();
+    }
+    note_bytes(out, out_length);
+    done = call == BLOCK_BYTE ? count * BYTES * LINES : count;
+}
+
 /* ---- The command ---- */
 
 static uint64_t nanoseconds(void)
@@ -635,6 +697,16 @@ FOR_EACH_SIDE void run_side(enum side side, struct operation o, uint64_t count)
         sending(side, count, REPLY);
     else if (starts(o, "fetched-"))
         sending(side, count, FETCH);
+    else if (is(o, "block-byte"))
+        block(side, count, BLOCK_BYTE);
+    else if (is(o, "block-stored"))
+        block(side, count, BLOCK_STORED);
+    else if (is(o, "block-repeated"))
+        block(side, count, BLOCK_REPEATED);
+    else if (is(o, "block-refused"))
+        block(side, count, BLOCK_REFUSED);
+    else if (is(o, "block-fetched"))
+        block(side, count, BLOCK_FETCHED);
     else
         stop("no such operation");
 }
@@ -706,8 +778,8 @@ int main(int argc, char **argv)
     }
 
     /* The lines' numbers, the counts and the memories, which lie alike on both sides. */
-    const void *numbers = side == LIBRARY ? (const void *)&library.state.numbers : (const void *)plain.lines;
-    note_bytes(numbers, sizeof library.state.numbers);
+    const void *numbers = side == LIBRARY ? (const void *)library.state.numbers.lines : (const void *)plain.lines;
+    note_bytes(numbers, sizeof plain.lines);
     for (unsigned line = 0; line < LINES; line++)
         note(side == LIBRARY ? library.state.counts.used[line] : plain.ledger.used[line]);
     note(side == LIBRARY ? library.state.counts.in_use : plain.ledger.in_use);

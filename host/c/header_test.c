@@ -51,7 +51,7 @@ static ngachodui_answered take_from(uint8_t line, size_t buffer_length)
 
 static void start(void)
 {
-    check(ngachodui_start(&gateway), "the library's layout");
+    check(ngachodui_on_fresh(&gateway), "the library's layout");
 }
 
 /* Sends bytes; all but the last must be answered 0. */
@@ -283,7 +283,7 @@ static void start_sending(void)
 
 static void check_neutral(const char *what)
 {
-    static const ngachodui_line neutral = {NGACHODUI_NEUTRAL, 0, 0, 0, 1, 0, 0, 0, 0, 0, {0, 0, 0, 0, 0, 0}};
+    static const ngachodui_line neutral = {NGACHODUI_NEUTRAL, 0, 0, 0, 1, 0, 0, 0, 0, 0, NGACHODUI_FRAMES, 0, 0, 0, {0, 0}};
     check(memcmp(&lines[2], &neutral, sizeof neutral) == 0, what);
 }
 
@@ -402,10 +402,11 @@ static void test_starts(void)
     check_no_start(2, "H|\\||\rL|1\r", NGACHODUI_BAD_DELIMITERS, 1);
     check_no_start(2, "H|\\^&\nL|1\r", NGACHODUI_MALFORMED, 0);
 
-    /* A neutral record with counts is set anew; its serial and its spare numbers stay, and the text's rest too. */
+    /* A neutral record with counts is set anew; its serial stays, what it keeps of a reader and its spare numbers too, and
+     * the text's rest. */
     memset(gateway.unfinished, 0x55, sizeof gateway.unfinished);
-    const ngachodui_line odd = {NGACHODUI_NEUTRAL, 245, 4000, 29, 7, 8, 1, 65535, 0, 0, {1, 2, 3, 4, 5, 65535}};
-    const ngachodui_line asking = {NGACHODUI_ASKING, 0, 12, 0, 1, 0, 0, 65535, 0, 0, {1, 2, 3, 4, 5, 65535}};
+    const ngachodui_line odd = {NGACHODUI_NEUTRAL, 245, 4000, 29, 7, 8, 1, 65535, 0, 0, NGACHODUI_FRAMES, 3, 2, 65535, {1, 65535}};
+    const ngachodui_line asking = {NGACHODUI_ASKING, 0, 12, 0, 1, 0, 0, 65535, 0, 0, NGACHODUI_FRAMES, 3, 2, 65535, {1, 65535}};
     lines[2] = odd;
     SENDS(ngachodui_on_send(&gateway, 2, MESSAGE), "\x05", "a start on a neutral line with counts");
     check(memcmp(&lines[2], &asking, sizeof asking) == 0, "the record after it");
@@ -478,12 +479,195 @@ static void test_sendings(void)
     test_sending_sizes();
 }
 
+/* ---- Strip readers ---- */
+
+#define MOR "\x02>\x03" "3?\r"
+#define REP "\x02?\x03" "3>\r"
+#define SPM "\x02<\x03" "3=\r"
+#define END "\x02:\x03" "3;\r"
+
+/* A finding of patient 4711, with patient numbers of 10, and its message. */
+static const uint8_t finding[] =
+    "\x02;E 4711       00012 15.03.01 09:30 SG1.030      PH  7      LEU     500/ul ++++ NITpos pos  PRO   0.75 g/l ++++ "
+    "GLU  56 mmol/l ++++ KET 0.5 mmol/l   ++ UBG  68 umol/l ++++ BIL  50 umol/l ++++ ERY      25/ul ++++ NAG                 "
+    "\x03" "30\r";
+static const uint8_t finding_message[] =
+    "H|\\^&\rP|1|4711\rO|1|00012\rR|1|SG|1.030\rR|2|PH|7\rR|3|LEU|500/ul ++++\rR|4|NIT|pos pos\rR|5|PRO|0.75 g/l ++++\r"
+    "R|6|GLU|56 mmol/l ++++\rR|7|KET|0.5 mmol/l   ++\rR|8|UBG|68 umol/l ++++\rR|9|BIL|50 umol/l ++++\r"
+    "R|10|ERY|25/ul ++++\rR|11|NAG|\rL|1\r";
+enum { E_BLOCK = sizeof finding - 1, D_BLOCK = 78 };
+
+/* The test bytes of a block set right. */
+static void mend(uint8_t *block, size_t length)
+{
+    uint8_t test = 0;
+    for (size_t i = 0; i < length - 3; i++)
+        test ^= block[i];
+    block[length - 3] = (uint8_t)(0x30 | test >> 4);
+    block[length - 2] = (uint8_t)(0x30 | (test & 15));
+}
+
+/* A block on line 2: its answer, and what is to be sent, MOR, REP or with "" nothing. */
+static void check_block(const uint8_t *block, size_t length, unsigned number, const char *reply, const char *what)
+{
+    const ngachodui_answered a = send(2, block, length, what);
+    check_number(a.number, number, what);
+    check_number(a.reply, *reply ? NGACHODUI_STX : 0, what);
+    check_number(lines[2].state, NGACHODUI_NEUTRAL, "the state behind a block");
+    check_number(lines[2].collected, 0, "nothing collected behind a block");
+    if (*reply) {
+        const ngachodui_made m = fetch_from(2, 6);
+        check_number(m.number, NGACHODUI_DONE, what);
+        check_number((unsigned)m.length, 6, what);
+        check(memcmp(out_frame, reply, 6) == 0, what);
+        check_number(out_frame[6], 0xaa, "the output behind a reply");
+    }
+}
+
+/* A fresh gateway with a reader on line 2, one of the other sort on line 5, and frames on the others. */
+static void start_readers(void)
+{
+    static const ngachodui_settings settings[NGACHODUI_LINES] = {{0}, {0}, {NGACHODUI_STRIPS_10}, {0}, {0}, {NGACHODUI_STRIPS_13}, {0}, {0}};
+    check_number(ngachodui_on_start(&gateway, settings), 0, "a start with settings");
+    for (unsigned line = 0; line < NGACHODUI_LINES; line++) {
+        const ngachodui_line fresh = {NGACHODUI_NEUTRAL, 0, 0, 0, 1, 0, 0, 0, 0, 0, settings[line].speaks, 0, 0, 0, {0, 0}};
+        check(memcmp(&lines[line], &fresh, sizeof fresh) == 0, "a line after it");
+    }
+    check_number(counts->in_use, 0, "bytes in use after it");
+    check_number(numbers->blocks[7][238], 0, "the last number after it");
+}
+
+static void test_upload(void)
+{
+    start_readers();
+    check_block(BYTES(REP), NGACHODUI_HEARD, "", "REP, and nothing was replied yet");
+    check_number(lines[2].since, 1, "REP is kept in mind");
+    check_block(BYTES(SPM), NGACHODUI_HEARD, MOR, "SPM");
+    check_number(lines[2].reply, NGACHODUI_MORE, "our last reply");
+    memset(gateway.unfinished, 0x55, sizeof gateway.unfinished);
+    check_block(finding, E_BLOCK, NGACHODUI_STORED, MOR, "a finding");
+    check_number(lines[2].kept, 1, "it is kept");
+    check_number(lines[2].since, 0, "and nothing came since");
+    for (unsigned i = 0; i < E_BLOCK; i++)
+        check_number(numbers->blocks[2][i], finding[i], "the block that is kept");
+    check_number(numbers->blocks[2][E_BLOCK], 0, "behind it");
+    check(gateway.unfinished[2 * NGACHODUI_TEXT_LIMIT] == 0x55, "no unfinished text is written");
+
+    uint8_t colours[D_BLOCK];
+    memset(colours, ' ', sizeof colours);
+    memcpy(colours, "\x02;D", 3);
+    memcpy(colours + D_BLOCK - 4, "\x03" "xx\r", 4);
+    mend(colours, D_BLOCK);
+    check_block(colours, D_BLOCK, NGACHODUI_HEARD, MOR, "colours");
+    check_block(finding, E_BLOCK, NGACHODUI_STORED, MOR, "the finding again, without SPM or REP between");
+    check_block(BYTES(SPM), NGACHODUI_HEARD, MOR, "SPM again");
+    check_block(finding, E_BLOCK, NGACHODUI_HEARD, MOR, "the finding again, with SPM between");
+    check_block(BYTES(END), NGACHODUI_HEARD, "", "END");
+    check_number(lines[2].serial, 2, "two are stored");
+    for (unsigned serial = 0; serial < 2; serial++) {
+        const ngachodui_answered a = take_from(2, sizeof buffer);
+        check_number(a.number, NGACHODUI_TAKEN, "a finding taken");
+        check_number((unsigned)a.length, sizeof finding_message - 1, "its length");
+        check(memcmp(buffer, finding_message, sizeof finding_message - 1) == 0, "its message");
+    }
+    check(ngachodui_is_message(finding_message, sizeof finding_message - 1), "it is one");
+}
+
+static void test_refused_blocks(void)
+{
+    uint8_t block[E_BLOCK];
+    start_readers();
+    check_block(BYTES("\x02<\x03" "3C\r"), NGACHODUI_ODD_TEST, REP, "the other way to test");
+    check_number(lines[2].since, 0, "a refused SPM is none");
+    check_block(BYTES("\x02<\r"), NGACHODUI_ODD_LENGTH, REP, "a short block");
+    check_block(BYTES(MOR), NGACHODUI_ODD_BYTE, REP, "MOR of the reader");
+    check_block(BYTES(REP), NGACHODUI_HEARD, REP, "REP: our last reply");
+    memcpy(block, finding, sizeof block);
+    block[5] = 0x7e;
+    check_block(block, sizeof block, NGACHODUI_ODD_TEST, REP, "a byte altered");
+    mend(block, sizeof block);
+    check_block(block, sizeof block, NGACHODUI_ODD_BYTE, REP, "a byte that is no data");
+    block[5] = 0x7d;
+    mend(block, sizeof block);
+    check_block(block, sizeof block, NGACHODUI_STORED, MOR, "the last byte that is");
+    /* the other reader's length: what has come is one of no length there */
+    check_number(send(5, finding, E_BLOCK, "a block on the other line").number, NGACHODUI_ODD_LENGTH, "the other reader's block");
+    /* no room, made by hand: the whole journal is the message of line 7 */
+    static const uint8_t header[4] = {7 << 5, 1, 0, 0};
+    memset(gateway.journal, 'x', sizeof gateway.journal);
+    for (unsigned at = 0; at < 32765; at += 5)
+        memcpy(gateway.journal + at, header, sizeof header);
+    counts->in_use = counts->used[7] = 32765;
+    counts->used[2] = 0;
+    check_block(finding, E_BLOCK, NGACHODUI_NO_ROOM, "", "a finding without room");
+    check_number(lines[2].reply, NGACHODUI_MORE, "our last reply is the one before");
+    check_number(lines[2].refusing, 0, "nothing is refused later");
+    counts->in_use = 32764;
+    check_number(send(2, finding, E_BLOCK, "a broken journal").number, NGACHODUI_BROKEN, "a finding and a broken journal");
+    check_number(lines[2].collected, E_BLOCK - 1, "the block lacks its last byte");
+    counts->in_use = 0;
+    counts->used[7] = 0;
+    check_number(byte_on(2, '\r').number, NGACHODUI_STORED, "its last byte");
+}
+
+static void test_reader_lines(void)
+{
+    start_readers();
+    for (unsigned byte = 0; byte < 256; byte++)
+        if (byte != NGACHODUI_STX)
+            check_number(byte_on(2, (uint8_t)byte).number, NGACHODUI_NOTHING, "a byte between blocks");
+    check_number(seconds_on(2, 255).number, NGACHODUI_NOTHING, "seconds on a reader's line");
+    check_no_start(2, "H|\\^&\rL|1\r", NGACHODUI_NOT_NEUTRAL, 0);
+    check_no_start(2, "", NGACHODUI_NOT_NEUTRAL, 0);
+    ngachodui_made m = fetch_from(2, 0);
+    check_number(m.number, NGACHODUI_DONE, "nothing was replied yet");
+    check_number((unsigned)m.length, 0, "nothing to fetch");
+    check_block(BYTES(SPM), NGACHODUI_HEARD, MOR, "SPM");
+    check_number(fetch_from(2, 5).number, NGACHODUI_NOT_FITTING, "5 bytes for 6");
+    check_number(byte_on(0, 0x05).number, NGACHODUI_OPENED, "ENQ on a line of frames");
+
+    static const struct { uint16_t collected, speaks, reply, since, kept; } beyond[] = {
+        {236, 10, 0, 0, 0}, {239, 13, 0, 0, 0}, {246, 0, 0, 0, 0}, {0, 11, 0, 0, 0}, {0, 10, 3, 0, 0}, {0, 10, 0, 2, 0}, {0, 10, 0, 0, 2},
+        {235, 10, 2, 1, 1}, {238, 13, 2, 1, 1}, {245, 0, 9, 9, 9},
+    };
+    for (size_t i = 0; i < sizeof beyond / sizeof beyond[0]; i++) {
+        lines[2].collected = beyond[i].collected;
+        lines[2].speaks = beyond[i].speaks;
+        lines[2].reply = beyond[i].reply;
+        lines[2].since = beyond[i].since;
+        lines[2].kept = beyond[i].kept;
+        const unsigned number = i < 7 ? NGACHODUI_BEYOND_LIMITS : 0;
+        check_number(seconds_on(2, 0).number, number, "numbers of a reader's line");
+        check_number(fetch_from(2, 6).number, number, "fetched then");
+    }
+    static const uint16_t none[NGACHODUI_BLOCK_LIMIT] = {0};
+    static ngachodui_gateway before;
+    before = gateway;
+    ngachodui_settings settings[NGACHODUI_LINES] = {{0}, {10}, {13}, {0}, {0}, {0}, {0}, {12}};
+    check_number(ngachodui_on_start(&gateway, settings), NGACHODUI_BEYOND_LIMITS, "a line that speaks 12");
+    check(memcmp(&before, &gateway, sizeof before) == 0, "nothing is changed then");
+    settings[7].speaks = 0;
+    check_number(ngachodui_start(settings, numbers, counts), 0, "a start");
+    check_number(lines[1].speaks, 10, "what line 1 speaks");
+    check_number(lines[2].reply, 0, "the last reply of line 2");
+    start();
+    check_number(lines[1].speaks, NGACHODUI_FRAMES, "fresh, every line speaks frames");
+    check(memcmp(numbers->blocks[2], none, sizeof none) == 0, "and no block is kept");
+}
+
+static void test_readers(void)
+{
+    test_upload();
+    test_refused_blocks();
+    test_reader_lines();
+}
+
 /* A gateway saved when a message was stored, and loaded: the last frame again is a repeat, 30 seconds end the
  * transfer, and the message waits. */
 static void test_saved(void)
 {
     static ngachodui_gateway saved;
-    check_number(sizeof gateway, 67028, "the size of a gateway");
+    check_number(sizeof gateway, 70852, "the size of a gateway");
     start();
     check_number(byte_on(6, 0x05).number, NGACHODUI_OPENED, "ENQ on line 6");
     check_number(send(6, BYTES("\x02" "1H|\\^&\r" "L|1|N\r" "\x03" "B5\r\n"), "a frame").number, NGACHODUI_STORED, "the message to save");
@@ -519,7 +703,8 @@ static void test_sizes(void)
     start();
     const ngachodui_layout layout = ngachodui_sizes();
     check_number(layout.version, NGACHODUI_VERSION, "the version");
-    check_number(layout.version, 2, "the version of a line of 16 numbers");
+    check_number(layout.version, 3, "the version with the readers' blocks");
+    check_number(layout.numbers, 2040, "as many numbers");
     check_number(layout.numbers, sizeof gateway.state.numbers / (sizeof(uint16_t)), "the numbers of the lines");
     check_number(layout.counts, sizeof gateway.state.counts / (sizeof(uint32_t)), "the counts");
     check_number(layout.journal, sizeof gateway.journal, "the journal's size");
@@ -691,6 +876,7 @@ static void work(void)
     test_cut_and_sent();
     test_faults();
     test_sendings();
+    test_readers();
     test_delimiters();
     test_texts();
 }
@@ -723,6 +909,7 @@ int main(void)
     test_cut_and_sent();
     test_faults();
     test_sendings();
+    test_readers();
     test_saved();
     test_saved_sending();
     test_seconds();

@@ -8,7 +8,7 @@ static ngachodui_gateway gateway;
 int main(void)
 {
     const uint8_t line = 0, enq = 0x05;
-    if (!ngachodui_start(&gateway))
+    if (!ngachodui_on_fresh(&gateway))
         return 1; /* the library has another layout than the header */
     ngachodui_answered answer = ngachodui_on_byte(&gateway, line, enq);
     printf("answer %u, reply %02X\n", answer.number, answer.reply);

@@ -107,7 +107,7 @@ int main(void)
     unsigned long long events = 0;
     bool bad = false;
 
-    if (!ngachodui_start(&gateway)) {
+    if (!ngachodui_on_fresh(&gateway)) {
         fprintf(stderr, "replay: the library has another layout than its header\n");
         return 1;
     }

@@ -12,11 +12,10 @@ use Rattle.settings.specs.declared.Patient.{Patient}
 use Rattle.block.specs.Places.{matches}
 use Rattle.block.specs.Layouts.{spm, rep, end, mor, controlBlock}
 use Rattle.block.specs.Judged.{controlLength, isLength, testFrom, testByte, highTest, lowTest, isTested, controlOf, judgedOf}
-use Rattle.block.specs.declared.Judged.{Judged}
-use Rattle.block.specs.declared.Judged.the-variants.{OddByte, Multiple, Repeat, End}
+use Rattle.block.specs.declared.Judged.the-variants.{Multiple, Repeat, End}
 use Rattle.block.specs.Controls.{controlBytes, ControlPut}
 
--- every control block passes the tests of its length, of its test bytes and of its layout, whatever its code
+-- every control block, MOR too, passes the tests of its length, of its test bytes and of its layout, whatever its code
 pub control-long : (code : ℕ) → length (controlBytes code) ≡ controlLength
 unfolding controlBytes
 control-long code = refl
@@ -42,7 +41,7 @@ judged-by-code p code = rw (control-long code, control-tested code)
 -- those of a reader are what it says
 pub control-judged : (p : Patient) → (judgedOf p (controlBytes spm) ≡ Multiple) × (judgedOf p (controlBytes rep) ≡ Repeat) × (judgedOf p (controlBytes end) ≡ End)
 unfolding controlOf controlBytes
-control-judged p = (judged-by-code p spm ∙ refl, judged-by-code p rep ∙ refl, judged-by-code p end ∙ refl)
+control-judged p = (judged-by-code p spm, judged-by-code p rep, judged-by-code p end)
 
 -- the blocks that the maker prints as examples: SPM, MOR, REP [B4]
 pub control-examples :
@@ -52,8 +51,8 @@ pub control-examples :
 unfolding controlBytes testFrom
 control-examples = (refl, refl, refl)
 
+-- the bytes of the block were copied, or did not fit
 module _ (code : ℕ) (out : List ℕ) where
-  -- the block's bytes were copied, or did not fit
   put-so : {b : List ℕ} {done : Bool} {out′ : List ℕ} {r : ℕ} → b ≡ controlBytes code → Copied out 0 b done out′ → r ≡ cond done controlLength 0 → ControlPut code out r out′
   put-so e c q = record {
     answer = q ∙ ap (λ (d : Bool). cond d controlLength 0) (c .answer ∙ ap (fitsAt out 0) e);

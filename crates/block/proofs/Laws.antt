@@ -1,6 +1,6 @@
 -- What a judged block is known to be.
 -- Assumes nothing.
-use mathlib.Core.Path.{_≡_, refl, sym, ap, _∙_}
+use mathlib.Core.Path.{_≡_, refl, _∙_}
 use mathlib.Core.Bool.{Bool, true, false, cond, _||_}
 use mathlib.Core.List.{List}
 use Prim.Native.Nat.{ℕ, _≤_}
@@ -15,7 +15,6 @@ use Rattle.settings.specs.declared.Patient.the-variants.{Ten, Thirteen}
 use Rattle.block.specs.Places.{matches}
 use Rattle.block.specs.Layouts.{spm, rep, end, controlBlock, resultsBlock, coloursBlock}
 use Rattle.block.specs.Judged.{controlLength, isLength, isTested, controlOf, dataOf, judgedOf}
-use Rattle.block.specs.declared.Judged.{Judged}
 use Rattle.block.specs.declared.Judged.the-variants.{OddLength, OddTest, OddByte, Multiple, Repeat, End, Colours, Results}
 use Rattle.block.proofs.Matching.{matches-long}
 
@@ -24,7 +23,7 @@ one-of true b c e f g h = f refl
 one-of false true c e f g h = g refl
 one-of false false c e f g h = h e
 
-lengths-long : (p : Patient) → (6 ≤ coloursLength p) × (6 ≤ resultsLength p)
+lengths-long : (p : Patient) → (controlLength ≤ coloursLength p) × (controlLength ≤ resultsLength p)
 lengths-long Ten = (omega arith, omega arith)
 lengths-long Thirteen = (omega arith, omega arith)
 
@@ -38,6 +37,7 @@ at-least-six p n e =
     (λ q. omega (arith, eqb-true n (coloursLength p) q))
     (λ q. omega (arith, eqb-true n (resultsLength p) q))
 
+-- the layout of results is as long as it is said to be
 results-long : (p : Patient) → length (resultsBlock p) ≡ resultsLength p
 unfolding resultsBlock
 results-long Ten = refl

@@ -11,6 +11,7 @@ use lib.ListN.{length, getD, drop, drop-of-length-le}
 use lib.Seq.{drop-cons}
 use Rattle.memory.proofs.Tests.{clash, and-right, is-false}
 use Rattle.characters.specs.Control.{stx, etx, cr}
+use Rattle.settings.specs.declared.Patient.{Patient}
 use Rattle.block.specs.Places.{Place, fixed, datum, test, fits, matches}
 use Rattle.block.specs.Layouts.{controlBlock}
 use Rattle.block.specs.Inner.Template.{dot, hash, isMark, placeOf, placesOfTemplate}
@@ -55,6 +56,10 @@ module _ (ms bs : List ℕ) where
     from-done e h q =
         let k : length ms ≤ i = omega arith in
         rw (drop-of-length-le ms k, drop-of-length-le bs h) at q
+
+-- a layout for each length of a patient number, at the length that is told
+pub of-patient : (layout : Patient → List Place) (bs : List ℕ) {p q : Patient} {r : Bool} → r ≡ matches (layout q) bs → p ≡ q → r ≡ matches (layout p) bs
+of-patient layout bs e h = rw h e
 
 -- a byte that is no mark stands for itself, and so a control block has this template
 not-mark : (m : ℕ) → isMark m ≡ false → placeOf m ≡ fixed m

@@ -1,7 +1,7 @@
--- Laws of the test byte: a scan of the bytes that it counts, and both of its halves told apart from the bytes of a block.
+-- Laws of the test byte: a scan of the bytes that it counts, and a block tested by its two halves.
 -- Assumes nothing.
-use mathlib.Core.Path.{_≡_, refl, sym, ap, _∙_}
-use mathlib.Core.Bool.{Bool, false}
+use mathlib.Core.Path.{_≡_}
+use mathlib.Core.Bool.{false}
 use mathlib.Core.List.{List}
 use Prim.Native.Nat.{ℕ, _+_, _-_, _≤_, _<_}
 use native.Mathlib.Numerals.{add-one}

@@ -10,6 +10,7 @@ use settings::Patient;
 mod layout; // layout.rt: the templates of the blocks
 mod testing; // testing.rt: their test bytes
 
+// The bytes of a control block.
 pub const CONTROL_LENGTH: usize = 6;
 
 // The codes of control blocks: a reader asks whether we are ready, or for our last reply again, or ends; we want more.
@@ -105,8 +106,8 @@ pub fn put_control(code: u8, out: &mut [u8]) -> usize
     0
 }
 
-// The bytes of a control block.
-fn control_block(code: u8) -> [u8; 6]
+// The control block with this code.
+fn control_block(code: u8) -> [u8; CONTROL_LENGTH]
     ensures { λ r. ⌜ r ≡ controlBytes code ⌝ }
 {
     let counted = [STX, code, ETX];

@@ -6,10 +6,8 @@ use mathlib.Core.List.{List, [], _∷_}
 use lib.Dec.{eqb}
 use Rattle.memory.specs.Tests.{is, unless}
 use Rattle.characters.specs.Control.{stx}
-use Rattle.block.specs.Layouts.{mor, rep}
-use Rattle.block.specs.Controls.{controlBytes}
+use Rattle.strips.specs.Replies.{replyBlock}
 use Rattle.strips.specs.declared.Replied.{Replied}
-use Rattle.strips.specs.declared.Replied.the-variants.{NoneYet, More, Again}
 
 -- the number of every answer in a sending that is not given up [A9]
 abbrev pub sends : ℕ
@@ -18,12 +16,6 @@ sends = 9
 -- by an answer's number, the first byte that goes out with it (0 for none), and the frame that its line then offers: with STX the whole frame goes out [S2]
 abbrev pub outBytes : ℕ → ℕ → List ℕ → List ℕ
 outBytes number first frame = unless (eqb number sends) [] (cond (eqb first 0) [] (cond (is stx first) frame (first ∷ [])))
-
--- our last reply to a reader: that it may send more, or is to send again [B4, B11]
-abbrev pub replyBlock : Replied → List ℕ
-replyBlock NoneYet = []
-replyBlock More = controlBytes mor
-replyBlock Again = controlBytes rep
 
 -- by the first byte that goes out with an answer on a reader's line: with STX our last reply goes out, whole, and else nothing [B11]
 abbrev pub blockOut : ℕ → Replied → List ℕ

@@ -2,12 +2,12 @@
 -- Assumes nothing.
 use Prim.Native.Nat.{ℕ, zero, suc, _+_, _*_}
 use mathlib.Core.Path.{_≡_}
-use mathlib.Core.Bool.{Bool, cond, _||_}
+use mathlib.Core.Bool.{Bool, true, cond, _&&_, _||_}
 use mathlib.Core.List.{List, [], _∷_, _++_}
 use lib.Dec.{eqb}
 use lib.ListN.{getD, replicate}
 use Rattle.memory.specs.Sizes.{lines, journalSize, unfinishedSize, framesSize}
-use Rattle.memory.specs.Tests.{all, unless}
+use Rattle.memory.specs.Tests.{unless}
 use Rattle.settings.specs.Settings.{blockLimit}
 use Rattle.layout.specs.declared.Layout.{Layout}
 
@@ -115,8 +115,12 @@ pub record Fresh (ns us : List ℕ) : Type 0 where
   pub counts : us ≡ replicate (lines + 1) 0
 
 -- a start with what each line speaks: 0, or 42 where one of them is nothing that a line can speak, and then nothing is changed [B1, B12]
+abbrev pub spokenFrom : List ℕ → ℕ → ℕ → Bool
+spokenFrom ts i zero = true
+spokenFrom ts i (suc n) = isSpoken (getD ts i 0) && spokenFrom ts (i + 1) n
+
 abbrev pub canStart : List ℕ → Bool
-canStart ts = all isSpoken ts
+canStart ts = spokenFrom ts 0 lines
 
 pub record Started (ts ns us : List ℕ) (r : ℕ) (ns′ us′ : List ℕ) : Type 0 where
   pub answer : r ≡ cond (canStart ts) 0 42

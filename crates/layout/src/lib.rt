@@ -7,6 +7,7 @@
 //            of that block
 //   counts   each line's used count, then how many bytes of the journal are in use
 ghost use mathlib.Core.Path.{_≡_};
+ghost use Rattle.layout.specs.Inner.Speaks.{allPut};
 ghost use Rattle.layout.specs.Layout.{layout, isSpoken, canStart, Fresh, Started};
 
 // A line's numbers are so many; the first is its state, and the others stand so far behind it.
@@ -95,6 +96,13 @@ pub fn start(
         return 42;
     }
     fresh(numbers, counts);
+    put_speaks(speaks, numbers);
+    0
+}
+
+fn put_speaks(speaks: &[u16; memory::LINES], numbers: &mut [u16; NUMBERS])
+    ensures { λ _. ⌜ now (numbers .exit) ≡ allPut (now (speaks .entry)) (now (numbers .entry)) ⌝ }
+{
     numbers[0 * FIELDS + SPEAKS] = speaks[0];
     numbers[1 * FIELDS + SPEAKS] = speaks[1];
     numbers[2 * FIELDS + SPEAKS] = speaks[2];
@@ -103,7 +111,6 @@ pub fn start(
     numbers[5 * FIELDS + SPEAKS] = speaks[5];
     numbers[6 * FIELDS + SPEAKS] = speaks[6];
     numbers[7 * FIELDS + SPEAKS] = speaks[7];
-    0
 }
 
 fn can_start(speaks: &[u16; memory::LINES]) -> bool

@@ -1,6 +1,10 @@
 // A strip reader's line: what a byte does there, and what a whole block comes to before the journal is asked.
 ghost use mathlib.Core.Path.{_≡_};
+ghost use mathlib.Core.Bool.{_||_};
+ghost use Rattle.memory.specs.Tests.{is};
+ghost use Rattle.characters.specs.Control.{stx};
 ghost use Rattle.strips.specs.Readers.{freshReader};
+ghost use Rattle.strips.specs.Replies.{repliedOf, replyNumber};
 ghost use Rattle.strips.specs.Sights.{isInside, sightOf};
 ghost use Rattle.block.specs.declared.Judged.the-variants.{Results};
 ghost use Rattle.strips.specs.Hearings.{repliedWith, markedWith, replyAnswer, filedReader, hears, hearingOf};
@@ -53,15 +57,36 @@ impl Reader {
     }
 }
 
+// Our last reply by its number, and its number.
+pub fn replied_of(n: u16) -> Replied
+    ensures { λ r. ⌜ r ≡ repliedOf n ⌝ }
+{
+    if n == 0 {
+        return Replied::NoneYet;
+    }
+    if n == 1 {
+        return Replied::More;
+    }
+    Replied::Again
+}
+
+pub fn reply_number(reply: Replied) -> u16
+    ensures { λ r. ⌜ r ≡ replyNumber reply ⌝ }
+{
+    match reply {
+        Replied::NoneYet => 0,
+        Replied::More => 1,
+        Replied::Again => 2,
+    }
+}
+
 // A byte on a reader's line: between blocks all but STX is ignored.
 pub fn see(patient: Patient, line: Line, byte: u8) -> Sight
     ensures { λ r. ⌜ r ≡ sightOf patient line byte ⌝ }
 {
     let state = line.state;
-    if !is_inside(state) {
-        if byte != STX {
-            return Sight::Ignores;
-        }
+    if !takes(state, byte) {
+        return Sight::Ignores;
     }
     if byte == CR {
         return Sight::Judges;
@@ -70,6 +95,15 @@ pub fn see(patient: Patient, line: Line, byte: u8) -> Sight
         return Sight::Judges;
     }
     Sight::Adds
+}
+
+fn takes(state: State, byte: u8) -> bool
+    ensures { λ r. ⌜ r ≡ isInside state || is stx byte ⌝ }
+{
+    if is_inside(state) {
+        return true;
+    }
+    byte == STX
 }
 
 fn is_inside(state: State) -> bool

@@ -2,10 +2,10 @@
 //!
 //! The code names an answer by its number in that table.
 
-use crate::texts::{ACK, NAK};
+use crate::texts::{ACK, NAK, STX};
 
 /// What an event, a start or a taking gives. The reply is the first byte that goes to the analyzer, if
-/// any does: of a frame that is sent it is the STX. Length and serial are those of the entry taken with
+/// any does: of a frame or a block that is sent it is the STX. Length and serial are those of the entry taken with
 /// answer 8; place is that of the wrong record with a fault, counted from 1. They are 0 with every other
 /// number.
 #[derive(Clone, Copy, PartialEq, Eq, Debug)]
@@ -54,6 +54,15 @@ impl Answer {
         }
     }
 
+    /// The answer to a block of a strip reader, and whether a reply goes out, which is a block too: MOR or
+    /// REP.
+    pub fn replied(number: u8, replies: bool) -> Answer {
+        Answer {
+            reply: replies.then_some(STX),
+            ..Answer::plain(number)
+        }
+    }
+
     /// A start that is refused for its text: whatever the number, nothing goes to the analyzer, which
     /// has asked for nothing.
     pub fn refused(refusal: Refusal) -> Answer {
@@ -85,8 +94,8 @@ impl Refusal {
     }
 }
 
-/// The table's third column: the byte sent back, or none. What goes out with 9 is not told by the number.
-/// [O1]
+/// The table's third column: the byte sent back, or none. What goes out with 9, and on a reader's line, is
+/// not told by the number. [O1]
 pub fn reply(number: u8) -> Option<u8> {
     match number {
         1..=4 => Some(ACK),
@@ -126,6 +135,15 @@ mod tests {
         for first in [None, Some(0x02), Some(0x04), Some(0x05)] {
             let answer = Answer::sending(first);
             assert_eq!((answer.number, answer.reply), (9, first));
+        }
+    }
+
+    #[test]
+    fn a_reply_to_a_reader_is_a_block() {
+        for number in [4, 11, 31, 70, 71, 72] {
+            let replied = Answer::replied(number, true);
+            assert_eq!((replied.number, replied.reply), (number, Some(0x02)));
+            assert_eq!(Answer::replied(number, false).reply, None);
         }
     }
 }

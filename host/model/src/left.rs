@@ -1,8 +1,9 @@
-//! What is left after each answer: by its number alone, the rules L1 to L12 say all that has changed. Here
+//! What is left after each answer: by its number alone, the rules L1 to L12 and B7 say all that has changed. Here
 //! that is written once more, by the answers and not by the events, and compared with the model byte
 //! for byte under traffic of all mixes.
 
 use crate::answers::Answer;
+use crate::blocks::Patient;
 use crate::lines::{Kind, Line, State};
 use crate::traffic::Traffic;
 use crate::world::{Fetched, Op, World, BLANK};
@@ -59,6 +60,104 @@ fn place_behind(before: &World, line: u8) -> usize {
     }
 }
 
+/// The world after an event on a reader's line that was given this answer.
+fn after_upload(before: &World, line: u8, kind: Kind, answer: Answer) -> World {
+    let mut world = before.clone();
+    let n = usize::from(line);
+    let record = &mut world.model.lines[n];
+    let old = *record;
+    let byte = match kind {
+        Kind::Byte(byte) if old.state == State::Inside || byte == 0x02 => byte,
+        // Seconds, and all but STX between blocks: nothing.
+        _ => {
+            assert_eq!((answer.number, answer.reply), (0, None));
+            return world;
+        }
+    };
+    if answer.number == 43 {
+        return world;
+    }
+    // A byte of a block, the last one too; what a sending had is gone, should there have been one.
+    world.frames[246 * n + old.collected] = byte;
+    record.tries = 0;
+    record.place = 0;
+    if answer.number == 0 {
+        record.state = State::Inside;
+        record.collected += 1;
+        return world;
+    }
+    record.state = State::Neutral;
+    record.collected = 0;
+    record.joined = 0;
+    record.seconds = 0;
+    let block = world.frames[246 * n..][..old.collected + 1].to_vec();
+    let reader = &mut world.model.readers[n];
+    match answer.number {
+        70..=72 => {
+            assert_eq!(answer.reply, Some(0x02));
+            reader.reply = 2;
+        }
+        31 => assert_eq!(answer.reply, None),
+        4 => {
+            assert_eq!(answer.reply, Some(0x02));
+            reader.reply = 1;
+            reader.since = 0;
+            reader.kept = 1;
+            for (kept, &byte) in reader.block.iter_mut().zip(&block) {
+                *kept = byte.into();
+            }
+            // An entry of the journal's end, whose text is what the message's definition says: here only
+            // its length and its bytes are taken over.
+            let ledger = &mut world.model.ledger;
+            let start = ledger.in_use;
+            let patient = usize::from(reader.speaks);
+            let patient = Patient::ALL.into_iter().find(|p| p.characters() == patient);
+            let text = crate::blocks::message(patient.expect("a reader"), &block);
+            let serial = ledger.serials[n];
+            let entry = [
+                line << 5 | (text.len() / 256) as u8,
+                (text.len() % 256) as u8,
+                (serial / 256) as u8,
+                (serial % 256) as u8,
+            ];
+            world.journal[start..start + 4].copy_from_slice(&entry);
+            world.journal[start + 4..][..text.len()].copy_from_slice(&text);
+            ledger.in_use += 4 + text.len();
+            ledger.used[n] += 4 + text.len();
+            ledger.serials[n] = serial.wrapping_add(1);
+        }
+        11 => match block[..] {
+            [_, 0x3A, ..] => assert_eq!(answer.reply, None),
+            [_, 0x3F, ..] => {
+                assert_eq!(answer.reply.is_some(), reader.reply != 0);
+                reader.since = 1;
+            }
+            [_, code, ..] => {
+                assert_eq!(answer.reply, Some(0x02));
+                reader.reply = 1;
+                if code == 0x3C {
+                    reader.since = 1;
+                }
+            }
+            _ => unreachable!("a block has six bytes"),
+        },
+        number => unreachable!("answer {} on a reader's line", number),
+    }
+    world
+}
+
+/// The world after a beginning that was given this answer.
+fn after_begin(before: &World, settings: &[u16; 8], answer: Answer) -> World {
+    let mut world = before.clone();
+    if answer.number == 0 {
+        world.model = World::fresh(0).model;
+        for (reader, speaks) in world.model.readers.iter_mut().zip(settings) {
+            reader.speaks = *speaks;
+        }
+    }
+    world
+}
+
 /// The world after a start that was given this answer.
 fn after_start(before: &World, line: u8, text: &[u8], answer: Answer) -> World {
     let mut world = before.clone();
@@ -99,6 +198,9 @@ fn after_event(before: &World, line: u8, kind: Kind, answer: Answer) -> World {
         return world;
     }
     let n = usize::from(line);
+    if world.model.readers[n].patient().is_some() {
+        return after_upload(before, line, kind, answer);
+    }
     let record = &mut world.model.lines[n];
     let old = *record;
     // A transfer opened or over, a sending given up: the record, and no memory.
@@ -222,7 +324,7 @@ fn each_answer_leaves_what_the_rules_say() {
     let mut world = World::fresh(0x2D);
     let mut traffic = Traffic::new(11);
     let mut seen = [0; 256];
-    for _ in 0..60_000 {
+    for _ in 0..100_000 {
         let op = traffic.next(&world);
         let before = world.clone();
         let answer = world.apply(&op);
@@ -231,6 +333,7 @@ fn each_answer_leaves_what_the_rules_say() {
             (Op::Start { line, text }, Some(answer)) => {
                 after_start(&before, *line, &text.0, answer)
             }
+            (Op::Begin { settings }, Some(answer)) => after_begin(&before, settings, answer),
             (Op::Take { line, buffer }, Some(answer)) => {
                 after_taking(&before, *line, *buffer, answer)
             }
@@ -250,7 +353,7 @@ fn each_answer_leaves_what_the_rules_say() {
         assert_eq!(answer.place > 0, has_place, "{:?}: {:?}", op, answer);
     }
     let known = (0..=9).chain(20..=31).chain(40..=46).chain(50..=55);
-    for number in known.chain([60, 61]) {
+    for number in known.chain([11, 60, 61, 70, 71, 72]) {
         assert!(seen[number] > 0, "answer {} did not occur", number);
     }
 }

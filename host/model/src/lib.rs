@@ -1,5 +1,6 @@
 //! A model of the rules in docs/RULES.md: the eight lines, their frames and messages, the sending of
-//! messages, the journal with its shares, cutting, escaping and the replay listing.
+//! messages, strip readers and their blocks, the journal with its shares, cutting, escaping and the replay
+//! listing.
 //!
 //! It is written without the crates, for reading beside that page: answers are their
 //! numbers, a comment names the subject of each rule where it is applied, and where the rules leave
@@ -10,6 +11,7 @@
 //! what no run reaches.
 
 pub mod answers;
+pub mod blocks;
 pub mod cutting;
 pub mod delimiters;
 pub mod escapes;
@@ -22,9 +24,11 @@ pub mod records;
 pub mod sender;
 pub mod texts;
 pub mod traffic;
+pub mod uploads;
 pub mod world;
 
 pub use answers::{reply, Answer, Refusal};
+pub use blocks::Patient;
 pub use cutting::cut;
 pub use delimiters::Delimiters;
 pub use escapes::{escape, unescape};
@@ -50,5 +54,7 @@ mod dialogues;
 mod examples;
 #[cfg(test)]
 mod left;
+#[cfg(test)]
+mod readings;
 #[cfg(test)]
 mod sendings;

@@ -121,7 +121,12 @@ impl Line {
     /// Answer 42 is given where this fails. State and counts need not agree, nor a place and the text's
     /// length; tries and place belong to states of a sending, and are 0 in the others. [E11, S3, H3]
     pub fn is_within_limits(&self) -> bool {
-        self.collected <= COLLECTED_LIMIT
+        self.is_within(COLLECTED_LIMIT)
+    }
+
+    /// The same where another number of bytes is the most that can be collected.
+    pub fn is_within(&self, most_collected: usize) -> bool {
+        self.collected <= most_collected
             && self.joined <= JOINED_LIMIT
             && self.seconds <= SECONDS_LIMIT
             && self.next <= NUMBER_LIMIT

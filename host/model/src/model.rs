@@ -8,28 +8,46 @@ use crate::lines::{Kind, Line, State, Step, JOINED_LIMIT};
 use crate::records::{last_record_begins_with, read};
 use crate::sender;
 use crate::texts::{CR, ENQ};
+use crate::uploads::{settled, Reader};
 use crate::{FRAMES, FRAME_PART, JOURNAL, LINES, UNFINISHED, UNFINISHED_PART};
 
 /// How many numbers a host keeps for each line, and how many of them are spare.
 pub const FIELDS: usize = 16;
-pub const SPARE_FIELDS: usize = 6;
+pub const SPARE_FIELDS: usize = 2;
 
 /// All that is kept between calls, beside the three memories that the caller lends.
 #[derive(Clone, PartialEq, Eq, Debug)]
 pub struct Model {
     pub lines: [Line; LINES],
+    pub readers: [Reader; LINES],
     pub ledger: Ledger,
     /// Each line's spare numbers: 0 when fresh; no call looks at them or changes them.
     pub spare: [[u16; SPARE_FIELDS]; LINES],
 }
 
 impl Model {
-    /// A gateway that nothing has happened to.
+    /// A gateway that nothing has happened to, whose lines all speak frames.
     pub fn fresh() -> Model {
+        Model::of([0; LINES].map(Reader::fresh))
+    }
+
+    fn of(readers: [Reader; LINES]) -> Model {
         Model {
             lines: [Line::fresh(); LINES],
+            readers,
             ledger: Ledger::fresh(),
             spare: [[0; SPARE_FIELDS]; LINES],
+        }
+    }
+
+    /// Fresh again, each line speaking as it is set here: answer 0; or 42, and nothing is changed. [B12]
+    pub fn begin(&mut self, settings: &[u16; LINES]) -> Answer {
+        match settled(settings) {
+            Ok(readers) => {
+                *self = Model::of(readers);
+                Answer::plain(0)
+            }
+            Err(number) => Answer::plain(number),
         }
     }
 
@@ -47,6 +65,11 @@ impl Model {
         numbers[7] = self.ledger.serials[line];
         numbers[8] = record.tries as u16;
         numbers[9] = record.place as u16;
+        let reader = &self.readers[line];
+        numbers[10] = reader.speaks;
+        numbers[11] = reader.reply;
+        numbers[12] = reader.since;
+        numbers[13] = reader.kept;
         numbers[FIELDS - SPARE_FIELDS..].copy_from_slice(&self.spare[line]);
         numbers
     }
@@ -64,6 +87,9 @@ impl Model {
             return Answer::plain(number);
         }
         let line = usize::from(line);
+        if let Some(patient) = self.readers[line].patient() {
+            return self.upload(line, patient, kind, journal, frames);
+        }
         match (self.lines[line].step(kind), kind) {
             (Step::Done(number), _) => Answer::plain(number),
             (Step::Send, _) => {
@@ -93,11 +119,17 @@ impl Model {
         if journal.len() != JOURNAL || unfinished.len() != UNFINISHED || frames.len() != FRAMES {
             return Some(41);
         }
-        (!self.lines[line].is_within_limits()).then_some(42)
+        (!self.is_within_limits(line)).then_some(42)
     }
 
-    /// The start of a sending. It is an event of its line, and tested as one; then the line must be
-    /// neutral, and then the text a message. A refusal leaves everything, and sends nothing. [S1, O7]
+    /// Whether a line's numbers are those of a record. [E11, B12]
+    pub fn is_within_limits(&self, line: usize) -> bool {
+        let reader = &self.readers[line];
+        reader.is_within_limits() && self.lines[line].is_within(reader.most_collected())
+    }
+
+    /// The start of a sending. It is an event of its line, and tested as one; then the line must speak frames
+    /// and be neutral, and then the text a message. A refusal leaves everything, and sends nothing. [S1, O7]
     pub fn start(
         &mut self,
         line: u8,
@@ -110,7 +142,8 @@ impl Model {
             return Answer::plain(number);
         }
         let line = usize::from(line);
-        if self.lines[line].state != State::Neutral {
+        let is_reader = self.readers[line].patient().is_some();
+        if is_reader || self.lines[line].state != State::Neutral {
             return Answer::plain(60);
         }
         if let Err(refusal) = read(text) {
@@ -122,8 +155,8 @@ impl Model {
         Answer::sending(Some(ENQ))
     }
 
-    /// The frame that a line offers, written to the start of `out`, and how many bytes it has: 0 where it
-    /// offers none. It is tested for 40, 41 of the unfinished text, 42, 47; nothing else is looked at, and
+    /// The frame that a line offers, or our last reply to its reader, written to the start of `out`, and how
+    /// many bytes it has: 0 where there is none. It is tested for 40, 41 of the unfinished text, 42, 47; nothing else is looked at, and
     /// nothing but `out` is changed. [S2, O7]
     pub fn outgoing(&self, line: u8, unfinished: &[u8], out: &mut [u8]) -> Result<usize, u8> {
         let line = usize::from(line);
@@ -133,12 +166,17 @@ impl Model {
         if unfinished.len() != UNFINISHED {
             return Err(41);
         }
-        let record = &self.lines[line];
-        if !record.is_within_limits() {
+        if !self.is_within_limits(line) {
             return Err(42);
         }
-        let text = &unfinished[line * UNFINISHED_PART..][..record.joined];
-        let frame = sender::outgoing(record, text);
+        let frame = match self.readers[line].patient() {
+            Some(_) => self.readers[line].last_reply(),
+            None => {
+                let record = &self.lines[line];
+                let text = &unfinished[line * UNFINISHED_PART..][..record.joined];
+                sender::outgoing(record, text)
+            }
+        };
         if frame.len() > out.len() {
             return Err(47);
         }

@@ -446,7 +446,10 @@ fn a_neutral_record_with_counts_is_set_anew() {
         ..Line::fresh()
     };
     world.model.ledger.serials[usize::from(LINE)] = 77;
-    world.model.spare[usize::from(LINE)] = [1, 2, 3, 4, 5, 65_535];
+    world.model.spare[usize::from(LINE)] = [1, 65_535];
+    // On a line of frames nobody looks at these.
+    let reader = &mut world.model.readers[usize::from(LINE)];
+    (reader.reply, reader.since, reader.kept) = (7, 9, 65_534);
     assert_eq!(world.start(LINE, MESSAGE).number, 9);
     let asks = Line {
         state: State::Asking,
@@ -454,7 +457,7 @@ fn a_neutral_record_with_counts_is_set_anew() {
         ..Line::fresh()
     };
     assert_eq!(*record(&mut world), asks);
-    let numbers = [3, 0, 12, 0, 1, 0, 0, 77, 0, 0, 1, 2, 3, 4, 5, 65_535];
+    let numbers = [3, 0, 12, 0, 1, 0, 0, 77, 0, 0, 0, 7, 9, 65_534, 1, 65_535];
     assert_eq!(world.model.numbers(usize::from(LINE)), numbers);
     // Behind the text the part keeps its bytes.
     assert_eq!(&world.unfinished[8_000..8_012], MESSAGE);

@@ -8,10 +8,12 @@
 //! mixed byte by byte. Scripts that set what no run reaches go first and in one piece, and put it
 //! back at their end, so that the traffic behind them is still worth something.
 
+pub mod blocks;
 pub mod gateway_mixes;
 pub mod line_mixes;
 pub mod messages;
 pub mod random;
+pub mod upload_mixes;
 
 use crate::delimiters::Delimiters;
 use crate::lines::Kind;
@@ -49,6 +51,9 @@ pub enum Mix {
     /// Starts with texts of all sorts on lines in every state, then replies and seconds of one temper after
     /// the other, and frames fetched with room around what they need: 9, 46, 50 to 55, 60, 61.
     Sending,
+    /// Blocks of a strip reader: dialogues, repeats with and without an SPM or REP between, damage, halves
+    /// and noise: 4, 11, 31, 70, 71, 72, and 60 to a start there.
+    Upload,
     /// Ledger counts and header bytes changed, then takings and a decided message: 43, and that
     /// harmless changes give none.
     BrokenJournal,
@@ -58,6 +63,9 @@ pub enum Mix {
     /// A sending set by hand, at its limits and beyond, over a text with CRs anywhere, then replies, seconds
     /// and fetched frames: 9 and 61 by the words of the rules, 42, 47.
     OddSending,
+    /// The numbers of a line's reader set by hand, at their limits and beyond, and blocks by hand: 42, and
+    /// repeats of what no run keeps.
+    OddReader,
     /// A memory lent too short or too long: 41, and its place before 42 and behind 40.
     WrongSizes,
     /// Lines 8 to 255: 40.
@@ -65,14 +73,15 @@ pub enum Mix {
     /// A journal filled by hand up to the sum of shares, or past it, then messages one byte to
     /// either side of the room left: 4 and 31.
     FullJournal,
-    /// A fresh gateway in the middle of everything.
+    /// A fresh gateway in the middle of everything, or one whose lines speak otherwise; 42 where they
+    /// would speak what is nothing.
     Renewal,
 }
 
 impl Mix {
-    /// Scripts for one line, and how many of each come in 43. The long ones are rare, or their
+    /// Scripts for one line, and how many of each come in 49. The long ones are rare, or their
     /// bytes would leave little room for the others; those of a sending are short, and often go on.
-    const LINE: [(Mix, usize); 10] = [
+    const LINE: [(Mix, usize); 11] = [
         (Mix::Noise, 2),
         (Mix::Polite, 4),
         (Mix::Damaged, 4),
@@ -83,21 +92,28 @@ impl Mix {
         (Mix::Flood, 1),
         (Mix::Takings, 6),
         (Mix::Sending, 12),
+        (Mix::Upload, 6),
     ];
 
-    /// Scripts for the whole gateway, and how many of each come in 15.
-    const GATEWAY: [(Mix, usize); 7] = [
+    /// Scripts for the whole gateway, and how many of each come in 19.
+    const GATEWAY: [(Mix, usize); 8] = [
         (Mix::BrokenJournal, 4),
         (Mix::BeyondLimits, 3),
         (Mix::OddSending, 3),
+        (Mix::OddReader, 3),
         (Mix::WrongSizes, 1),
         (Mix::WrongLines, 1),
         (Mix::FullJournal, 2),
-        (Mix::Renewal, 1),
+        (Mix::Renewal, 2),
     ];
 
     fn is_for_one_line(self) -> bool {
         Mix::LINE.iter().any(|&(mix, _)| mix == self)
+    }
+
+    /// Whether it wants lines that speak with readers.
+    fn is_for_readers(self) -> bool {
+        matches!(self, Mix::Upload | Mix::OddReader)
     }
 }
 
@@ -121,6 +137,9 @@ const GATEWAY_SCRIPT_ONCE_IN: usize = 400;
 /// How often the turn goes to another line.
 const TURN_ONCE_IN: usize = 12;
 
+/// How often a line gets a script that is for lines that speak otherwise.
+const STRANGE_ONCE_IN: usize = 12;
+
 impl Traffic {
     /// All mixes, in their usual weights.
     pub fn new(seed: u64) -> Traffic {
@@ -135,14 +154,33 @@ impl Traffic {
     pub fn of(seed: u64, mixes: &[Mix]) -> Traffic {
         assert!(!mixes.is_empty());
         let (line_mixes, gateway_mixes) = mixes.iter().partition(|mix| mix.is_for_one_line());
+        let mut random = Random::new(seed);
+        let mut first = VecDeque::new();
+        if mixes.iter().any(|mix| mix.is_for_readers()) {
+            let settings = upload_mixes::settings(&mut random);
+            first.push_back(Op::Begin { settings });
+        }
         Traffic {
-            random: Random::new(seed),
+            random,
             line_mixes,
             gateway_mixes,
             queues: vec![VecDeque::new(); LINES],
-            first: VecDeque::new(),
+            first,
             line: 0,
         }
+    }
+
+    /// The next mix of the line whose turn it is: most often one for what the line speaks.
+    fn line_mix(&mut self, world: &World) -> Mix {
+        let is_reader = world.model.readers[usize::from(self.line)]
+            .patient()
+            .is_some();
+        let fits = |mix: &Mix| *mix == Mix::Takings || mix.is_for_readers() == is_reader;
+        let fitting: Vec<Mix> = self.line_mixes.iter().copied().filter(fits).collect();
+        if fitting.is_empty() || self.random.once_in(STRANGE_ONCE_IN) {
+            return self.random.pick(&self.line_mixes);
+        }
+        self.random.pick(&fitting)
     }
 
     /// The next operation, for a world to which all earlier ones were applied.
@@ -163,7 +201,7 @@ impl Traffic {
             if let Some(op) = self.queues[usize::from(self.line)].pop_front() {
                 return op;
             }
-            let mix = self.random.pick(&self.line_mixes);
+            let mix = self.line_mix(world);
             let script = line_mixes::script(mix, &mut self.random, self.line, world);
             self.queues[usize::from(self.line)].extend(script.ops);
         }
@@ -267,14 +305,16 @@ impl Script {
                 | Op::Last { line, .. }
                 | Op::Refusing { line, .. }
                 | Op::Tries { line, .. }
-                | Op::Place { line, .. } => {
+                | Op::Place { line, .. }
+                | Op::Reader { line, .. } => {
                     if usize::from(line) < LINES {
                         lines.push(usize::from(line));
                     }
                 }
-                Op::Fresh => lines.extend(0..LINES),
+                Op::Fresh | Op::Begin { .. } => lines.extend(0..LINES),
                 Op::Outgoing { .. }
                 | Op::Take { .. }
+                | Op::Block { .. }
                 | Op::Spare { .. }
                 | Op::InUse { .. }
                 | Op::Used { .. }
@@ -307,7 +347,8 @@ mod tests {
         let mut world = World::fresh(0x6B);
         let counts = counts(&mut Traffic::new(1), &mut world, 200_000);
         for (number, count) in counts.iter().enumerate() {
-            let known = matches!(number, 0..=9 | 20..=31 | 40..=46 | 50..=55 | 60 | 61);
+            let known =
+                matches!(number, 0..=9 | 11 | 20..=31 | 40..=46 | 50..=55 | 60 | 61 | 70..=72);
             assert_eq!(*count > 0, known, "answer {}: {} times", number, count);
         }
     }
@@ -331,7 +372,7 @@ mod tests {
 
     #[test]
     fn each_mix_reaches_what_it_aims_at() {
-        let aims: [(Mix, &[usize]); 17] = [
+        let aims: [(Mix, &[usize]); 19] = [
             (Mix::Noise, &[0, 1, 5, 20, 22]),
             (Mix::Polite, &[0, 1, 2, 3, 4, 5, 20]),
             (Mix::Damaged, &[21, 22, 23, 24, 25, 27, 2]),
@@ -342,13 +383,15 @@ mod tests {
             (Mix::Flood, &[4, 31, 26]),
             (Mix::Takings, &[44]),
             (Mix::Sending, &[0, 1, 9, 46, 50, 51, 52, 53, 54, 55, 60, 61]),
+            (Mix::Upload, &[0, 4, 11, 60, 70, 71, 72]),
             (Mix::BrokenJournal, &[43, 8, 52, 55]),
             (Mix::BeyondLimits, &[42, 3, 6, 9, 60, 61]),
             (Mix::OddSending, &[0, 9, 42, 60, 61]),
+            (Mix::OddReader, &[0, 4, 11, 42, 70, 71, 72]),
             (Mix::WrongSizes, &[40, 41, 44]),
             (Mix::WrongLines, &[40]),
             (Mix::FullJournal, &[4, 31, 8, 52, 55]),
-            (Mix::Renewal, &[]),
+            (Mix::Renewal, &[0, 42]),
         ];
         for (mix, aimed) in aims {
             let mut world = World::fresh(0);
@@ -432,6 +475,37 @@ mod tests {
             }
         }
         assert!(met.contains(&(6, 0, None)), "no number past 7");
+    }
+
+    #[test]
+    fn readers_meet_every_answer() {
+        let mut world = World::fresh(0x6B);
+        let mut traffic = Traffic::new(3);
+        let mut met = std::collections::BTreeSet::new();
+        for _ in 0..300_000 {
+            let op = traffic.next(&world);
+            let answer = world.apply(&op);
+            if let (Op::Event { line, .. }, Some(answer)) = (op, answer) {
+                let reader = world.model.readers.get(usize::from(line));
+                if reader.map_or(false, |reader| reader.patient().is_some()) {
+                    met.insert((answer.number, answer.reply.is_some()));
+                }
+            }
+        }
+        let all = [
+            (0, false),
+            (4, true),
+            (11, false),
+            (11, true),
+            (31, false),
+            (41, false),
+            (42, false),
+            (43, false),
+            (70, true),
+            (71, true),
+            (72, true),
+        ];
+        assert_eq!(met.into_iter().collect::<Vec<_>>(), all);
     }
 
     #[test]

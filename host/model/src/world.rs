@@ -6,6 +6,7 @@
 use crate::answers::Answer;
 use crate::lines::{Kind, State};
 use crate::model::Model;
+use crate::uploads::Reader;
 use crate::{FRAMES, JOURNAL, LINES, UNFINISHED};
 use std::fmt;
 
@@ -30,6 +31,28 @@ impl Memory {
     }
 }
 
+/// A number that a host keeps of a line's reader.
+#[derive(Clone, Copy, PartialEq, Eq, Debug)]
+pub enum Number {
+    Speaks,
+    Reply,
+    Since,
+    Kept,
+}
+
+impl Number {
+    pub const ALL: [Number; 4] = [Number::Speaks, Number::Reply, Number::Since, Number::Kept];
+
+    pub fn of(self, reader: &mut Reader) -> &mut u16 {
+        match self {
+            Number::Speaks => &mut reader.speaks,
+            Number::Reply => &mut reader.reply,
+            Number::Since => &mut reader.since,
+            Number::Kept => &mut reader.kept,
+        }
+    }
+}
+
 /// A text that is to be sent. It is told as its bytes, those that cannot be printed by their numbers.
 #[derive(Clone, PartialEq, Eq)]
 pub struct Text(pub Vec<u8>);
@@ -40,7 +63,7 @@ impl fmt::Debug for Text {
     }
 }
 
-/// One thing done to a gateway. Events, starts and takings have an answer, a fetched frame has an outcome,
+/// One thing done to a gateway. Events, starts, beginnings and takings have an answer, what is fetched has an outcome,
 /// and the others set what stands there. A line in an edit is 0 to 7; counts are no wider than the named
 /// types, so that narrower records can hold them.
 #[derive(Clone, PartialEq, Eq, Debug)]
@@ -55,7 +78,8 @@ pub enum Op {
         line: u8,
         text: Text,
     },
-    /// The frame that the line offers is fetched into so many bytes, each of them `BLANK`.
+    /// The frame that the line offers, or our last reply to its reader, is fetched into so many bytes, each of
+    /// them `BLANK`.
     Outgoing {
         line: u8,
         room: usize,
@@ -69,6 +93,10 @@ pub enum Op {
     /// All records and the ledger as in a fresh gateway, all memories lent whole. The memories
     /// keep their contents: a fresh gateway may find any.
     Fresh,
+    /// All records and the ledger fresh, with what each line speaks, by number: any number.
+    Begin {
+        settings: [u16; LINES],
+    },
 
     State {
         line: u8,
@@ -106,6 +134,18 @@ pub enum Op {
         line: u8,
         place: u16,
     },
+    /// One of the numbers of a line's reader.
+    Reader {
+        line: u8,
+        number: Number,
+        value: u16,
+    },
+    /// One number of a line's last stored block.
+    Block {
+        line: u8,
+        place: usize,
+        value: u16,
+    },
     /// One of a line's spare numbers.
     Spare {
         line: u8,
@@ -140,7 +180,7 @@ pub enum Op {
 }
 
 impl Op {
-    /// The line of a trace that asks for this, if a trace can: it knows no edits, no sendings, no lines
+    /// The line of a trace that asks for this, if a trace can: it knows no edits, no settings, no sendings, no lines
     /// over 9 and no buffers over 4,000.
     pub fn trace(&self) -> Option<String> {
         match *self {
@@ -202,7 +242,7 @@ impl World {
         }
     }
 
-    /// Does one operation; events, starts and takings give their answer.
+    /// Does one operation; events, starts, beginnings and takings give their answer.
     pub fn apply(&mut self, op: &Op) -> Option<Answer> {
         let records = &mut self.model.lines;
         let ledger = &mut self.model.ledger;
@@ -226,6 +266,15 @@ impl World {
             Op::Refusing { line, refusing } => records[usize::from(line)].refusing = refusing,
             Op::Tries { line, count } => records[usize::from(line)].tries = usize::from(count),
             Op::Place { line, place } => records[usize::from(line)].place = usize::from(place),
+            Op::Begin { ref settings } => return Some(self.model.begin(settings)),
+            Op::Reader {
+                line,
+                number,
+                value,
+            } => *number.of(&mut self.model.readers[usize::from(line)]) = value,
+            Op::Block { line, place, value } => {
+                self.model.readers[usize::from(line)].block[place] = value;
+            }
             Op::Spare { line, which, value } => {
                 self.model.spare[usize::from(line)][which] = value;
             }
@@ -266,7 +315,7 @@ impl World {
         )
     }
 
-    /// The frame that a line offers, with what is lent now, into a blank buffer.
+    /// The frame that a line offers or our last reply, with what is lent now, into a blank buffer.
     pub fn fetch(&mut self, line: u8, room: usize) {
         let mut out = vec![BLANK; room];
         let lent = &self.unfinished[..self.lent[Memory::Unfinished as usize]];

@@ -13,6 +13,7 @@ dot = 0x2e
 abbrev pub hash : ℕ
 hash = 0x23
 
+-- a byte that stands for another
 abbrev pub isMark : ℕ → Bool
 isMark m = is hash m || is dot m
 
@@ -20,6 +21,7 @@ isMark m = is hash m || is dot m
 unfoldable pub placeOf : ℕ → Place
 placeOf m = cond (is hash m) test (cond (is dot m) datum (fixed m))
 
+-- the places of a whole template
 abbrev pub placesOfTemplate : List ℕ → List Place
 placesOfTemplate [] = []
 placesOfTemplate (m ∷ ms) = placeOf m ∷ placesOfTemplate ms

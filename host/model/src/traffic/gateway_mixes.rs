@@ -1,11 +1,12 @@
 //! The scripts that set what no run reaches, and those that concern more than one line.
 
+use super::blocks::{finding_of, LEAST};
 use super::messages::{exact, right, wrong};
 use super::random::Random;
-use super::{Mix, Script};
+use super::{upload_mixes, Mix, Script};
 use crate::frames::{after, write};
 use crate::journal::{header, Entry, HEADER, SHARE, TEXT_LIMIT};
-use crate::lines::{State, COLLECTED_LIMIT, JOINED_LIMIT, NUMBER_LIMIT, SECONDS_LIMIT};
+use crate::lines::{State, JOINED_LIMIT, NUMBER_LIMIT, SECONDS_LIMIT};
 use crate::model::SPARE_FIELDS;
 use crate::texts::{ACK, CR, DC1, ENQ, EOT, ETB, ETX, LF, NAK, STX};
 use crate::world::{Memory, Op, World, SPARE};
@@ -13,6 +14,9 @@ use crate::{JOURNAL, LINES, UNFINISHED_PART};
 
 /// A script of this mix for a gateway as it stands.
 pub fn script(mix: Mix, random: &mut Random, world: &World) -> Script {
+    if mix == Mix::OddReader {
+        return upload_mixes::odd_reader(random, world);
+    }
     let mut writer = Writer {
         random,
         script: Script::default(),
@@ -20,11 +24,11 @@ pub fn script(mix: Mix, random: &mut Random, world: &World) -> Script {
     match mix {
         Mix::BrokenJournal => writer.broken_journal(world),
         Mix::BeyondLimits => writer.beyond_limits(world),
-        Mix::OddSending => writer.odd_sending(),
+        Mix::OddSending => writer.odd_sending(world),
         Mix::WrongSizes => writer.wrong_sizes(world),
         Mix::WrongLines => writer.wrong_lines(),
-        Mix::FullJournal => writer.full_journal(),
-        Mix::Renewal => writer.script.push(Op::Fresh),
+        Mix::FullJournal => writer.full_journal(world),
+        Mix::Renewal => writer.renewal(),
         _ => unreachable!("{:?} is for one line", mix),
     }
     writer.script
@@ -103,8 +107,29 @@ impl Writer<'_> {
         self.random.below(LINES) as u8
     }
 
-    /// A line brought to neutral from any state, then a transfer up to a decided message.
-    fn decided(&mut self, line: u8, text: &[u8]) {
+    /// A fresh gateway, or one whose lines speak what is set.
+    fn renewal(&mut self) {
+        let op = match self.random.below(4) {
+            0 => Op::Fresh,
+            1 => Op::Begin {
+                settings: upload_mixes::bad_settings(self.random),
+            },
+            _ => Op::Begin {
+                settings: upload_mixes::settings(self.random),
+            },
+        };
+        self.script.push(op);
+    }
+
+    /// A line brought to neutral from any state, then a transfer up to a decided message; on a reader's line
+    /// a finding whose message is about as long.
+    fn decided(&mut self, line: u8, text: &[u8], world: &World) {
+        if let Some(patient) = world.model.readers[usize::from(line)].patient() {
+            let block = finding_of(self.random, patient, text.len());
+            self.script.byte(line, CR);
+            self.script.bytes(line, &block);
+            return;
+        }
         // A line that pauses asks once more before it is done.
         self.script.seconds(line, 255);
         self.script.seconds(line, 255);
@@ -183,12 +208,12 @@ impl Writer<'_> {
                 let entry = self.random.pick(&entries);
                 let (index, value) = self.byte_changed(world, &entry, in_use);
                 self.script.push(poke(index, value));
-                self.probes();
+                self.probes(world);
                 self.script.push(poke(index, world.journal[index]));
                 return;
             }
         }
-        self.probes();
+        self.probes(world);
         // Everything back, so that the journal is whole again where nothing was taken or stored.
         self.set_in_use(in_use);
         for (line, &count) in used.iter().enumerate() {
@@ -243,7 +268,7 @@ impl Writer<'_> {
 
     /// Takings before and behind a message that reaches room, or one that is refused before it does, with
     /// LF once more behind it.
-    fn probes(&mut self) {
+    fn probes(&mut self, world: &World) {
         for _ in 0..self.random.between(1, 2) {
             let line = self.any_line();
             let buffer = self.random.pick(&[0, 1, 4_000]);
@@ -256,7 +281,7 @@ impl Writer<'_> {
         } else {
             right(self.random, longest)
         };
-        self.decided(line, &text);
+        self.decided(line, &text, world);
         if self.random.once_in(2) {
             self.script.byte(line, LF);
         }
@@ -279,10 +304,11 @@ impl Writer<'_> {
         // The field set, and how to put it back where it was set beyond its limit.
         let (op, back) = match self.random.below(8) {
             0 => {
-                let count = self.random.pick(&[246, 247, 255, 256, 65_535, 245, 244]);
+                let counts = [246, 247, 255, 256, 65_535, 245, 244, 239, 238, 236, 235];
+                let count = self.random.pick(&counts);
                 let old = record.collected as u16;
                 let back = Op::Collected { line, count: old };
-                let beyond = usize::from(count) > COLLECTED_LIMIT;
+                let beyond = usize::from(count) > most_collected(world, line);
                 (Op::Collected { line, count }, beyond.then_some(back))
             }
             1 => {
@@ -376,7 +402,7 @@ impl Writer<'_> {
     }
 
     /// A sending that no run reaches, and what follows by the words of the rules.
-    fn odd_sending(&mut self) {
+    fn odd_sending(&mut self, world: &World) {
         let line = self.any_line();
         let state = self
             .random
@@ -398,7 +424,7 @@ impl Writer<'_> {
             line,
             place: place as u16,
         });
-        self.set_other_numbers(line);
+        self.set_other_numbers(line, most_collected(world, line));
         self.odd_events(line);
         if tries > state.most_tries() || place > state.most_place() || self.random.once_in(2) {
             self.set_state(line, State::Neutral);
@@ -420,7 +446,7 @@ impl Writer<'_> {
     }
 
     /// What else a record holds: a sending changes it, or keeps it.
-    fn set_other_numbers(&mut self, line: u8) {
+    fn set_other_numbers(&mut self, line: u8, most_collected: usize) {
         let number = self.random.below(8) as u8;
         self.script.push(Op::Next { line, number });
         if self.random.once_in(2) {
@@ -428,7 +454,7 @@ impl Writer<'_> {
             self.script.push(Op::Seconds { line, count });
         }
         if self.random.once_in(4) {
-            let count = self.random.below(COLLECTED_LIMIT + 1) as u16;
+            let count = self.random.below(most_collected + 1) as u16;
             self.script.push(Op::Collected { line, count });
             let number = Some(self.random.below(8) as u8);
             self.script.push(Op::Last { line, number });
@@ -532,7 +558,7 @@ impl Writer<'_> {
 
     /// A whole chain made by hand. One line is filled up until `gap` bytes of room are left by the
     /// shares; then messages of just that size, and of one byte more, are sent.
-    fn full_journal(&mut self) {
+    fn full_journal(&mut self, world: &World) {
         let mut used = [0; LINES];
         let mut entries: Vec<(usize, usize)> = Vec::new();
         for _ in 0..self.random.below(14) {
@@ -545,7 +571,12 @@ impl Writer<'_> {
             }
         }
         let full = self.random.below(LINES);
-        let gap = self.random.between(15, 80);
+        let is_reader = world.model.readers[full].patient().is_some();
+        let gap = if is_reader {
+            HEADER + self.random.between(LEAST, LEAST + 60)
+        } else {
+            self.random.between(15, 80)
+        };
         let mut to_fill = rest(&used, full).saturating_sub(gap);
         // Each entry takes 5 to 4,004 bytes; what is left for the last must be 5 at least.
         while to_fill >= 5 {
@@ -572,17 +603,17 @@ impl Writer<'_> {
             } else {
                 self.random.below(LINES)
             };
-            let room = rest(&used, line).min(HEADER + 120);
+            let room = rest(&used, line).min(HEADER + 120 + LEAST);
             let size = self.random.pick(&[room, room + 1, 60]).max(HEADER + 11);
             let text = exact(self.random, size - HEADER);
-            self.decided(line as u8, &text);
+            self.decided(line as u8, &text, world);
             if rest(&used, line) >= size {
                 used[line] += size;
             }
         }
         // What is wrong with a text is told before there is no room for it.
         let text = wrong(self.random, 60);
-        self.decided(full as u8, &text);
+        self.decided(full as u8, &text, world);
         let line = self.any_line();
         self.script.take(line, 4_000);
         self.script.take(full as u8, 4_000);
@@ -602,6 +633,11 @@ impl Writer<'_> {
             self.set_used(line, count);
         }
     }
+}
+
+/// The most that a line may have collected, by what it speaks.
+fn most_collected(world: &World, line: u8) -> usize {
+    world.model.readers[usize::from(line)].most_collected()
 }
 
 /// How many bytes a line may still use, header counted, by the sum of shares.

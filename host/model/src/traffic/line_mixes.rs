@@ -2,6 +2,7 @@
 
 use super::messages::{exact, right, wrong};
 use super::random::Random;
+use super::upload_mixes;
 use super::{Mix, Script};
 use crate::frames::{after, write};
 use crate::lines::{Line, State};
@@ -12,6 +13,9 @@ use crate::{JOURNAL, UNFINISHED_PART};
 
 /// A script of this mix for a line as it stands.
 pub fn script(mix: Mix, random: &mut Random, line: u8, world: &World) -> Script {
+    if mix == Mix::Upload {
+        return upload_mixes::upload(random, line, world);
+    }
     let mut writer = Writer {
         random,
         line,
