@@ -14,9 +14,8 @@ use Rattle.faults.specs.Message.{isMessage}
 use Rattle.block.specs.Judged.{judgedOf}
 use Rattle.block.specs.declared.Judged.{Judged}
 use Rattle.block.specs.declared.Judged.the-variants.{OddLength, OddTest, OddByte, Multiple, Repeat, End, Colours, Results}
-use Rattle.block.proofs.Laws.{results-matches}
 use Rattle.finding.specs.Findings.{findingOf}
-use Rattle.finding_laws.proofs.Messages.{finding-message}
+use Rattle.finding_laws.proofs.Message.{finding-message}
 use Rattle.strips.specs.Readers.{Memo, isAgain}
 use Rattle.strips.specs.Sights.{sightOf}
 use Rattle.strips.specs.declared.Sight.{Sight}
@@ -43,7 +42,7 @@ pub wanted-results : (p : Patient) (w : Memo) (bs : List ℕ) → isWanted p w b
 wanted-results p w bs e = is-results (judgedOf p bs) (and-left (isResults (judgedOf p bs)) (not (isAgain w bs)) e)
 
 pub wanted-message : (p : Patient) (w : Memo) (bs : List ℕ) → isWanted p w bs ≡ true → isMessage (findingOf p bs) ≡ true
-wanted-message p w bs e = finding-message p bs (results-matches p bs (wanted-results p w bs e))
+wanted-message p w bs e = finding-message p bs (wanted-results p w bs e)
 
 -- what a line of frames offers is told by the look
 pub offered-look : (s : State) (i : ℕ) (k : Kind) → dialogueAt (s .gateway) i ≡ Frames → offered s i k ≡ offeredBy s i (lookOf (partsOf s i .line) k (partsOf s i .texts) (partsOf s i .frames))

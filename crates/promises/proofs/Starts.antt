@@ -109,7 +109,7 @@ module _ (s : State) (w : Intact s) (i : ℕ) (text : List ℕ) (h : i < lines) 
 
   -- and so the line speaks frames
   pub starts-frames : start ≡ Asks → own .line .settings .dialogue ≡ Frames
-  starts-frames e = speaks-frames (own .line .settings) (and-right (isNeutral (own .line .state)) (speaksFrames (own .line .settings)) (start-passed e .neutral))
+  starts-frames e = speaks-frames (own .line .settings) (and-right (isNeutral (own .line .state)) (speaksFrames (own .line .settings)) (start-passed e .free))
 
   -- ---- what is left
 
