@@ -53,9 +53,9 @@ returns c =
     let lent = copied .before .before .before in
     let start = lent .before .before .before in
     let a = start .args in
-    let (long, few, h, size) = start .pre in (
-      simp length-set (still-long (now (a .place)) (now (a .frames)) (a .i) (a .line .collected) (a .byte) long few h size (copied .copy .ensures)),
-      gathered (now (a .place)) (now (a .frames)) (a .i) (a .line .collected) (a .byte) long few h size (copied .copy .ensures),
+    let (long, room) = start .pre in (
+      simp length-set (still-long (now (a .place)) (now (a .frames)) (a .i) (a .line .collected) (a .byte) long (room .few) (room .there) (room .size) (copied .copy .ensures)),
+      gathered (now (a .place)) (now (a .frames)) (a .i) (a .line .collected) (a .byte) long (room .few) (room .there) (room .size) (copied .copy .ensures),
     )
 
 pub gather-spec : {M : Type 1} → statement M
