@@ -13,7 +13,7 @@ use lib.ListN.{getD}
 use mir.Val.{hasKey}
 use types.Run.{OneOf, miss}
 use denote.Enum.Declared.{tagOf}
-use Rattle.memory.specs.Tests.{between}
+use Rattle.memory.specs.Tests.{between, isOneOf}
 use Rattle.memory.proofs.Tests.{clash, and-left, and-right, never-both}
 use Rattle.answers.specs.Paper.{faultNumber, isFaulty, numberOf, valuesOf, placeOf, nak, replyOf, firstOut}
 use Rattle.answers.specs.InNumbers.{replyByte}
@@ -25,7 +25,7 @@ use Rattle.answers.specs.declared.Reply.the-variants.{Silence, Byte}
 use Rattle.answers.specs.declared.Parcel.the-variants.{Empty, Enquiry, Ending, Frame}
 use Rattle.answers.specs.declared.Fault.{Fault}
 use Rattle.answers.specs.declared.Fault.the-variants.{NoHeader, UnknownType, Misplaced, Misnumbered, NoFinalCr, BadDelimiters}
-use Rattle.answers.specs.declared.Answer.the-variants.{Nothing, Opened, Accepted, Repeated, Stored, Ended, Dropped, TimedOut, Taken, Sends, Busy, Unended, Torn, WrongCheck, BadText, BadNumber, Refusing, OutOfTurn, TooLong, NoCr, NoMessage, NoRoom, NoLine, WrongSize, BeyondLimits, Broken, NothingWaiting, BufferShort, Malformed, NotFitting, Faulty, Unsendable, NotNeutral, GivenUp}
+use Rattle.answers.specs.declared.Answer.the-variants.{Nothing, Opened, Accepted, Repeated, Stored, Ended, Dropped, TimedOut, Taken, Sends, Busy, Unended, Torn, WrongCheck, BadText, BadNumber, Refusing, OutOfTurn, TooLong, NoCr, NoMessage, NoRoom, NoLine, WrongSize, BeyondLimits, Broken, NothingWaiting, BufferShort, Malformed, NotFitting, Faulty, Unsendable, NotNeutral, GivenUp, Filed, Heard, Noted, Crowded, OddLength, OddTest, OddByte}
 
 -- all answers: those that carry values carry these
 abbrev pub answers : List ℕ → List Answer
@@ -77,6 +77,13 @@ answers vs =
     ∷ Unsendable BadDelimiters (getD vs 0 0)
     ∷ NotNeutral
     ∷ GivenUp
+    ∷ Filed
+    ∷ Heard
+    ∷ Noted
+    ∷ Crowded
+    ∷ OddLength
+    ∷ OddTest
+    ∷ OddByte
     ∷ []
 
 -- number and the byte that goes out, in one: 0 for no byte
@@ -137,6 +144,13 @@ listed (Unsendable NoFinalCr place) = refl
 listed (Unsendable BadDelimiters place) = refl
 listed NotNeutral = refl
 listed GivenUp = refl
+listed Filed = refl
+listed Heard = refl
+listed Noted = refl
+listed Crowded = refl
+listed OddLength = refl
+listed OddTest = refl
+listed OddByte = refl
 
 -- each answer of a list passes a test
 abbrev pub passes : (Answer → Bool) → List Answer → Bool
@@ -208,31 +222,44 @@ faultyTag = 30
 abbrev unsendableTag : ℕ
 unsendableTag = 31
 
+abbrev placed : List ℕ
+placed = faultyTag ∷ unsendableTag ∷ []
+
 abbrev told : Answer → Bool
-told a = not (isFaulty (numberOf a)) || (eqb (tagOf the-type a) faultyTag || eqb (tagOf the-type a) unsendableTag)
+told a = not (isFaulty (numberOf a)) || isOneOf placed (tagOf the-type a)
 
 abbrev others : List ℕ
-others = 0 ∷ 1 ∷ 2 ∷ 3 ∷ 4 ∷ 5 ∷ 6 ∷ 7 ∷ 8 ∷ 9 ∷ 10 ∷ 11 ∷ 12 ∷ 13 ∷ 14 ∷ 15 ∷ 16 ∷ 17 ∷ 18 ∷ 19 ∷ 20 ∷ 21 ∷ 22 ∷ 23 ∷ 24 ∷ 25 ∷ 26 ∷ 27 ∷ 28 ∷ 29 ∷ 32 ∷ 33 ∷ []
+others = 0 ∷ 1 ∷ 2 ∷ 3 ∷ 4 ∷ 5 ∷ 6 ∷ 7 ∷ 8 ∷ 9 ∷ 10 ∷ 11 ∷ 12 ∷ 13 ∷ 14 ∷ 15 ∷ 16 ∷ 17 ∷ 18 ∷ 19 ∷ 20 ∷ 21 ∷ 22 ∷ 23 ∷ 24 ∷ 25 ∷ 26 ∷ 27 ∷ 28 ∷ 29 ∷ 32 ∷ 33 ∷ 34 ∷ 35 ∷ 36 ∷ 37 ∷ 38 ∷ 39 ∷ 40 ∷ []
 
--- a variant that is one of two is not among others
-neither : (list : List ℕ) (x y tag : ℕ) → T (not (hasKey list x)) → T (not (hasKey list y)) → eqb tag x || eqb tag y ≡ true → OneOf list tag → ⊥
-neither list x y tag no-x no-y e one = by-first (eqb tag x) refl
+-- none of these is in the list
+abbrev NoneIn : List ℕ → List ℕ → Type 0
+NoneIn list [] = Unit {0}
+NoneIn list (x ∷ xs) = T (not (hasKey list x)) × NoneIn list xs
+
+-- a variant that is one of these is not among others
+apart : (list xs : List ℕ) (tag : ℕ) → NoneIn list xs → isOneOf xs tag ≡ true → OneOf list tag → ⊥
+apart list [] tag free e one = clash cc
+apart list (x ∷ xs) tag free e one = by-first (eqb tag x) refl (λ later. apart list xs tag (free .1) later one)
   where
-    by-first : (b : Bool) → eqb tag x ≡ b → ⊥
-    by-first true q = miss list x no-x (subst (OneOf list) (eqb-true tag x q) one)
-    by-first false q = miss list y no-y (subst (OneOf list) (eqb-true tag y (rw q at e)) one)
+    by-first : (b : Bool) → eqb tag x ≡ b → (isOneOf xs tag ≡ true → ⊥) → ⊥
+    by-first true q more = miss list x (free .0) (subst (OneOf list) (eqb-true tag x q) one)
+    by-first false q more = more (rw q at e)
 
 -- an answer that is another variant has no place
 pub no-place : (a : Answer) → OneOf others (tagOf the-type a) → 0 ≡ placeOf a
 no-place a one = by-number (isFaulty (numberOf a)) refl (every-answer told (λ vs. refl) a)
   where
     by-number : (b : Bool) → isFaulty (numberOf a) ≡ b → told a ≡ true → 0 ≡ placeOf a
-    by-number true e h = absurd (neither others faultyTag unsendableTag (tagOf the-type a) tt tt (rw e at h) one)
+    by-number true e h = absurd (apart others placed (tagOf the-type a) (tt, (tt, tt)) (rw e at h) one)
     by-number false e h = rw e
 
 -- with an answer to a byte or seconds that sends no parcel the byte of its number goes out
 abbrev received : List ℕ
-received = 0 ∷ 1 ∷ 2 ∷ 3 ∷ 4 ∷ 5 ∷ 6 ∷ 7 ∷ 8 ∷ 10 ∷ 11 ∷ 12 ∷ 13 ∷ 14 ∷ 15 ∷ 16 ∷ 17 ∷ 18 ∷ 19 ∷ 20 ∷ 21 ∷ 22 ∷ 23 ∷ 24 ∷ 25 ∷ 26 ∷ 27 ∷ 28 ∷ 29 ∷ 30 ∷ 32 ∷ 33 ∷ []
+received = 0 ∷ 1 ∷ 2 ∷ 3 ∷ 4 ∷ 5 ∷ 6 ∷ 7 ∷ 8 ∷ 10 ∷ 11 ∷ 12 ∷ 13 ∷ 14 ∷ 15 ∷ 16 ∷ 17 ∷ 18 ∷ 19 ∷ 20 ∷ 21 ∷ 22 ∷ 23 ∷ 24 ∷ 25 ∷ 26 ∷ 27 ∷ 28 ∷ 29 ∷ 30 ∷ 32 ∷ 33 ∷ 36 ∷ []
+
+-- the others: a parcel's, a text's that is not sent, and those of a strip reader's line that have a block for a reply, or none
+abbrev otherwise : List ℕ
+otherwise = sendsTag ∷ unsendableTag ∷ 34 ∷ 35 ∷ 37 ∷ 38 ∷ 39 ∷ 40 ∷ []
 
 abbrev same : Reply → Reply → Bool
 same Silence Silence = true
@@ -247,17 +274,17 @@ same-is (Byte b) Silence e = clash cc
 same-is (Byte b) (Byte c) e = ap Byte (eqb-true b c e)
 
 abbrev replies : Answer → Bool
-replies a = (eqb (tagOf the-type a) sendsTag || eqb (tagOf the-type a) unsendableTag) || same (firstOut a) (replyOf (numberOf a))
+replies a = isOneOf otherwise (tagOf the-type a) || same (firstOut a) (replyOf (numberOf a))
 
 all-reply : (vs : List ℕ) → passes replies (answers vs) ≡ true
 unfolding replyOf
 all-reply vs = refl
 
 pub out-by-number : (a : Answer) → OneOf received (tagOf the-type a) → replyOf (numberOf a) ≡ firstOut a
-out-by-number a one = by-tag (eqb (tagOf the-type a) sendsTag || eqb (tagOf the-type a) unsendableTag) refl (every-answer replies all-reply a)
+out-by-number a one = by-tag (isOneOf otherwise (tagOf the-type a)) refl (every-answer replies all-reply a)
   where
-    by-tag : (b : Bool) → eqb (tagOf the-type a) sendsTag || eqb (tagOf the-type a) unsendableTag ≡ b → replies a ≡ true → replyOf (numberOf a) ≡ firstOut a
-    by-tag true e h = absurd (neither received sendsTag unsendableTag (tagOf the-type a) tt tt e one)
+    by-tag : (b : Bool) → isOneOf otherwise (tagOf the-type a) ≡ b → replies a ≡ true → replyOf (numberOf a) ≡ firstOut a
+    by-tag true e h = absurd (apart received otherwise (tagOf the-type a) (tt, (tt, (tt, (tt, (tt, (tt, (tt, (tt, tt)))))))) e one)
     by-tag false e h = sym (same-is (firstOut a) (replyOf (numberOf a)) (rw e at h))
 
 -- an objection gets NAK; it is not 4, which stores, nor 31, which is for want of room, nor 41 to 43, which tell of memory, a record or a journal

@@ -10,7 +10,7 @@ use Rattle.characters.specs.Control.{stx, enq, eot}
 use Rattle.answers.specs.declared.Fault.{Fault}
 use Rattle.answers.specs.declared.Fault.the-variants.{NoHeader, UnknownType, Misplaced, Misnumbered, NoFinalCr, BadDelimiters}
 use Rattle.answers.specs.declared.Answer.{Answer}
-use Rattle.answers.specs.declared.Answer.the-variants.{Nothing, Opened, Accepted, Repeated, Stored, Ended, Dropped, TimedOut, Taken, Sends, Busy, Unended, Torn, WrongCheck, BadText, BadNumber, Refusing, OutOfTurn, TooLong, NoCr, NoMessage, NoRoom, NoLine, WrongSize, BeyondLimits, Broken, NothingWaiting, BufferShort, Malformed, NotFitting, Faulty, Unsendable, NotNeutral, GivenUp}
+use Rattle.answers.specs.declared.Answer.the-variants.{Nothing, Opened, Accepted, Repeated, Stored, Ended, Dropped, TimedOut, Taken, Sends, Busy, Unended, Torn, WrongCheck, BadText, BadNumber, Refusing, OutOfTurn, TooLong, NoCr, NoMessage, NoRoom, NoLine, WrongSize, BeyondLimits, Broken, NothingWaiting, BufferShort, Malformed, NotFitting, Faulty, Unsendable, NotNeutral, GivenUp, Filed, Heard, Noted, Crowded, OddLength, OddTest, OddByte}
 use Rattle.answers.specs.declared.Parcel.{Parcel}
 use Rattle.answers.specs.declared.Parcel.the-variants.{Empty, Enquiry, Ending, Frame}
 use Rattle.answers.specs.declared.Reply.{Reply}
@@ -65,6 +65,13 @@ numberOf (Faulty f place) = faultNumber f
 numberOf (Unsendable f place) = faultNumber f
 numberOf NotNeutral = 60
 numberOf GivenUp = 61
+numberOf Filed = 4
+numberOf Heard = 11
+numberOf Noted = 11
+numberOf Crowded = 31
+numberOf OddLength = 70
+numberOf OddTest = 71
+numberOf OddByte = 72
 
 -- what it carries: an entry taken has its text's length and its serial, and a fault the place of its record [A8, O2, R22]
 abbrev pub valuesOf : Answer → List ℕ
@@ -102,6 +109,13 @@ valuesOf (Faulty f place) = place ∷ []
 valuesOf (Unsendable f place) = place ∷ []
 valuesOf NotNeutral = []
 valuesOf GivenUp = []
+valuesOf Filed = []
+valuesOf Heard = []
+valuesOf Noted = []
+valuesOf Crowded = []
+valuesOf OddLength = []
+valuesOf OddTest = []
+valuesOf OddByte = []
 
 -- the place that a fault carries; 0 for every other answer [H5]
 abbrev pub placeOf : Answer → ℕ
@@ -125,7 +139,8 @@ parcelByte Enquiry = Byte enq
 parcelByte Ending = Byte eot
 parcelByte Frame = Byte stx
 
--- the first byte that goes out with an answer: a sending's is its parcel's; a text that is not sent is answered to who wanted to send it, and no byte goes out [O1, S2]
+-- the first byte that goes out with an answer: a sending's is its parcel's; a text that is not sent is answered to who wanted to send it, and no byte goes out;
+-- what a strip reader gets is a block, which begins with STX, or nothing [O1, S2, B11]
 abbrev pub firstOut : Answer → Reply
 firstOut Nothing = replyOf 0
 firstOut Opened = replyOf 1
@@ -161,3 +176,10 @@ firstOut (Faulty f place) = replyOf (faultNumber f)
 firstOut (Unsendable f place) = Silence
 firstOut NotNeutral = replyOf 60
 firstOut GivenUp = replyOf 61
+firstOut Filed = Byte stx
+firstOut Heard = Byte stx
+firstOut Noted = replyOf 11
+firstOut Crowded = Silence
+firstOut OddLength = Byte stx
+firstOut OddTest = Byte stx
+firstOut OddByte = Byte stx

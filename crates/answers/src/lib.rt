@@ -46,7 +46,8 @@ pub enum Parcel {
 }
 
 // The answers in the order of their numbers, which are those of their rules: 22 is [A22]. A fault comes with its record's place:
-// `Faulty` of a text that a line has received, `Unsendable` of one that is to be sent.
+// `Faulty` of a text that a line has received, `Unsendable` of one that is to be sent. The last seven are those of a strip reader's
+// line, where 4 and 31 have other replies than on a line of frames: `Filed` and `Crowded`; 11 is `Heard` with a reply, `Noted` without.
 pub enum Answer {
     Nothing,
     Opened,
@@ -82,6 +83,13 @@ pub enum Answer {
     Unsendable(Fault, u16),
     NotNeutral,
     GivenUp,
+    Filed,
+    Heard,
+    Noted,
+    Crowded,
+    OddLength,
+    OddTest,
+    OddByte,
 }
 
 // The byte that goes to the analyzer, if any.
@@ -130,6 +138,13 @@ impl Answer {
             Answer::Unsendable(fault, _) => fault.number(),
             Answer::NotNeutral => 60,
             Answer::GivenUp => 61,
+            Answer::Filed => 4,
+            Answer::Heard => 11,
+            Answer::Noted => 11,
+            Answer::Crowded => 31,
+            Answer::OddLength => 70,
+            Answer::OddTest => 71,
+            Answer::OddByte => 72,
         }
     }
 
@@ -144,13 +159,20 @@ impl Answer {
         }
     }
 
-    // The first byte that goes out with it: of a sending's answer that of its parcel, and nothing with a text that is not sent.
+    // The first byte that goes out with it: of a sending's answer that of its parcel, and nothing with a text that is not sent; our
+    // replies to a strip reader are blocks, which begin with STX.
     pub fn reply(self) -> Reply
         ensures { λ r. ⌜ r ≡ firstOut self ⌝ }
     {
         match self {
             Answer::Sends(parcel) => first_byte(parcel),
             Answer::Unsendable(_, _) => Reply::Silence,
+            Answer::Filed => Reply::Byte(STX),
+            Answer::Heard => Reply::Byte(STX),
+            Answer::Crowded => Reply::Silence,
+            Answer::OddLength => Reply::Byte(STX),
+            Answer::OddTest => Reply::Byte(STX),
+            Answer::OddByte => Reply::Byte(STX),
             _ => reply_to(self.number()),
         }
     }

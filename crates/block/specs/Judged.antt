@@ -19,7 +19,7 @@ abbrev pub controlLength : ℕ
 controlLength = 6
 
 -- the lengths that a block may have [B2]
-abbrev pub isLength : Patient → ℕ → Bool
+unfoldable pub isLength : Patient → ℕ → Bool
 isLength p n = eqb n controlLength || eqb n (coloursLength p) || eqb n (resultsLength p)
 
 -- the exclusive or of bytes, from t on
@@ -45,14 +45,18 @@ isTested bs =
     is (highTest t) (getD bs (length bs - 3) 0) && is (lowTest t) (getD bs (length bs - 2) 0)
 
 -- a block of six bytes, by its code [B4]
-abbrev pub controlOf : List ℕ → Judged
+unfoldable pub controlOf : List ℕ → Judged
 controlOf bs = cond (matches (controlBlock spm) bs) Multiple (cond (matches (controlBlock rep) bs) Repeat (cond (matches (controlBlock end) bs) End OddByte))
+
+-- a longer one, by its length [B5]
+unfoldable pub dataOf : Patient → List ℕ → Judged
+dataOf p bs =
+    cond (eqb (length bs) (coloursLength p)) (unless (matches (coloursBlock p) bs) OddByte Colours)
+    (unless (matches (resultsBlock p) bs) OddByte Results)
 
 -- 70, 71, 72, or what the block is [A70, A71, A72]
 unfoldable pub judgedOf : Patient → List ℕ → Judged
 judgedOf p bs =
     unless (isLength p (length bs)) OddLength
     (unless (isTested bs) OddTest
-    (cond (eqb (length bs) controlLength) (controlOf bs)
-    (cond (eqb (length bs) (coloursLength p)) (unless (matches (coloursBlock p) bs) OddByte Colours)
-    (unless (matches (resultsBlock p) bs) OddByte Results))))
+    (cond (eqb (length bs) controlLength) (controlOf bs) (dataOf p bs)))

@@ -73,9 +73,9 @@ placesOf [] = []
 placesOf (r ∷ rs) = letters (r .name) ++ (someData (r .value) ++ (spaces (r .blank) ++ placesOf rs))
 
 -- a block with results, E [B5]
-abbrev pub resultsBlock : Patient → List Place
+unfoldable pub resultsBlock : Patient → List Place
 resultsBlock p = front resultsLetter p ++ (placesOf results ++ back)
 
 -- a block with colour and turbidity, D [B5]
-abbrev pub coloursBlock : Patient → List Place
+unfoldable pub coloursBlock : Patient → List Place
 coloursBlock p = front coloursLetter p ++ (someData 18 ++ (spaces 1 ++ (someData 18 ++ (spaces 1 ++ back))))

@@ -1,3 +1,5 @@
 pub mod Places
 pub mod Layouts
 pub mod Judged
+pub mod Controls
+pub mod Inner

@@ -2,22 +2,18 @@
 -- Assumes nothing.
 use mathlib.Core.Path.{_≡_, refl, sym, ap, ap₂, subst, _∙_}
 use mathlib.Core.Logic.{_≢_}
-use mathlib.Core.Bool.{Bool, true, false}
+use mathlib.Core.Bool.{true}
 use mathlib.Core.List.{List}
-use Prim.Native.Nat.{ℕ, _+_, _<_}
+use Prim.Native.Nat.{ℕ, _+_}
 use native.Mathlib.Omega.{arith}
-use borrow.Author.Tests.{lt-ltb}
-use lib.Dec.{ltb}
-use lib.ListN.{length, length-set}
-use lib.Seq.{getD-set-other, getD-set-same}
+use lib.ListN.{length}
 use Rattle.memory.specs.Sizes.{lines}
-use Rattle.memory.specs.Tests.{unless}
 use Rattle.journal.specs.Storage.{grown, appended}
 use Rattle.journal.specs.declared.Ledger.{Ledger}
 use Rattle.line.specs.Line.{withinLimits, waitingLine}
 use Rattle.line.specs.declared.Line.{Line}
 use Rattle.answers.specs.declared.Answer.{Answer}
-use Rattle.answers.specs.declared.Answer.the-variants.{Nothing, Stored, NoLine}
+use Rattle.answers.specs.declared.Answer.the-variants.{Nothing, Stored}
 use Rattle.line.proofs.Limits.{Within, within-facts, within-of, opened-within, closed-within, begun-within, collected-within, counted-within, waiting-within, accepted-within, refusing-within, gone-within}
 use Rattle.looking.specs.Views.{framesOf, textsOf, joinedText}
 use Rattle.looking.specs.Looks.{lookOf}
@@ -25,7 +21,7 @@ use Rattle.receiving.specs.Verdicts.{ownWork, verdictOf}
 use Rattle.receiving.specs.Settled.{lineAfter, withByte}
 use Rattle.looking.specs.Inner.Fitting.{Fitting}
 use Rattle.receiving.specs.Steps.{Memory, AfterStep, settle, stepOf}
-use Rattle.gateway.specs.Events.{lineAt, noRecord, AfterEvent, putBack, eventOf, takeOf}
+use Rattle.gateway.specs.Events.{takeOf}
 use Rattle.looking.specs.declared.Event.{Event}
 use Rattle.gateway.specs.Gateway.{Gateway}
 use Rattle.looking.specs.declared.Look.the-variants.{Done}
@@ -177,30 +173,6 @@ pub quiet-verdict : (shares : List ℕ) (l : Line) (d d′ : Ledger) (e : Event)
     → verdictOf shares l d e j u f ≡ verdictOf shares l d′ e j′ u f
 unfolding verdictOf ownWork
 quiet-verdict shares l d d′ e j j′ u f v s h = rw (s, h)
-
--- an event touches no other line's record; the event's own line has the step's
-module _ (shares : List ℕ) (g : Gateway) (e : Event) (m : Memory) where
-  event-is : e .line < lines → eventOf shares g e m ≡ putBack g (e .line) (stepOf shares (lineAt g (e .line)) (g .ledger) e m)
-  unfolding eventOf
-  event-is h = rw (lt-ltb (e .line) lines h)
-
-  pub records-of-others : e .line < lines → (k : ℕ) → e .line ≢ k → lineAt (eventOf shares g e m .handled .gateway) k ≡ lineAt g k
-  records-of-others h k n =
-      ap (λ (x : AfterEvent). lineAt (x .handled .gateway) k) (event-is h)
-      ∙ getD-set-other (g .lines) (e .line) k (stepOf shares (lineAt g (e .line)) (g .ledger) e m .stepped .line) noRecord (λ q. n (sym q))
-
-  pub own-record : e .line < lines → length (g .lines) ≡ lines → lineAt (eventOf shares g e m .handled .gateway) (e .line) ≡ stepOf shares (lineAt g (e .line)) (g .ledger) e m .stepped .line
-  own-record h s =
-      ap (λ (x : AfterEvent). lineAt (x .handled .gateway) (e .line)) (event-is h)
-      ∙ getD-set-same (g .lines) (e .line) (stepOf shares (lineAt g (e .line)) (g .ledger) e m .stepped .line) noRecord (omega (arith, s))
-
-  pub as-many-lines : length (eventOf shares g e m .handled .gateway .lines) ≡ length (g .lines)
-  unfolding eventOf
-  as-many-lines = by-line (ltb (e .line) lines)
-    where
-      by-line : (b : Bool) → length (unless b (record { handled = record { gateway = g; answer = NoLine }; memory = m }) (putBack g (e .line) (stepOf shares (lineAt g (e .line)) (g .ledger) e m)) .handled .gateway .lines) ≡ length (g .lines)
-      by-line true = length-set (g .lines) (e .line) (stepOf shares (lineAt g (e .line)) (g .ledger) e m .stepped .line)
-      by-line false = refl
 
 -- a taking touches no line
 pub taking-lines : (g : Gateway) (i : ℕ) (j b : List ℕ) → takeOf g i j b .handled .gateway .lines ≡ g .lines

@@ -1,4 +1,5 @@
 pub mod Rows
+pub mod Bytes
 pub mod Found
 pub mod Proper
 pub mod Others
@@ -6,3 +7,6 @@ pub mod Laws
 pub mod View
 pub mod Takings
 pub mod Ended
+pub mod Rulings
+pub mod Uploads
+pub mod Gateways

@@ -57,7 +57,7 @@ taking-refused g i j b h =
   where
     answered : AfterTaking → AfterTake
     answered x = record {
-      handled = record { gateway = record { lines = g .lines; ledger = x .taking .ledger }; answer = tookAnswer (x .taking .answer) };
+      handled = record { gateway = record { lines = g .lines; memos = g .memos; ledger = x .taking .ledger }; answer = tookAnswer (x .taking .answer) };
       journal = x .journal;
       buffer = x .buffer;
     }

@@ -1,2 +1,3 @@
 pub mod Classes
+pub mod Hearings
 pub mod Own

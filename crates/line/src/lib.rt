@@ -3,6 +3,8 @@ ghost use mathlib.Core.Path.{_≡_};
 ghost use Rattle.line.specs.Line.{freshLine, openedLine, closedLine, lastWithin, sendingWithin, stateWithin, withinLimits, askedLine, goneLine, begunLine, collectedLine, countedLine, waitingLine, acceptedLine, refusingLine};
 ghost use Rattle.line.specs.Seconds.{passedOf};
 ghost use Rattle.line.specs.Turn.{isLast, turnOf};
+use settings::Dialogue;
+use settings::Settings;
 
 // Where a sending is: our ENQ awaits its reply, refused so often by now; the pause behind that many refusals; a frame was sent so
 // often, its text starts at this place, and it awaits its reply.
@@ -35,6 +37,7 @@ pub struct Line {
     pub next: u8,
     pub last: Last,
     pub refusing: bool,
+    pub settings: Settings,
 }
 
 // What a line's seconds come to: a count below 30, or the time has run out.
@@ -68,6 +71,9 @@ impl Line {
     pub fn fresh() -> Line
         ensures { λ r. ⌜ r ≡ freshLine ⌝ }
     {
+        let settings = Settings {
+            dialogue: Dialogue::Frames,
+        };
         Line {
             state: State::Neutral, // no transfer has begun
             collected: 0,
@@ -76,6 +82,7 @@ impl Line {
             next: 1,
             last: Last::NoneYet,
             refusing: false,
+            settings: settings,
         }
     }
 
@@ -83,6 +90,7 @@ impl Line {
     pub fn opened(self) -> Line
         ensures { λ r. ⌜ r ≡ openedLine self ⌝ }
     {
+        let settings = self.settings;
         Line {
             state: State::Waiting,
             collected: 0,
@@ -91,6 +99,7 @@ impl Line {
             next: 1, // a transfer's frames count from 1
             last: Last::NoneYet,
             refusing: false,
+            settings: settings,
         }
     }
 
@@ -98,6 +107,7 @@ impl Line {
     pub fn closed(self) -> Line
         ensures { λ r. ⌜ r ≡ closedLine self ⌝ }
     {
+        let settings = self.settings;
         Line {
             state: State::Neutral, // the transfer is over
             collected: 0,
@@ -106,9 +116,11 @@ impl Line {
             next: 1,
             last: Last::NoneYet,
             refusing: false,
+            settings: settings,
         }
     }
 
+    // Of a line of frames: a strip reader's record is beyond its limits here.
     pub fn is_within_limits(self) -> bool
         ensures { λ r. ⌜ r ≡ withinLimits self ⌝ }
     {
@@ -129,13 +141,18 @@ impl Line {
             return false;
         }
         let state = self.state;
-        is_state_within(state)
+        if !is_state_within(state) {
+            return false;
+        }
+        let settings = self.settings;
+        settings::speaks_frames(settings)
     }
 
     // What the start of a sending of so many bytes leaves: our ENQ awaits its reply.
     pub fn asked(self, joined: u16) -> Line
         ensures { λ r. ⌜ r ≡ askedLine self joined ⌝ }
     {
+        let settings = self.settings;
         Line {
             state: State::Out(Sending::Asking(0)),
             collected: 0,
@@ -144,6 +161,7 @@ impl Line {
             next: 1, // the frames count from 1
             last: Last::NoneYet,
             refusing: false,
+            settings: settings,
         }
     }
 
@@ -151,6 +169,7 @@ impl Line {
     pub fn gone(self, sending: Sending, number: u8) -> Line
         ensures { λ r. ⌜ r ≡ goneLine self sending number ⌝ }
     {
+        let settings = self.settings;
         let last = self.last;
         Line {
             state: State::Out(sending),
@@ -160,6 +179,7 @@ impl Line {
             next: number,
             last: last,
             refusing: self.refusing,
+            settings: settings,
         }
     }
 
@@ -167,6 +187,7 @@ impl Line {
     pub fn begun(self) -> Line
         ensures { λ r. ⌜ r ≡ begunLine self ⌝ }
     {
+        let settings = self.settings;
         let last = self.last;
         Line {
             state: State::Inside,
@@ -176,6 +197,7 @@ impl Line {
             next: self.next,
             last: last,
             refusing: self.refusing,
+            settings: settings,
         }
     }
 
@@ -191,6 +213,7 @@ impl Line {
     pub fn waiting(self) -> Line
         ensures { λ r. ⌜ r ≡ waitingLine self ⌝ }
     {
+        let settings = self.settings;
         let last = self.last;
         Line {
             state: State::Waiting,
@@ -200,6 +223,7 @@ impl Line {
             next: self.next, // a refused frame does not advance it
             last: last,
             refusing: self.refusing,
+            settings: settings,
         }
     }
 
@@ -207,6 +231,7 @@ impl Line {
     pub fn accepted(self, joined: u16) -> Line
         ensures { λ r. ⌜ r ≡ acceptedLine self joined ⌝ }
     {
+        let settings = self.settings;
         Line {
             state: State::Waiting,
             collected: 0,
@@ -215,6 +240,7 @@ impl Line {
             next: digits::next_number(self.next),
             last: Last::Number(self.next),
             refusing: self.refusing,
+            settings: settings,
         }
     }
 
@@ -222,6 +248,7 @@ impl Line {
     pub fn against(self) -> Line
         ensures { λ r. ⌜ r ≡ refusingLine self ⌝ }
     {
+        let settings = self.settings;
         let last = self.last;
         Line {
             state: State::Waiting,
@@ -231,6 +258,7 @@ impl Line {
             next: self.next,
             last: last,
             refusing: true,
+            settings: settings,
         }
     }
 

@@ -3,7 +3,7 @@
 ghost use mathlib.Core.Path.{_≡_};
 ghost use Rattle.looking.specs.declared.Kind.the-variants.{Byte, Seconds};
 ghost use Rattle.faults.specs.Message.{isMessage};
-ghost use Rattle.layout.specs.Layout.{layout, Fresh};
+ghost use Rattle.layout.specs.Layout.{layout, Fresh, Started};
 ghost use Rattle.calls.specs.Calls.{Calling};
 ghost use Rattle.orders.specs.Calls.{Sent, Fetched};
 ghost use Rattle.reader.specs.Takings.{Taken};
@@ -67,7 +67,7 @@ pub extern "C" fn ngachodui_send(
     orders::send(line, text, numbers, journal, unfinished, frames)
 }
 
-// The frame that a line offers goes to the start of out.
+// The frame that a line offers, or our last reply to its strip reader, goes to the start of out.
 #[no_mangle]
 pub extern "C" fn ngachodui_outgoing(
     line: u8,
@@ -98,13 +98,26 @@ pub extern "C" fn ngachodui_take(
 
 // Every line fresh, the journal empty. The version of the layout ends the name: an object of another version finds no such function.
 #[no_mangle]
-pub extern "C" fn ngachodui_fresh_2(
+pub extern "C" fn ngachodui_fresh_3(
     numbers: &mut [u16; layout::NUMBERS],
     counts: &mut [u32; layout::COUNTS],
 )
     ensures { λ _. ⌜ Fresh (now (numbers .exit)) (now (counts .exit)) ⌝ }
 {
     layout::fresh(numbers, counts);
+}
+
+// Every line fresh and set to speak what is said (0 frames, 10 or 13 a strip reader's blocks), the journal empty: 0; or 42, and nothing
+// is changed.
+#[no_mangle]
+pub extern "C" fn ngachodui_start_3(
+    speaks: &[u16; memory::LINES],
+    numbers: &mut [u16; layout::NUMBERS],
+    counts: &mut [u32; layout::COUNTS],
+) -> u8
+    ensures { λ r. ⌜ Started (now (speaks .entry)) (now (numbers .entry)) (now (counts .entry)) r (now (numbers .exit)) (now (counts .exit)) ⌝ }
+{
+    layout::start(speaks, numbers, counts)
 }
 
 // The layout, for a host to compare with its own.

@@ -1,21 +1,23 @@
 -- What each test of the numbers decides.
 -- Assumes nothing.
-use mathlib.Core.Path.{_≡_, refl, sym, _∙_}
+use mathlib.Core.Path.{_≡_, refl, sym, ap, _∙_}
 use mathlib.Core.Bool.{Bool, true, false, not, _&&_}
 use mathlib.Core.List.{List}
 use Prim.Native.Nat.{ℕ, _+_, _-_, _≤_, _<_}
-use borrow.Author.Tests.{lt-ltb, le-ltb, ltb-true, eq-eqb, ne-eqb}
-use lib.Dec.{ltb, eqb}
+use native.Mathlib.Omega.{arith}
+use borrow.Author.Tests.{lt-ltb, le-ltb, ltb-true, leb-true, le-leb, eqb-true, eq-eqb, ne-eqb}
+use lib.Dec.{leb, ltb, eqb}
 use lib.ListN.{length, set}
 use Rattle.memory.specs.Sizes.{lines, frameLimit, framesSize}
 use Rattle.memory.specs.Tests.{is}
 use Rattle.characters.specs.Control.{lf}
 use Rattle.line.specs.Line.{mostCollected}
-use Rattle.memory.proofs.Tests.{and-left, and-right}
+use Rattle.memory.proofs.Tests.{and-left, and-right, and-not-right}
 use Rattle.looking.specs.Views.{frameStart}
 use Rattle.looking.specs.declared.Kind.{Kind}
 use Rattle.layout.specs.Layout.{firstAt, numberAt}
-use Rattle.numbers.specs.Plain.{inside, quick, onlyCollects, withinNumbers, oneMore, begins, insideAt}
+use Rattle.numbers.specs.Plain.{inside, quick, onlyCollects, sendingFits, countsFit, speechFits, withinNumbers, oneMore, begins, insideAt}
+use Rattle.numbers.proofs.Numbers.{within-others}
 use Rattle.numbers.specs.Changes.{isWithin, isCollected, Collected, isBegun, Begun}
 
 -- a byte is quick by the line's limits, and by what is collected
@@ -27,18 +29,40 @@ module _ (ns : List ℕ) (i b : ℕ) where
       and-false true = refl
       and-false false = refl
 
-  pub quick-full : numberAt ns i 1 ≡ frameLimit - 2 → false ≡ quick ns i b
-  unfolding onlyCollects mostCollected
-  quick-full e = rw (eq-eqb (numberAt ns i 1) (frameLimit - 2) e) (sym (both-false (eqb (firstAt ns i) inside) (not (is lf b)) (withinNumbers ns i)))
+  -- a strip reader's byte is not quick, nor one that finds as many collected as a frame can have
+  pub quick-reader : (numberAt ns i 10 ≡ 0 → ⊥) → false ≡ quick ns i b
+  unfolding onlyCollects
+  quick-reader e = rw (ne-eqb (numberAt ns i 10) 0 e) (sym (both-false (eqb (firstAt ns i) inside) (not (is lf b)) (withinNumbers ns i)))
     where
       both-false : (a c d : Bool) → (a && (c && false)) && d ≡ false
       both-false true true d = refl
       both-false true false d = refl
       both-false false c d = refl
 
-  pub quick-rest : firstAt ns i ≡ inside → (b ≡ lf → ⊥) → (numberAt ns i 1 ≡ frameLimit - 2 → ⊥) → quick ns i b ≡ withinNumbers ns i
-  unfolding onlyCollects mostCollected
-  quick-rest s n c = rw (s, ne-eqb b lf n, ne-eqb (numberAt ns i 1) (frameLimit - 2) c)
+  module _ (s : firstAt ns i ≡ inside) (n : b ≡ lf → ⊥) (e : numberAt ns i 10 ≡ 0) (t : sendingFits (firstAt ns i) (numberAt ns i 8) (numberAt ns i 9) ≡ true) where
+    within-speech : withinNumbers ns i ≡ countsFit ns i && leb (numberAt ns i 1) (frameLimit - 2)
+    unfolding speechFits mostCollected
+    within-speech = within-others ns i (omega (arith, s)) t ∙ ap (λ (x : Bool). countsFit ns i && x) (rw e)
+
+    pub quick-full : frameLimit - 2 ≤ numberAt ns i 1 → false ≡ quick ns i b
+    unfolding onlyCollects mostCollected
+    quick-full c = by-count (leb (numberAt ns i 1) (frameLimit - 2)) refl
+      where
+        by-count : (t : Bool) → leb (numberAt ns i 1) (frameLimit - 2) ≡ t → false ≡ quick ns i b
+        by-count true q =
+            let same : numberAt ns i 1 ≡ frameLimit - 2 = omega (arith, leb-true (numberAt ns i 1) (frameLimit - 2) q) in
+            rw (s, ne-eqb b lf n, e, eq-eqb (numberAt ns i 1) (frameLimit - 2) same)
+        by-count false q = quick-beyond (within-speech ∙ and-not-right (countsFit ns i) _ q)
+
+    pub quick-rest : numberAt ns i 1 < frameLimit - 2 → quick ns i b ≡ countsFit ns i
+    unfolding onlyCollects mostCollected
+    quick-rest c =
+        rw (s, ne-eqb b lf n, e, ne-eqb (numberAt ns i 1) (frameLimit - 2) (λ q. absurd (omega arith)), within-speech, le-leb (numberAt ns i 1) (frameLimit - 2) (omega arith))
+        (and-true (countsFit ns i))
+      where
+        and-true : (a : Bool) → a && true ≡ a
+        and-true true = refl
+        and-true false = refl
 
 -- a byte: not collected on no line, in frames of another size, or where it is not quick
 module _ (ns : List ℕ) (i b : ℕ) (f : List ℕ) where
@@ -63,6 +87,13 @@ module _ (ns : List ℕ) (i b : ℕ) (f : List ℕ) where
 
     pub collected : {ns′ f′ : List ℕ} → quick ns i b ≡ true → ns′ ≡ oneMore ns i → f′ ≡ set f (frameStart i + numberAt ns i 1) b → Collected ns i b f true ns′ f′
     collected q n g = record { result = sym (test q); numbers = rw (test q) n; frames = rw (test q) g }
+
+  pub quick-frames : quick ns i b ≡ true → numberAt ns i 10 ≡ 0
+  unfolding onlyCollects
+  quick-frames q =
+      let all = and-left (onlyCollects ns i b) (withinNumbers ns i) q in
+      let past = and-right (eqb (firstAt ns i) inside) _ all in
+      eqb-true (numberAt ns i 10) 0 (and-left (eqb (numberAt ns i 10) 0) _ (and-right (not (is lf b)) _ past))
 
   pub quick-within : quick ns i b ≡ true → withinNumbers ns i ≡ true
   quick-within q = and-right (onlyCollects ns i b) (withinNumbers ns i) q

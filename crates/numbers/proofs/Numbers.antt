@@ -10,10 +10,15 @@ use borrow.Author.Tests.{leb-true, le-leb, ltb-true, eqb-true}
 use lib.Dec.{leb, ltb, eqb}
 use lib.ListN.{getD, set}
 use lib.Seq.{set-getD, getD-set-other}
-use Rattle.memory.specs.Sizes.{lines, messageLimit, frameLimit}
-use Rattle.memory.proofs.Tests.{and-left, and-right}
+use Rattle.memory.specs.Sizes.{lines, messageLimit}
+use Rattle.memory.proofs.Tests.{and-left, and-right, and-both}
 use Rattle.digits.specs.Number.{mostNumber}
-use Rattle.line.specs.Line.{mostCollected, mostSeconds, mostTries, lastWithin, stateWithin, withinLimits, collectedLine, begunLine}
+use Rattle.settings.specs.Settings.{resultsLength, byDialogue}
+use Rattle.settings.specs.declared.Patient.{Patient}
+use Rattle.settings.specs.declared.Patient.the-variants.{Ten, Thirteen}
+use Rattle.settings.specs.declared.Dialogue.the-variants.{Blocks}
+use Rattle.settings.specs.declared.Settings.{Settings}
+use Rattle.line.specs.Line.{mostCollected, mostSeconds, mostTries, lastWithin, stateWithin, countsWithin, withinLimits, blockWithin, recordWithin, collectedLine, begunLine}
 use Rattle.line.specs.declared.Last.the-variants.{Number}
 use Rattle.line.proofs.Limits.{collected-fits, within-of}
 use Rattle.line.specs.declared.Line.{Line}
@@ -22,23 +27,17 @@ use Rattle.line.specs.declared.State.the-variants.{Inside}
 use Rattle.layout.specs.Layout.{start, firstAt, numberAt}
 use Rattle.ledger.specs.Ledgers.{ledgerOf, withSerial}
 use Rattle.ledger.proofs.Ledgers.{again, serial-at}
-use Rattle.numbers.specs.Plain.{insideAt, waiting, inside, pausing, offering, stateOf, stateNumber, triesNumber, placeNumber, sendingFits, lastOf, lastNumber, flag, withinNumbers, lineOf, withLine}
-
--- the numbers behind the state, without tries and place
-abbrev pub othersWithin : List ℕ → ℕ → Bool
-othersWithin ns i =
-    leb (numberAt ns i 1) (frameLimit - 2) && (leb (numberAt ns i 2) messageLimit && (leb (numberAt ns i 3) mostSeconds
-    && (leb (numberAt ns i 4) mostNumber && (leb (numberAt ns i 5) (mostNumber + 1) && leb (numberAt ns i 6) 1))))
+use Rattle.numbers.specs.Plain.{insideAt, waiting, inside, pausing, offering, stateOf, stateNumber, triesNumber, placeNumber, sendingFits, lastOf, lastNumber, flag, countsFit, blockFits, speechFits, withinNumbers, settingsOf, lineOf, withLine}
 
 pub record WithinNumbers (ns : List ℕ) (i : ℕ) : Type 0 where
   pub state : firstAt ns i ≤ offering
-  pub collected : numberAt ns i 1 ≤ mostCollected (lineOf ns i)
   pub joined : numberAt ns i 2 ≤ messageLimit
   pub seconds : numberAt ns i 3 ≤ mostSeconds
   pub next : numberAt ns i 4 ≤ mostNumber
   pub last : numberAt ns i 5 ≤ mostNumber + 1
   pub refusing : numberAt ns i 6 ≤ 1
   pub sending : sendingFits (firstAt ns i) (numberAt ns i 8) (numberAt ns i 9) ≡ true
+  pub speech : speechFits ns i ≡ true
 
 module _ (ns : List ℕ) (i : ℕ) where
   pub numbers-facts : withinNumbers ns i ≡ true → WithinNumbers ns i
@@ -46,37 +45,31 @@ module _ (ns : List ℕ) (i : ℕ) where
   numbers-facts e =
       let rest₁ = and-right (leb (firstAt ns i) offering) _ e in
       let rest₂ = and-right (sendingFits (firstAt ns i) (numberAt ns i 8) (numberAt ns i 9)) _ rest₁ in
-      let rest₃ = and-right (leb (numberAt ns i 1) (mostCollected (lineOf ns i))) _ rest₂ in
+      let rest₃ = and-left (countsFit ns i) _ rest₂ in
       let rest₄ = and-right (leb (numberAt ns i 2) messageLimit) _ rest₃ in
       let rest₅ = and-right (leb (numberAt ns i 3) mostSeconds) _ rest₄ in
       let rest₆ = and-right (leb (numberAt ns i 4) mostNumber) _ rest₅ in
       record {
         state = leb-true _ _ (and-left (leb (firstAt ns i) offering) _ e);
         sending = and-left (sendingFits (firstAt ns i) (numberAt ns i 8) (numberAt ns i 9)) _ rest₁;
-        collected = leb-true _ _ (and-left (leb (numberAt ns i 1) (mostCollected (lineOf ns i))) _ rest₂);
         joined = leb-true _ _ (and-left (leb (numberAt ns i 2) messageLimit) _ rest₃);
         seconds = leb-true _ _ (and-left (leb (numberAt ns i 3) mostSeconds) _ rest₄);
         next = leb-true _ _ (and-left (leb (numberAt ns i 4) mostNumber) _ rest₅);
         last = leb-true _ _ (and-left (leb (numberAt ns i 5) (mostNumber + 1)) _ rest₆);
         refusing = leb-true _ _ (and-right (leb (numberAt ns i 5) (mostNumber + 1)) _ rest₆);
+        speech = and-right (countsFit ns i) _ rest₂;
       }
 
--- a state with the tries and the place that it may have: the other numbers tell
-pub within-others : (ns : List ℕ) (i : ℕ) → firstAt ns i ≤ offering → sendingFits (firstAt ns i) (numberAt ns i 8) (numberAt ns i 9) ≡ true
-    → withinNumbers ns i ≡ othersWithin ns i
-unfolding withinNumbers mostCollected
-within-others ns i s f = rw (le-leb (firstAt ns i) offering s, f)
+  -- on a line of frames what is collected is within the limit of those
+  pub frames-collected : numberAt ns i 10 ≡ 0 → speechFits ns i ≡ true → numberAt ns i 1 ≤ mostCollected (lineOf ns i)
+  unfolding speechFits mostCollected
+  frames-collected e f = leb-true _ _ (rw e at f)
 
-pub others-last : (ns : List ℕ) (i : ℕ) → numberAt ns i 1 ≤ frameLimit - 2 → numberAt ns i 2 ≤ messageLimit → numberAt ns i 3 ≤ mostSeconds → numberAt ns i 4 ≤ mostNumber
-    → numberAt ns i 5 ≤ mostNumber + 1 → othersWithin ns i ≡ leb (numberAt ns i 6) 1
-others-last ns i c j t n l =
-    rw (
-      le-leb (numberAt ns i 1) (frameLimit - 2) c,
-      le-leb (numberAt ns i 2) messageLimit j,
-      le-leb (numberAt ns i 3) mostSeconds t,
-      le-leb (numberAt ns i 4) mostNumber n,
-      le-leb (numberAt ns i 5) (mostNumber + 1) l,
-    )
+-- a state with the tries and the place that it may have: counts and speech tell
+pub within-others : (ns : List ℕ) (i : ℕ) → firstAt ns i ≤ offering → sendingFits (firstAt ns i) (numberAt ns i 8) (numberAt ns i 9) ≡ true
+    → withinNumbers ns i ≡ countsFit ns i && speechFits ns i
+unfolding withinNumbers
+within-others ns i s f = rw (le-leb (firstAt ns i) offering s, f)
 
 -- and with others it is none
 pub within-unfit : (ns : List ℕ) (i : ℕ) → firstAt ns i ≤ offering → sendingFits (firstAt ns i) (numberAt ns i 8) (numberAt ns i 9) ≡ false → false ≡ withinNumbers ns i
@@ -127,10 +120,60 @@ last-fits : (n : ℕ) → n ≤ mostNumber + 1 → lastWithin (lastOf n) ≡ tru
 last-fits zero h = refl
 last-fits (suc n) h = le-leb n mostNumber (omega arith)
 
-pub line-within : (ns : List ℕ) (i : ℕ) → withinNumbers ns i ≡ true → withinLimits (lineOf ns i) ≡ true
-line-within ns i e =
+-- a line of frames
+pub line-within : (ns : List ℕ) (i : ℕ) → withinNumbers ns i ≡ true → numberAt ns i 10 ≡ 0 → withinLimits (lineOf ns i) ≡ true
+line-within ns i e frames =
     let w = numbers-facts ns i e in
-    within-of (lineOf ns i) (record { collected = w .collected; most = collected-fits (lineOf ns i); joined = w .joined; seconds = w .seconds; next = w .next; last = last-fits (numberAt ns i 5) (w .last); state = state-back (firstAt ns i) (numberAt ns i 8) (numberAt ns i 9) (w .state) (w .sending) .within })
+    within-of (lineOf ns i) (record {
+      frames = rw frames;
+      collected = frames-collected ns i frames (w .speech);
+      most = collected-fits (lineOf ns i);
+      joined = w .joined;
+      seconds = w .seconds;
+      next = w .next;
+      last = last-fits (numberAt ns i 5) (w .last);
+      state = state-back (firstAt ns i) (numberAt ns i 8) (numberAt ns i 9) (w .state) (w .sending) .within;
+    })
+
+-- a strip reader's line
+counts-within : (ns : List ℕ) (i : ℕ) → WithinNumbers ns i → countsWithin (lineOf ns i) ≡ true
+counts-within ns i w =
+    rw (
+      le-leb (numberAt ns i 2) messageLimit (w .joined),
+      le-leb (numberAt ns i 3) mostSeconds (w .seconds),
+      le-leb (numberAt ns i 4) mostNumber (w .next),
+      last-fits (numberAt ns i 5) (w .last),
+      state-back (firstAt ns i) (numberAt ns i 8) (numberAt ns i 9) (w .state) (w .sending) .within,
+    )
+
+pub block-within : (ns : List ℕ) (i : ℕ) (p : Patient) → WithinNumbers ns i → blockFits ns i (resultsLength p) ≡ true → blockWithin p (lineOf ns i) ≡ true
+unfolding blockWithin
+block-within ns i p w e = and-both (ltb (numberAt ns i 1) (resultsLength p)) (countsWithin (lineOf ns i)) (and-left (ltb (numberAt ns i 1) (resultsLength p)) _ e) (counts-within ns i w)
+
+-- what a line speaks is one of three, and what it has fits that
+pub data Speech (ns : List ℕ) (i : ℕ) : Type 0 where
+  in-frames : numberAt ns i 10 ≡ 0 → Speech ns i
+  in-blocks : (p : Patient) → lineOf ns i .settings ≡ record { dialogue = Blocks p } → eqb (numberAt ns i 10) 0 ≡ false → blockFits ns i (resultsLength p) ≡ true → Speech ns i
+
+pub speech-is : (ns : List ℕ) (i : ℕ) → speechFits ns i ≡ true → Speech ns i
+unfolding speechFits
+speech-is ns i e = by-number (eqb (numberAt ns i 10) 0) refl (eqb (numberAt ns i 10) 10) refl
+  where
+    by-number : (a : Bool) → eqb (numberAt ns i 10) 0 ≡ a → (b : Bool) → eqb (numberAt ns i 10) 10 ≡ b → Speech ns i
+    by-number true p b q = in-frames (eqb-true (numberAt ns i 10) 0 p)
+    by-number false p true q = in-blocks Ten (rw (p, q)) p (rw (p, q) at e)
+    by-number false p false q = in-blocks Thirteen (rw (p, q)) p (and-right (eqb (numberAt ns i 10) 13) _ (rw (p, q) at e))
+
+-- a line, by what it speaks
+pub record-within : (ns : List ℕ) (i : ℕ) → withinNumbers ns i ≡ true → recordWithin (lineOf ns i) ≡ true
+record-within ns i e = by-speech (speech-is ns i (numbers-facts ns i e .speech))
+  where
+    spoken : Settings → Bool
+    spoken t = byDialogue (t .dialogue) (withinLimits (lineOf ns i)) (λ p. blockWithin p (lineOf ns i))
+
+    by-speech : Speech ns i → recordWithin (lineOf ns i) ≡ true
+    by-speech (in-frames q) = ap (λ (n : ℕ). spoken (settingsOf n)) q ∙ line-within ns i e q
+    by-speech (in-blocks p t n f) = ap spoken t ∙ block-within ns i p (numbers-facts ns i e) f
 
 -- nine stores are the numbers with another record
 pub put-line : (ns : List ℕ) (i : ℕ) (l : Line) (s t r n p : ℕ) → s ≡ stateNumber (l .state) → t ≡ lastNumber (l .last) → r ≡ flag (l .refusing)
@@ -181,6 +224,7 @@ module _ (ns us : List ℕ) (i : ℕ) (h : i < lines) (e : withinNumbers ns i �
     next = lineOf ns i .next;
     last = lineOf ns i .last;
     refusing = lineOf ns i .refusing;
+    settings = lineOf ns i .settings;
   }
 
   -- with tries and place that stand there

@@ -2,7 +2,7 @@
 -- Assumes nothing.
 use Prim.Native.Nat.{ℕ, _+_}
 use mathlib.Core.Path.{_≡_}
-use mathlib.Core.Bool.{Bool, _&&_}
+use mathlib.Core.Bool.{Bool, not, _&&_}
 use mathlib.Core.List.{List}
 use lib.ListN.{length, set}
 use lib.Dec.{ltb, eqb}
@@ -12,7 +12,7 @@ use Rattle.line.specs.Line.{freshLine}
 use Rattle.line.specs.declared.Line.{Line}
 use Rattle.looking.specs.Views.{frameStart}
 use Rattle.looking.specs.declared.Kind.{Kind}
-use Rattle.layout.specs.Layout.{collectedAt, numberAt}
+use Rattle.layout.specs.Layout.{collectedAt, speaksAt, numberAt, frames}
 use Rattle.numbers.specs.Plain.{lineOf, withinNumbers, quick, oneMore, begins, insideAt, withLine}
 
 -- whether a line's numbers stand for a record within its limits
@@ -22,6 +22,10 @@ isWithin ns i = ltb i lines && withinNumbers ns i
 -- the record that they stand for; where they stand for none, that of a fresh line
 abbrev pub recordOf : List ℕ → ℕ → Line
 recordOf ns i = unless (isWithin ns i) freshLine (lineOf ns i)
+
+-- whether a line is a strip reader's
+unfoldable pub isReader : List ℕ → ℕ → Bool
+isReader ns i = ltb i lines && not (eqb (numberAt ns i speaksAt) frames)
 
 -- whether a byte is only collected, in frames of the right size
 unfoldable pub isCollected : List ℕ → ℕ → ℕ → List ℕ → Bool

@@ -9,6 +9,11 @@ use Rattle.memory.specs.Sizes.{messageLimit}
 use Rattle.memory.specs.Tests.{is}
 use Rattle.characters.specs.Control.{lf, stx}
 use Rattle.digits.specs.Number.{mostNumber}
+use Rattle.settings.specs.Settings.{resultsLength}
+use Rattle.settings.specs.declared.Patient.the-variants.{Ten, Thirteen}
+use Rattle.settings.specs.declared.Dialogue.{Dialogue}
+use Rattle.settings.specs.declared.Dialogue.the-variants.{Frames, Blocks}
+use Rattle.settings.specs.declared.Settings.{Settings}
 use Rattle.line.specs.Line.{mostCollected, mostSeconds, mostTries}
 use Rattle.line.specs.declared.Line.{Line}
 use Rattle.line.specs.declared.State.{State}
@@ -19,7 +24,7 @@ use Rattle.line.specs.declared.Last.{Last}
 use Rattle.line.specs.declared.Last.the-variants.{NoneYet, Number}
 use Rattle.looking.specs.declared.Kind.{Kind}
 use Rattle.looking.specs.declared.Kind.the-variants.{Byte, Seconds}
-use Rattle.layout.specs.Layout.{start, collectedAt, joinedAt, secondsAt, nextAt, lastAt, refusingAt, triesAt, placeAt, firstAt, numberAt}
+use Rattle.layout.specs.Layout.{start, collectedAt, joinedAt, secondsAt, nextAt, lastAt, refusingAt, triesAt, placeAt, speaksAt, replyAt, sinceAt, keptAt, firstAt, numberAt, frames, blocksOf10, blocksOf13}
 
 -- a state: 0 neutral, 1 waiting, 2 inside; and of a sending 3 asking, 4 pausing, 5 offering [H2]
 abbrev pub waiting : ℕ
@@ -88,7 +93,14 @@ lastNumber (Number n) = n + 1
 abbrev pub flag : Bool → ℕ
 flag b = cond b 1 0
 
--- the record that a line's numbers stand for, without the eighth, which is a serial, and the spare ones [H1]
+-- what a line speaks: 0 frames, 10 or 13 a strip reader's blocks, by the length of its patient numbers [H2, B1]
+abbrev pub dialogueOf : ℕ → Dialogue
+dialogueOf n = cond (eqb n frames) Frames (cond (eqb n blocksOf10) (Blocks Ten) (Blocks Thirteen))
+
+abbrev pub settingsOf : ℕ → Settings
+settingsOf n = record { dialogue = dialogueOf n }
+
+-- the record that a line's numbers stand for, without the eighth, which is a serial, what is kept of a reader, and the spare ones [H1]
 abbrev pub lineOf : List ℕ → ℕ → Line
 lineOf ns i = record {
   state = stateOf (firstAt ns i) (numberAt ns i triesAt) (numberAt ns i placeAt);
@@ -98,18 +110,42 @@ lineOf ns i = record {
   next = numberAt ns i nextAt;
   last = lastOf (numberAt ns i lastAt);
   refusing = eqb (numberAt ns i refusingAt) 1;
+  settings = settingsOf (numberAt ns i speaksAt);
 }
 
--- they are those of a record within its limits; the eighth, a serial, may be any, and so may the spare ones [A42, H3]
+-- the counts and numbers that every line has, collected bytes aside
+abbrev pub countsFit : List ℕ → ℕ → Bool
+countsFit ns i =
+    leb (numberAt ns i joinedAt) messageLimit && (leb (numberAt ns i secondsAt) mostSeconds
+    && (leb (numberAt ns i nextAt) mostNumber && (leb (numberAt ns i lastAt) (mostNumber + 1) && leb (numberAt ns i refusingAt) 1)))
+
+-- what is kept of a reader: one of two replies or none, and two that are yes or no [B12]
+abbrev pub mostReply : ℕ
+mostReply = 2
+
+abbrev pub readerFits : List ℕ → ℕ → Bool
+readerFits ns i = leb (numberAt ns i replyAt) mostReply && (leb (numberAt ns i sinceAt) 1 && leb (numberAt ns i keptAt) 1)
+
+-- a reader's line has fewer bytes collected than its longest block has
+abbrev pub blockFits : List ℕ → ℕ → ℕ → Bool
+blockFits ns i longest = ltb (numberAt ns i collectedAt) longest && readerFits ns i
+
+-- it speaks what a line can speak, and what it has collected is within the limits of that [A42, B12]
+unfoldable pub speechFits : List ℕ → ℕ → Bool
+speechFits ns i =
+    cond (eqb (numberAt ns i speaksAt) frames) (leb (numberAt ns i collectedAt) (mostCollected (lineOf ns i)))
+    (cond (eqb (numberAt ns i speaksAt) blocksOf10) (blockFits ns i (resultsLength Ten))
+    (eqb (numberAt ns i speaksAt) blocksOf13 && blockFits ns i (resultsLength Thirteen)))
+
+-- they are those of a record within its limits; the eighth, a serial, may be any, and so may the spare ones, and a block's [A42, H3]
 unfoldable pub withinNumbers : List ℕ → ℕ → Bool
 withinNumbers ns i =
-    leb (firstAt ns i) offering && (sendingFits (firstAt ns i) (numberAt ns i triesAt) (numberAt ns i placeAt)
-    && (leb (numberAt ns i collectedAt) (mostCollected (lineOf ns i)) && (leb (numberAt ns i joinedAt) messageLimit && (leb (numberAt ns i secondsAt) mostSeconds
-    && (leb (numberAt ns i nextAt) mostNumber && (leb (numberAt ns i lastAt) (mostNumber + 1) && leb (numberAt ns i refusingAt) 1))))))
+    leb (firstAt ns i) offering && (sendingFits (firstAt ns i) (numberAt ns i triesAt) (numberAt ns i placeAt) && (countsFit ns i && speechFits ns i))
 
 -- inside a frame that this byte does not end: it is only collected
 unfoldable pub onlyCollects : List ℕ → ℕ → ℕ → Bool
-onlyCollects ns i b = eqb (firstAt ns i) inside && (not (is lf b) && not (eqb (numberAt ns i collectedAt) (mostCollected (lineOf ns i))))
+onlyCollects ns i b =
+    eqb (firstAt ns i) inside && (not (is lf b) && (eqb (numberAt ns i speaksAt) frames && not (eqb (numberAt ns i collectedAt) (mostCollected (lineOf ns i)))))
 
 -- and nothing else stands against it: its line's numbers are within their limits
 abbrev pub quick : List ℕ → ℕ → ℕ → Bool

@@ -1,8 +1,10 @@
 // A line's record in plain numbers, as a host keeps it (`layout` says where each stands).
 ghost use mathlib.Core.Path.{_≡_};
-ghost use Rattle.numbers.specs.Changes.{isWithin, recordOf, Collected, Begun, recordAfter};
+ghost use Rattle.numbers.specs.Changes.{isWithin, isReader, recordOf, Collected, Begun, recordAfter};
 use layout::FIELDS;
+use layout::FRAMES;
 use layout::NUMBERS;
+use layout::SPEAKS;
 use line::Line;
 use looking::Kind;
 
@@ -47,6 +49,16 @@ pub fn is_within(numbers: &[u16; NUMBERS], i: usize) -> bool
         return false;
     }
     plain::is_within(numbers, i)
+}
+
+// Whether a line is a strip reader's.
+pub fn is_reader(numbers: &[u16; NUMBERS], i: usize) -> bool
+    ensures { λ r. ⌜ r ≡ isReader (now (numbers .entry)) i ⌝ }
+{
+    if memory::LINES <= i {
+        return false;
+    }
+    numbers[i * FIELDS + SPEAKS] != FRAMES
 }
 
 // The record that a line's numbers stand for; where they stand for none, that of a fresh line.

@@ -8,24 +8,34 @@ ghost use Rattle.line.specs.Line.{mostCollected};
 ghost use Rattle.line.specs.declared.State.the-variants.{Out};
 ghost use Rattle.looking.specs.Views.{frameStart};
 ghost use Rattle.layout.specs.Layout.{numberAt};
-ghost use Rattle.numbers.specs.Plain.{oneMore, quick, begins, sendingOf, stateOf, stateNumber, triesNumber, placeNumber, sendingFits, lastOf, lastNumber, flag, withinNumbers, lineOf, withLine};
+ghost use Rattle.numbers.specs.Plain.{oneMore, quick, begins, sendingOf, stateOf, stateNumber, triesNumber, placeNumber, sendingFits, lastOf, lastNumber, flag, countsFit, blockFits, speechFits, withinNumbers, dialogueOf, settingsOf, lineOf, withLine};
 use characters::LF;
 use characters::STX;
+use layout::BLOCKS_OF_10;
+use layout::BLOCKS_OF_13;
 use layout::COLLECTED;
 use layout::FIELDS;
+use layout::FRAMES;
 use layout::JOINED;
+use layout::KEPT;
 use layout::LAST;
 use layout::NEXT;
 use layout::NUMBERS;
 use layout::PLACE;
 use layout::REFUSING;
+use layout::REPLY;
 use layout::SECONDS;
+use layout::SINCE;
+use layout::SPEAKS;
 use layout::TRIES;
 use line::Last;
 use line::Line;
 use line::Sending;
 use line::State;
 use looking::Kind;
+use settings::Dialogue;
+use settings::Patient;
+use settings::Settings;
 
 // The states of a line that is not neutral: no state has a higher number than the last.
 const WAITING: u16 = 1;
@@ -37,6 +47,13 @@ const ASKING: u16 = 3;
 const PAUSING: u16 = 4;
 
 const OFFERING: u16 = 5;
+
+// The longest block of each kind of reader, and the largest number of a reply.
+const LONGEST_OF_10: u16 = 236;
+
+const LONGEST_OF_13: u16 = 239;
+
+const MOST_REPLY: u16 = 2;
 
 // A state in numbers: its own, its tries and its place.
 struct Stated {
@@ -57,9 +74,18 @@ pub fn is_within(numbers: &[u16; NUMBERS], i: usize) -> bool
     if !sending_fits(numbers[at], numbers[at + TRIES], numbers[at + PLACE]) {
         return false;
     }
-    if Line::MOST_COLLECTED < numbers[at + COLLECTED] {
+    if !are_counts_within(numbers, i) {
         return false;
     }
+    is_speech_within(numbers, i)
+}
+
+// Whether the counts and numbers that every line has are within their limits, its collected bytes aside.
+fn are_counts_within(numbers: &[u16; NUMBERS], i: usize) -> bool
+    requires { ⌜ i < lines ⌝ }
+    ensures { λ r. ⌜ r ≡ countsFit (now (numbers .entry)) i ⌝ }
+{
+    let at = i * FIELDS;
     if Line::MOST_JOINED < numbers[at + JOINED] {
         return false;
     }
@@ -73,6 +99,42 @@ pub fn is_within(numbers: &[u16; NUMBERS], i: usize) -> bool
         return false;
     }
     numbers[at + REFUSING] <= 1
+}
+
+// Whether the line speaks what one can, with no more bytes collected than it can have.
+fn is_speech_within(numbers: &[u16; NUMBERS], i: usize) -> bool
+    requires { ⌜ i < lines ⌝ }
+    ensures { λ r. ⌜ r ≡ speechFits (now (numbers .entry)) i ⌝ }
+{
+    let speaks = numbers[i * FIELDS + SPEAKS];
+    if speaks == FRAMES {
+        return numbers[i * FIELDS + COLLECTED] <= Line::MOST_COLLECTED;
+    }
+    if speaks == BLOCKS_OF_10 {
+        return is_block_within(numbers, i, LONGEST_OF_10);
+    }
+    if speaks == BLOCKS_OF_13 {
+        return is_block_within(numbers, i, LONGEST_OF_13);
+    }
+    false
+}
+
+// Whether a reader's line has fewer bytes collected than its longest block has, and what is kept of the reader is within its limits.
+fn is_block_within(numbers: &[u16; NUMBERS], i: usize, longest: u16) -> bool
+    requires { ⌜ i < lines ⌝ }
+    ensures { λ r. ⌜ r ≡ blockFits (now (numbers .entry)) i longest ⌝ }
+{
+    let at = i * FIELDS;
+    if longest <= numbers[at + COLLECTED] {
+        return false;
+    }
+    if MOST_REPLY < numbers[at + REPLY] {
+        return false;
+    }
+    if 1 < numbers[at + SINCE] {
+        return false;
+    }
+    numbers[at + KEPT] <= 1
 }
 
 // Whether a state may have these tries and this place.
@@ -97,8 +159,8 @@ fn sending_fits(state: u16, tries: u16, place: u16) -> bool
     place <= Line::MOST_JOINED
 }
 
-// Whether a byte is only collected, inside a frame that it does not end, and its line's numbers are within their limits: in this order none is compared twice once
-// it is compiled, and tries and place are tested while a register is free.
+// Whether a byte is only collected, inside a frame that it does not end, and its line's numbers are within their limits: in this order
+// none is compared twice once it is compiled, and tries and place are tested while a register is free.
 pub fn is_quick(numbers: &[u16; NUMBERS], i: usize, byte: u8) -> bool
     requires { ⌜ i < lines ⌝ }
     ensures { λ r. ⌜ r ≡ quick (now (numbers .entry)) i byte ⌝ }
@@ -110,13 +172,16 @@ pub fn is_quick(numbers: &[u16; NUMBERS], i: usize, byte: u8) -> bool
     if byte == LF {
         return false;
     }
+    if numbers[at + SPEAKS] != FRAMES {
+        return false;
+    }
     if !sending_fits(numbers[at], numbers[at + TRIES], numbers[at + PLACE]) {
         return false;
     }
-    if numbers[at + COLLECTED] == Line::MOST_COLLECTED {
+    if Line::MOST_COLLECTED <= numbers[at + COLLECTED] {
         return false;
     }
-    is_within(numbers, i)
+    are_counts_within(numbers, i)
 }
 
 // The byte behind those collected, and one more collected.
@@ -156,6 +221,7 @@ pub fn line_of(numbers: &[u16; NUMBERS], i: usize) -> Line
     let at = i * FIELDS;
     let state = state_of(numbers[at], numbers[at + TRIES], numbers[at + PLACE]);
     let last = last_of(numbers[at + LAST]);
+    let settings = settings_of(numbers[at + SPEAKS]);
     Line {
         state,
         collected: numbers[at + COLLECTED],
@@ -164,7 +230,29 @@ pub fn line_of(numbers: &[u16; NUMBERS], i: usize) -> Line
         next: numbers[at + NEXT] as u8,
         last,
         refusing: numbers[at + REFUSING] == 1,
+        settings,
     }
+}
+
+// 0 frames, else a strip reader's blocks.
+fn settings_of(speaks: u16) -> Settings
+    ensures { λ r. ⌜ r ≡ settingsOf speaks ⌝ }
+{
+    Settings {
+        dialogue: dialogue_of(speaks),
+    }
+}
+
+fn dialogue_of(speaks: u16) -> Dialogue
+    ensures { λ r. ⌜ r ≡ dialogueOf speaks ⌝ }
+{
+    if speaks == FRAMES {
+        return Dialogue::Frames;
+    }
+    if speaks == BLOCKS_OF_10 {
+        return Dialogue::Blocks(Patient::Ten);
+    }
+    Dialogue::Blocks(Patient::Thirteen)
 }
 
 // 0 neutral, 1 waiting, 2 inside, else a sending.

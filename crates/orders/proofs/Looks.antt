@@ -10,7 +10,6 @@ use lib.ListN.{length}
 use Rattle.memory.specs.Sizes.{lines, messageLimit, unfinishedSize}
 use Rattle.memory.specs.Tests.{unless}
 use Rattle.memory.proofs.Tests.{clash}
-use Rattle.line.specs.declared.State.{State}
 use Rattle.faults.specs.Message.{isMessage}
 use Rattle.faults.specs.Faults.{faultOf, isFaultless}
 use Rattle.faults.specs.declared.Checked.{Checked}
@@ -20,7 +19,7 @@ use Rattle.faults.proofs.NoFault.{no-fault}
 use Rattle.answers.specs.declared.Answer.the-variants.{NotNeutral, NoLine, WrongSize, BeyondLimits}
 use Rattle.looking.specs.Lent.{rightLengths}
 use Rattle.looking.proofs.Alone.{lengths-facts}
-use Rattle.orders.specs.Starts.{isNeutral, textLook, startLook}
+use Rattle.orders.specs.Starts.{textLook, startLook}
 use Rattle.orders.specs.declared.Start.{Start}
 use Rattle.orders.specs.declared.Start.the-variants.{Asks, Refused}
 
@@ -42,9 +41,9 @@ message-asks text m = by-fault (faultOf text) (sym (no-fault _ text) ∙ m)
     by-fault NotText q = clash cc
     by-fault (Faulty f p) q = clash cc
 
-module _ (i : ℕ) (within : Bool) (state : State) (text : List ℕ) (j u f : ℕ) where
+module _ (i : ℕ) (within can : Bool) (text : List ℕ) (j u f : ℕ) where
   abbrev look : Start
-  look = startLook i within state text j u f
+  look = startLook i within can text j u f
 
   -- 40, 41, 42, 60, then the text
   pub look-no-line : lines ≤ i → Refused NoLine ≡ look
@@ -62,11 +61,11 @@ module _ (i : ℕ) (within : Bool) (state : State) (text : List ℕ) (j u f : �
       look-beyond w = rw (lt-ltb i lines h, z, w)
 
       module _ (w : within ≡ true) where
-        pub look-busy : isNeutral state ≡ false → Refused NotNeutral ≡ look
+        pub look-busy : can ≡ false → Refused NotNeutral ≡ look
         unfolding startLook
         look-busy n = rw (lt-ltb i lines h, z, w, n)
 
-        pub look-text : isNeutral state ≡ true → textLook (faultOf text) ≡ look
+        pub look-text : can ≡ true → textLook (faultOf text) ≡ look
         unfolding startLook
         look-text n = rw (lt-ltb i lines h, z, w, n)
 
@@ -75,16 +74,16 @@ module _ (i : ℕ) (within : Bool) (state : State) (text : List ℕ) (j u f : �
     pub line : i < lines
     pub sizes : rightLengths j u f ≡ true
     pub limits : within ≡ true
-    pub neutral : isNeutral state ≡ true
+    pub free : can ≡ true
     pub message : isMessage text ≡ true
 
   pub asks-passed : look ≡ Asks → Passed
   unfolding startLook
-  asks-passed = by-line (ltb i lines) (rightLengths j u f) within (isNeutral state) refl refl refl refl
+  asks-passed = by-line (ltb i lines) (rightLengths j u f) within can refl refl refl refl
     where
-      by-line : (a b c d : Bool) → ltb i lines ≡ a → rightLengths j u f ≡ b → within ≡ c → isNeutral state ≡ d
+      by-line : (a b c d : Bool) → ltb i lines ≡ a → rightLengths j u f ≡ b → within ≡ c → can ≡ d
           → unless a (Refused NoLine) (unless b (Refused WrongSize) (unless c (Refused BeyondLimits) (unless d (Refused NotNeutral) (textLook (faultOf text))))) ≡ Asks → Passed
-      by-line true true true true p q r n e = record { line = ltb-true i lines p; sizes = q; limits = r; neutral = n; message = text-asks text e }
+      by-line true true true true p q r n e = record { line = ltb-true i lines p; sizes = q; limits = r; free = n; message = text-asks text e }
       by-line true true true false p q r n e = clash cc
       by-line true true false d p q r n e = clash cc
       by-line true false c d p q r n e = clash cc

@@ -1,13 +1,14 @@
 -- The start of a sending on a line: what it comes to, and what is left.
 -- Assumes nothing.
 use Prim.Native.Nat.{ℕ}
-use mathlib.Core.Bool.{Bool, true, false}
+use mathlib.Core.Bool.{Bool, true, false, _&&_}
 use mathlib.Core.List.{List}
 use lib.Dec.{ltb}
 use lib.ListN.{length}
 use Rattle.memory.specs.Sizes.{lines}
 use Rattle.memory.specs.Parts.{splice}
 use Rattle.memory.specs.Tests.{unless}
+use Rattle.settings.specs.Settings.{speaksFrames}
 use Rattle.line.specs.Line.{askedLine}
 use Rattle.line.specs.declared.Line.{Line}
 use Rattle.line.specs.declared.State.{State}
@@ -29,19 +30,23 @@ isNeutral Waiting = false
 isNeutral Inside = false
 isNeutral (Out s) = false
 
+-- only a neutral line of frames starts to send [A60, B1]
+abbrev pub canStart : Line → Bool
+canStart l = isNeutral (l .state) && speaksFrames (l .settings)
+
 -- only a message is sent: else 46, or its first fault with the place of that record [S1, R22]
 abbrev pub textLook : Checked → Start
 textLook Message = Asks
 textLook NotText = Refused Malformed
 textLook (Faulty f place) = Refused (Unsendable f place)
 
--- 40, 41, 42, 60, then the text; `within` says whether the line's record is within its limits [A60, O7]
-unfoldable pub startLook : ℕ → Bool → State → List ℕ → ℕ → ℕ → ℕ → Start
-startLook i within state text journal unfinished frames =
+-- 40, 41, 42, 60, then the text; `within` says whether the line's record is within its limits, and `can` whether it can start [A60, O7]
+unfoldable pub startLook : ℕ → Bool → Bool → List ℕ → ℕ → ℕ → ℕ → Start
+startLook i within can text journal unfinished frames =
     unless (ltb i lines) (Refused NoLine)
     (unless (rightLengths journal unfinished frames) (Refused WrongSize)
     (unless within (Refused BeyondLimits)
-    (unless (isNeutral state) (Refused NotNeutral)
+    (unless can (Refused NotNeutral)
     (textLook (faultOf text)))))
 
 -- the answer: our ENQ is to be sent, or what it is refused with [A9]

@@ -6,7 +6,9 @@ use answers::Answer;
 use answers::Answered;
 use answers::Made;
 use framing::Written;
+use layout::FIELDS;
 use layout::NUMBERS;
+use layout::REPLY;
 
 mod fetching; // fetching.rt: the frame that a line offers
 mod starting; // starting.rt: a start is looked at, and done
@@ -45,7 +47,7 @@ pub fn send(
     }
 }
 
-// The frame that a line offers goes to the start of out: 40, 41, 42, 47. Nothing else changes, so that it can be fetched again.
+// The frame that a line offers, or our last reply to its strip reader, goes to the start of out: 40, 41, 42, 47. Nothing else changes, so that it can be fetched again.
 pub fn outgoing(line: u8, numbers: &[u16; NUMBERS], unfinished: &[u8], out: &mut [u8]) -> Made
     ensures { λ r. ⌜ Fetched (now (numbers .entry)) line (now (unfinished .entry)) (now (out .entry)) r (now (out .exit)) ⌝ }
 {
@@ -58,6 +60,10 @@ pub fn outgoing(line: u8, numbers: &[u16; NUMBERS], unfinished: &[u8], out: &mut
     }
     if !numbers::is_within(numbers, i) {
         return answers::refused_with(Answer::BeyondLimits);
+    }
+    if numbers::is_reader(numbers, i) {
+        let reply = strips::replied_of(numbers[i * FIELDS + REPLY]);
+        return fetching::fetch_reply(reply, out);
     }
     let line = numbers::record_of(numbers, i);
     fetching::fetch(line, i, unfinished, out)

@@ -12,7 +12,7 @@ ghost use Rattle.answers.specs.declared.Parcel.the-variants.{Enquiry};
 ghost use Rattle.looking.specs.Views.{textStart};
 ghost use Rattle.numbers.specs.Plain.{lineOf, withLine};
 ghost use Rattle.numbers.specs.Changes.{isWithin};
-ghost use Rattle.orders.specs.Starts.{isNeutral, textLook};
+ghost use Rattle.orders.specs.Starts.{isNeutral, canStart, textLook};
 ghost use Rattle.orders.specs.Calls.{lookFrom};
 use super::Start;
 use answers::Answer;
@@ -20,6 +20,7 @@ use answers::Answered;
 use answers::Parcel;
 use faults::Checked;
 use layout::NUMBERS;
+use line::Line;
 use line::State;
 
 // 40, 41, 42, 60, then the text; of the three memories only their lengths are asked.
@@ -43,8 +44,7 @@ pub fn look(
         return Start::Refused(Answer::BeyondLimits);
     }
     let record = numbers::record_of(numbers, i);
-    let state = record.state;
-    if !is_neutral(state) {
+    if !can_start(record) {
         return Start::Refused(Answer::NotNeutral);
     }
     look_text(faults::check(text))
@@ -59,6 +59,18 @@ fn look_text(checked: Checked) -> Start
         Checked::NotText => Start::Refused(Answer::Malformed),
         Checked::Faulty(fault, place) => Start::Refused(Answer::Unsendable(fault, place)),
     }
+}
+
+// Only a neutral line of frames starts to send.
+fn can_start(line: Line) -> bool
+    ensures { λ r. ⌜ r ≡ canStart line ⌝ }
+{
+    let state = line.state;
+    if !is_neutral(state) {
+        return false;
+    }
+    let settings = line.settings;
+    settings::speaks_frames(settings)
 }
 
 fn is_neutral(state: State) -> bool

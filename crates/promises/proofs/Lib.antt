@@ -1,6 +1,12 @@
 pub mod Every
+pub mod Parts
+pub mod Framed
+pub mod Uploaded
 pub mod Sound
 pub mod Starts
+pub mod Findings
+pub mod CameFrames
+pub mod CameBlocks
 pub mod Came
 pub mod Kept
 pub mod Runs

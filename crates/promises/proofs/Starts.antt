@@ -15,6 +15,7 @@ use Rattle.memory.specs.Parts.{splice}
 use Rattle.memory.specs.Tests.{all, unless}
 use Rattle.memory.proofs.Parts.{length-part, part-around, part-splice, length-splice}
 use Rattle.memory.proofs.Lines.{part-elsewhere}
+use Rattle.memory.proofs.Tests.{clash, and-right}
 use Rattle.characters.specs.Allowed.{allowed}
 use Rattle.faults.specs.Message.{isMessage}
 use Rattle.faults.specs.Faults.{faultOf}
@@ -28,10 +29,14 @@ use Rattle.answers.proofs.Paper.{fault-number, fault-other, every-but}
 use Rattle.room.specs.Room.{todaysShares}
 use Rattle.journal_laws.specs.Held.{Held}
 use Rattle.journal_laws.specs.Runs.{State as Store}
-use Rattle.line.specs.Line.{withinLimits}
+use Rattle.settings.specs.Settings.{blockLimit, byDialogue, speaksFrames}
+use Rattle.settings.specs.declared.Settings.{Settings}
+use Rattle.settings.specs.declared.Dialogue.{Dialogue}
+use Rattle.settings.specs.declared.Dialogue.the-variants.{Frames, Blocks}
+use Rattle.line.specs.Line.{recordWithin}
 use Rattle.line.proofs.Limits.{within-facts, within-of, asked-within}
 use Rattle.looking.specs.Views.{textStart, textsOf}
-use Rattle.orders.specs.Starts.{isNeutral, textLook, startLook, startAnswer, lineStarted, textsStarted}
+use Rattle.orders.specs.Starts.{isNeutral, canStart, textLook, startLook, startAnswer, lineStarted, textsStarted}
 use Rattle.orders.specs.declared.Start.{Start}
 use Rattle.orders.specs.declared.Start.the-variants.{Asks, Refused}
 use Rattle.orders.proofs.Looks.{message-asks, Passed, asks-passed}
@@ -43,7 +48,8 @@ use Rattle.promises.specs.Runs.{answered, isDamage}
 use Rattle.promises.specs.Sending.{Intact}
 use Rattle.promises.specs.Clean.{unfinishedIn, Clean}
 use Rattle.promises.specs.Exactly.{Exactly}
-use Rattle.promises.proofs.Sound.{sound-intact, same-parts, each-line, Shaped, shaped-sound}
+use Rattle.promises.proofs.Parts.{same-parts, frames-within, within-frames}
+use Rattle.promises.proofs.Sound.{sound-intact, each-line, Shaped, shaped-sound}
 
 -- ---- the answers
 
@@ -67,31 +73,43 @@ text-mild (Faulty f place) = record {
   sends = λ e. absurd (fault-other f 9 refl e);
 }
 
+-- what a line speaks, where the test says frames
+speaks-frames : (t : Settings) → speaksFrames t ≡ true → t .dialogue ≡ Frames
+speaks-frames t e = by-dialogue (t .dialogue) e
+  where
+    by-dialogue : (d : Dialogue) → byDialogue d true (λ p. false) ≡ true → d ≡ Frames
+    by-dialogue Frames q = refl
+    by-dialogue (Blocks p) q = clash cc
+
 module _ (s : State) (w : Intact s) (i : ℕ) (text : List ℕ) (h : i < lines) where
   abbrev own : Parts
   own = partsOf s i
 
   -- what it comes to: 60, or what the text comes to
   abbrev pub start : Start
-  start = startLook i (withinLimits (own .line)) (own .line .state) text journalSize unfinishedSize framesSize
+  start = startLook i (recordWithin (own .line)) (canStart (own .line)) text journalSize unfinishedSize framesSize
 
-  start-looks : start ≡ unless (isNeutral (own .line .state)) (Refused NotNeutral) (textLook (faultOf text))
+  start-looks : start ≡ unless (canStart (own .line)) (Refused NotNeutral) (textLook (faultOf text))
   unfolding startLook
   start-looks = rw (lt-ltb i lines h, w .within i h)
 
   pub start-mild : Mild start
-  start-mild = subst Mild (sym start-looks) (by-state (isNeutral (own .line .state)))
+  start-mild = subst Mild (sym start-looks) (by-state (canStart (own .line)))
     where
       by-state : (b : Bool) → Mild (unless b (Refused NotNeutral) (textLook (faultOf text)))
       by-state true = text-mild (faultOf text)
       by-state false = record { undecided = refl; no-damage = refl; not-30 = refl; sends = λ e. absurd (omega (arith, e)) }
 
-  -- a message on a neutral line is sent; where one is sent, all tests have passed
-  pub message-starts : isNeutral (own .line .state) ≡ true → isMessage text ≡ true → start ≡ Asks
+  -- a message on a neutral line of frames is sent; where one is sent, all tests have passed
+  pub message-starts : canStart (own .line) ≡ true → isMessage text ≡ true → start ≡ Asks
   message-starts n m = start-looks ∙ rw (n, message-asks text m)
 
-  pub start-passed : start ≡ Asks → Passed i (withinLimits (own .line)) (own .line .state) text journalSize unfinishedSize framesSize
-  start-passed = asks-passed i (withinLimits (own .line)) (own .line .state) text journalSize unfinishedSize framesSize
+  pub start-passed : start ≡ Asks → Passed i (recordWithin (own .line)) (canStart (own .line)) text journalSize unfinishedSize framesSize
+  start-passed = asks-passed i (recordWithin (own .line)) (canStart (own .line)) text journalSize unfinishedSize framesSize
+
+  -- and so the line speaks frames
+  pub starts-frames : start ≡ Asks → own .line .settings .dialogue ≡ Frames
+  starts-frames e = speaks-frames (own .line .settings) (and-right (isNeutral (own .line .state)) (speaksFrames (own .line .settings)) (start-passed e .neutral))
 
   -- ---- what is left
 
@@ -120,7 +138,7 @@ module _ (s : State) (w : Intact s) (i : ℕ) (text : List ℕ) (h : i < lines) 
   pub start-own : partsOf ((step s (starting i text)) .1) i ≡ (onStart i own text (storeOf s)) .1
   start-own =
       let records = getD-set-same (s .gateway .lines) i (lineStarted start (own .line) text) noRecord (omega (arith, w .as-many)) in
-      ap (λ (x : AfterEvent). partsOf (leftBy x) i) start-is ∙ same-parts _ _ records (own-texts start refl) refl
+      ap (λ (x : AfterEvent). partsOf (leftBy x) i) start-is ∙ same-parts _ _ records (own-texts start refl) refl refl
 
   pub start-answer : (step s (starting i text)) .0 ≡ (onStart i own text (storeOf s)) .0
   start-answer = ap₂ told (ap (λ (x : AfterEvent). x .handled .answer) start-is) start-own
@@ -135,7 +153,7 @@ module _ (s : State) (w : Intact s) (i : ℕ) (text : List ℕ) (h : i < lines) 
   pub start-others : (l : ℕ) → l ≢ i → partsOf ((step s (starting i text)) .1) l ≡ partsOf s l
   start-others l n =
       let records = getD-set-other (s .gateway .lines) i l (lineStarted start (own .line) text) noRecord n in
-      ap (λ (x : AfterEvent). partsOf (leftBy x) l) start-is ∙ same-parts _ _ records (other-texts l n start refl) refl
+      ap (λ (x : AfterEvent). partsOf (leftBy x) l) start-is ∙ same-parts _ _ records (other-texts l n start refl) refl refl
 
   -- it decides nothing
   pub start-undecided : decides ((step s (starting i text)) .0) ≡ false
@@ -145,8 +163,8 @@ module _ (s : State) (w : Intact s) (i : ℕ) (text : List ℕ) (h : i < lines) 
   pub start-sends : answered ((step s (starting i text)) .0) ≡ 9 → start ≡ Asks
   start-sends e = start-mild .sends (sym (ap answered start-answer) ∙ e)
 
-  -- that is: where the line is neutral and the text is a message
-  pub start-exactly : Exactly (answered ((step s (starting i text)) .0) ≡ 9) ((isNeutral (own .line .state) ≡ true) × (isMessage text ≡ true))
+  -- that is: where the line is neutral and speaks frames, and the text is a message
+  pub start-exactly : Exactly (answered ((step s (starting i text)) .0) ≡ 9) ((canStart (own .line) ≡ true) × (isMessage text ≡ true))
   start-exactly = (
     λ e. let x = start-passed (start-sends e) in (x .neutral, x .message),
     λ e. ap answered start-answer ∙ ap (λ (x : Start). numberOf (startAnswer x)) (message-starts (e .0) (e .1)),
@@ -161,9 +179,11 @@ module _ (s : State) (w : Intact s) (i : ℕ) (text : List ℕ) (h : i < lines) 
 
   -- ---- a state stays sound, and its unfinished texts stay of allowed bytes
 
-  own-within : (x : Start) → start ≡ x → withinLimits (lineStarted x (own .line) text) ≡ true
+  own-within : (x : Start) → start ≡ x → recordWithin (lineStarted x (own .line) text) ≡ true
   own-within Asks e =
-      within-of (lineStarted Asks (own .line) text) (asked-within (own .line) (within-facts (own .line) (w .within i h)) (length text) (omega (arith, short e)))
+      let speaks = starts-frames e in
+      let within = within-facts (own .line) (frames-within (own .line) speaks (w .within i h)) in
+      within-frames (lineStarted Asks (own .line) text) speaks (within-of (lineStarted Asks (own .line) text) (asked-within (own .line) within (length text) (omega (arith, short e))))
   own-within (Refused a) e = w .within i h
 
   texts-long : (x : Start) → start ≡ x → length (textsStarted x i text (s .memory .unfinished)) ≡ length (s .memory .unfinished)
@@ -183,7 +203,9 @@ module _ (s : State) (w : Intact s) (i : ℕ) (text : List ℕ) (h : i < lines) 
   pub start-shaped : Shaped ((step s (starting i text)) .1)
   start-shaped = record {
     as-many = ap (λ (x : AfterEvent). length (x .handled .gateway .lines)) start-is ∙ length-set (s .gateway .lines) i (lineStarted start (own .line) text) ∙ w .as-many;
-    within = each-line (λ p. withinLimits (p .line) ≡ true) s ((step s (starting i text)) .1) i _ start-own start-others (own-within start refl) (w .within);
+    as-many-memos = ap (λ (x : AfterEvent). length (x .handled .gateway .memos)) start-is ∙ w .as-many-memos;
+    within = each-line (λ p. recordWithin (p .line) ≡ true) s ((step s (starting i text)) .1) i _ start-own start-others (own-within start refl) (w .within);
+    blocks = each-line (λ p. length (p .memo .block) ≡ blockLimit) s ((step s (starting i text)) .1) i _ start-own start-others (w .blocks i h) (w .blocks);
     texts = ap (λ (x : AfterEvent). length (x .memory .unfinished)) start-is ∙ texts-long start refl ∙ w .texts;
     frames = ap (λ (x : AfterEvent). length (x .memory .frames)) start-is ∙ w .frames;
   }
@@ -203,4 +225,4 @@ start-refused s i text n = by-start (startIn (s .gateway) i text (s .memory)) n
     by-start Asks n = absurd (n refl)
     by-start (Refused a) n =
         let same = set-getD (s .gateway .lines) i noRecord in
-        λ z. record { gateway = record { lines = same z; ledger = s .gateway .ledger }; memory = s .memory }
+        λ z. record { gateway = record { lines = same z; memos = s .gateway .memos; ledger = s .gateway .ledger }; memory = s .memory }

@@ -17,21 +17,20 @@ use Rattle.answers.specs.declared.Fault.{Fault}
 use Rattle.header.specs.Entry.{Entry}
 use Rattle.journal.specs.Chain.{chain}
 use Rattle.journal_laws.specs.Runs.{Numbered}
-use Rattle.receiving.specs.Steps.{Memory}
 use Rattle.serial.specs.Serial.{final, Every}
 use Rattle.promises.specs.Machine.{GatewayItem, step}
-use Rattle.promises.specs.Runs.{fresh}
+use Rattle.promises.specs.Runs.{Beginning, fresh}
 use Rattle.promises.specs.Queue.{allTaken}
 
 abbrev pub IsMessage : List ℕ → Type 0
 IsMessage text = isMessage text ≡ true
 
--- the run es, from a fresh gateway with the memory m [P7]
-pub record OnlyMessages (m : Memory) (es : List GatewayItem) : Type 0 where
+-- the run es, from this beginning [P7]
+pub record OnlyMessages (b : Beginning) (es : List GatewayItem) : Type 0 where
   pub entries : List Entry
-  pub whole : chain (final step (fresh m) es .gateway .ledger) (final step (fresh m) es .memory .journal) ≡ some entries
+  pub whole : chain (final step (fresh b) es .gateway .ledger) (final step (fresh b) es .memory .journal) ≡ some entries
   pub waiting : Every (λ (e : Entry). IsMessage (e .text)) entries
-  pub taken : (l : ℕ) → l < lines → Every (λ (n : Numbered). IsMessage (n .text)) (allTaken l (fresh m) es)
+  pub taken : (l : ℕ) → l < lines → Every (λ (n : Numbered). IsMessage (n .text)) (allTaken l (fresh b) es)
 
 -- reading it is never answered 46 or a fault, and where each of the four memories has a place for every record, it is read
 pub record Readable (text : List ℕ) : Type 0 where

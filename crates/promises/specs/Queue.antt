@@ -13,11 +13,10 @@ use Rattle.room.specs.Room.{todaysShares}
 use Rattle.journal_laws.specs.Held.{Held}
 use Rattle.journal_laws.specs.Runs.{Numbered, numbered, waiting}
 use Rattle.answers.specs.Paper.{valuesOf}
-use Rattle.receiving.specs.Steps.{Memory}
 use Rattle.looking.specs.declared.Kind.{Kind}
 use Rattle.serial.specs.Serial.{event, taking, final}
 use Rattle.promises.specs.Machine.{State, Response, GatewayItem, happens, starts, came, step}
-use Rattle.promises.specs.Runs.{fresh, answered, offered}
+use Rattle.promises.specs.Runs.{Beginning, fresh, answered, offered}
 
 -- the message that an event completes on its line; no bytes where it completes none
 abbrev pub completedIn : Option (List ℕ) → List ℕ
@@ -52,7 +51,7 @@ allTaken l s [] = []
 allTaken l s (e ∷ es) = takenOn l s e ++ allTaken l ((step s e) .1) es
 
 -- what was stored on a line is what was taken from it, in order and byte for byte, and then what waits in the journal [P2]
-pub record NothingLost (m : Memory) (es : List GatewayItem) : Type 0 where
+pub record NothingLost (b : Beginning) (es : List GatewayItem) : Type 0 where
   pub entries : List Entry
-  pub held : Held todaysShares (final step (fresh m) es .gateway .ledger) (final step (fresh m) es .memory .journal) entries
-  pub queue : (l : ℕ) → l < lines → numbered 0 (allStored l (fresh m) es) ≡ allTaken l (fresh m) es ++ waiting l entries
+  pub held : Held todaysShares (final step (fresh b) es .gateway .ledger) (final step (fresh b) es .memory .journal) entries
+  pub queue : (l : ℕ) → l < lines → numbered 0 (allStored l (fresh b) es) ≡ allTaken l (fresh b) es ++ waiting l entries

@@ -16,7 +16,8 @@ use Rattle.frame.specs.Piece.{Piece}
 use Rattle.pieces.specs.Pieces.{piecesOf}
 use Rattle.framing.specs.Frames.{framesFrom}
 use Rattle.cutting.specs.Frames.{cutOf}
-use Rattle.line.specs.Line.{freshLine, withinLimits}
+use Rattle.settings.specs.Settings.{blockLimit}
+use Rattle.line.specs.Line.{freshLine, recordWithin}
 use Rattle.characters.specs.Control.{enq, eot}
 use Rattle.answers.specs.declared.Answer.{Answer}
 use Rattle.answers.specs.declared.Answer.the-variants.{Nothing, Opened, Accepted, Stored, Ended, Taken}
@@ -27,7 +28,7 @@ use Rattle.room.specs.Room.{todaysShares, fits, raised}
 use Rattle.journal.specs.Storage.{newEntry, grown}
 use Rattle.journal_laws.specs.Held.{Held}
 use Rattle.journal.specs.declared.Ledger.{Ledger}
-use Rattle.gateway.specs.Events.{lineAt}
+use Rattle.gateway.specs.Events.{lineAt, memoAt}
 use Rattle.looking.specs.declared.Kind.the-variants.{Byte}
 use Rattle.serial.specs.Serial.{taking, annotate, final, Every}
 use Rattle.promises.specs.Machine.{State, Response, response, GatewayItem, came, step, partsOf}
@@ -96,10 +97,12 @@ sizesOf (m ∷ ms) = entrySize (length m) + sizesOf ms
 abbrev pub HasRoom : State → ℕ → List (List ℕ) → Type 0
 HasRoom s i ms = fits todaysShares (raised (s .gateway .ledger .used) i (sizesOf ms)) ≡ true
 
--- a gateway whose lines are in any state within their limits, with memory of the right sizes and a whole journal that holds these entries
+-- a gateway whose lines are in any state within their limits, whatever they speak, with memory of the right sizes and a whole journal that holds these entries
 pub record Intact (s : State) : Type 0 where
   pub as-many : length (s .gateway .lines) ≡ lines
-  pub within : (i : ℕ) → i < lines → withinLimits (lineAt (s .gateway) i) ≡ true
+  pub as-many-memos : length (s .gateway .memos) ≡ lines
+  pub within : (i : ℕ) → i < lines → recordWithin (lineAt (s .gateway) i) ≡ true
+  pub blocks : (i : ℕ) → i < lines → length (memoAt (s .gateway) i .block) ≡ blockLimit
   pub texts : length (s .memory .unfinished) ≡ unfinishedSize
   pub frames : length (s .memory .frames) ≡ framesSize
   pub journal : length (s .memory .journal) ≡ journalSize

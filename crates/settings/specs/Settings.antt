@@ -1,9 +1,11 @@
 -- What a line speaks, and the lengths of a strip reader's blocks.
 -- Assumes nothing.
 use Prim.Native.Nat.{ℕ}
+use mathlib.Core.Bool.{Bool, true, false}
 use Rattle.settings.specs.declared.Patient.{Patient}
 use Rattle.settings.specs.declared.Patient.the-variants.{Ten, Thirteen}
-use Rattle.settings.specs.declared.Dialogue.the-variants.{Frames}
+use Rattle.settings.specs.declared.Dialogue.{Dialogue}
+use Rattle.settings.specs.declared.Dialogue.the-variants.{Frames, Blocks}
 use Rattle.settings.specs.declared.Settings.{Settings}
 
 -- the length of a patient number [B2]
@@ -27,3 +29,12 @@ blockLimit = 239
 -- frames, unless it is said otherwise [B1]
 abbrev pub standardSettings : Settings
 standardSettings = record { dialogue = Frames }
+
+-- by what a line speaks
+abbrev pub byDialogue : {A : Type 0} → Dialogue → A → (Patient → A) → A
+byDialogue Frames frames blocks = frames
+byDialogue (Blocks p) frames blocks = blocks p
+
+-- whether a line speaks frames
+abbrev pub speaksFrames : Settings → Bool
+speaksFrames t = byDialogue (t .dialogue) true (λ p. false)

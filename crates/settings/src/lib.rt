@@ -1,6 +1,6 @@
 // What a line speaks. It is set when a gateway starts, and nothing changes it later.
 ghost use mathlib.Core.Path.{_≡_};
-ghost use Rattle.settings.specs.Settings.{patientLength, resultsLength, coloursLength, standardSettings};
+ghost use Rattle.settings.specs.Settings.{patientLength, resultsLength, coloursLength, standardSettings, speaksFrames};
 
 // The longest block of a strip reader, in bytes.
 pub const BLOCK_LIMIT: usize = 239;
@@ -25,7 +25,20 @@ pub struct Settings {
 pub fn standard() -> Settings
     ensures { λ r. ⌜ r ≡ standardSettings ⌝ }
 {
-    Settings { dialogue: Dialogue::Frames }
+    Settings {
+        dialogue: Dialogue::Frames,
+    }
+}
+
+// Whether a line speaks frames.
+pub fn speaks_frames(settings: Settings) -> bool
+    ensures { λ r. ⌜ r ≡ speaksFrames settings ⌝ }
+{
+    let dialogue = settings.dialogue;
+    match dialogue {
+        Dialogue::Frames => true,
+        Dialogue::Blocks(_) => false,
+    }
 }
 
 impl Patient {

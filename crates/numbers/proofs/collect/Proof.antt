@@ -7,8 +7,8 @@ use native.Mathlib.Omega.{arith}
 use denote.Ref.{now}
 use borrow.Author.Tests.{not-true, not-false}
 use Rattle.numbers.specs.Plain.{quick}
-use Rattle.numbers.proofs.Numbers.{numbers-facts}
-use Rattle.numbers.proofs.Changes.{left-nowhere, left-size, left-other, collected, quick-within}
+use Rattle.numbers.proofs.Numbers.{numbers-facts, frames-collected}
+use Rattle.numbers.proofs.Changes.{left-nowhere, left-size, left-other, collected, quick-frames, quick-within}
 use Rattle.numbers.proofs.collect.Statement.{statement}
 use Rattle.numbers.proofs.collect.Tie as tie
 
@@ -39,7 +39,9 @@ put-byte-requires c κs =
     let quick = c .before .before in
     let size = past (quick .before) in
     let a = entry size .args in
-    (omega arith, numbers-facts _ _ (quick-within (now (a .numbers)) (a .i) (a .byte) (now (a .frames)) (is-quick quick)) .collected, size .if2 .left)
+    let ns = now (a .numbers) in
+    let within = numbers-facts ns (a .i) (quick-within ns (a .i) (a .byte) (now (a .frames)) (is-quick quick)) in
+    (omega arith, frames-collected ns (a .i) (quick-frames ns (a .i) (a .byte) (now (a .frames)) (is-quick quick)) (within .speech), size .if2 .left)
 
 returns-4 : tie.Need-returns-4
 returns-4 c =

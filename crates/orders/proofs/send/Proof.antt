@@ -5,6 +5,7 @@ use denote.Ref.{now}
 use lib.ListN.{length}
 use Rattle.numbers.specs.Plain.{withinNumbers, lineOf}
 use Rattle.numbers.proofs.Changes.{within-there}
+use Rattle.orders.specs.Starts.{canStart}
 use Rattle.orders.specs.Calls.{lookFrom}
 use Rattle.orders.specs.declared.Start.the-variants.{Asks}
 use Rattle.orders.proofs.Looks.{Passed, asks-passed, passed-fits}
@@ -21,7 +22,7 @@ asks : (c : tie.After-enum-told) → let a = entry (c .before .before) .args in 
 asks c = sym (c .before .before .look .ensures) ∙ c .enum-told .given .1
 
 passed : (c : tie.After-enum-told) → let a = entry (c .before .before) .args in
-    Passed (a .line) (withinNumbers (now (a .numbers)) (a .line)) (lineOf (now (a .numbers)) (a .line) .state) (now (a .text)) (length (now (a .journal))) (length (now (a .unfinished))) (length (now (a .frames)))
+    Passed (a .line) (withinNumbers (now (a .numbers)) (a .line)) (canStart (lineOf (now (a .numbers)) (a .line))) (now (a .text)) (length (now (a .journal))) (length (now (a .unfinished))) (length (now (a .frames)))
 passed c = let a = entry (c .before .before) .args in asks-passed (a .line) _ _ (now (a .text)) _ _ _ (asks c)
 
 ask-requires : tie.Need-ask-requires

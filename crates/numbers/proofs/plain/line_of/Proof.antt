@@ -4,6 +4,7 @@ use borrow.Author.Needs.{needs}
 use native.Mathlib.Omega.{arith}
 use denote.Ref.{now}
 use Rattle.layout.specs.Layout.{firstAt, numberAt}
+use Rattle.numbers.specs.Plain.{lineOf}
 use Rattle.numbers.proofs.Numbers.{WithinNumbers, numbers-facts, few-tries}
 use Rattle.numbers.proofs.plain.line_of.Statement.{statement}
 use Rattle.numbers.proofs.plain.line_of.Tie as tie
@@ -20,18 +21,34 @@ state-of-requires c κs = let start = c .before .before .before in let ns = now 
 last-of-requires : tie.Need-last-of-requires
 last-of-requires c κs = let stated = c .before in let w = facts (stated .before .before .before .before) in omega (arith, w .last)
 
--- behind the last number
-abbrev entry : tie.After-last-of → tie.Start
-entry c = let stated = c .before .before in stated .before .before .before .before
+-- behind what the line speaks
+abbrev last : tie.After-settings-of → tie.After-last-of
+last c = c .before .before
 
-cast-t29 : tie.Need-cast-t29
-cast-t29 c = record { fits = let w = facts (entry (c .before .before .before)) in omega (arith, w .seconds) }
+abbrev entry : tie.After-settings-of → tie.Start
+entry c = let stated = last c .before .before in stated .before .before .before .before
 
-cast-t35 : tie.Need-cast-t35
-cast-t35 c = record { fits = let w = facts (entry (c .before .before .before .before)) in omega (arith, w .next) }
+cast-t32 : tie.Need-cast-t32
+cast-t32 c = record { fits = let w = facts (entry (c .before .before .before)) in omega (arith, w .seconds) }
+
+cast-t38 : tie.Need-cast-t38
+cast-t38 c = record { fits = let w = facts (entry (c .before .before .before .before)) in omega (arith, w .next) }
 
 returns : tie.Need-returns
-returns c = let last = c .before .before .before .before .before in rw (last .last-of .ensures, last .before .before .state-of .ensures)
+returns c =
+    let spoken = c .before .before .before .before .before in
+    let a = entry spoken .args in
+    let l = lineOf (now (a .numbers)) (a .i) in
+    λ z. record {
+      state = last spoken .before .before .state-of .ensures z;
+      collected = l .collected;
+      joined = l .joined;
+      seconds = l .seconds;
+      next = l .next;
+      last = last spoken .last-of .ensures z;
+      refusing = l .refusing;
+      settings = spoken .settings-of .ensures z;
+    }
 
 pub line-of-spec : {M : Type 1} → statement M
 line-of-spec =
@@ -54,17 +71,21 @@ line-of-spec =
     (λ c. search needs)
     (λ c. search needs)
     (λ c. search needs)
+    (λ c κs. search needs)
     (λ c. search needs)
     (λ c. search needs)
     (λ c. search needs)
     (λ c. search needs)
     (λ c. search needs)
     (λ c. search needs)
-    cast-t29
     (λ c. search needs)
     (λ c. search needs)
     (λ c. search needs)
-    cast-t35
+    cast-t32
+    (λ c. search needs)
+    (λ c. search needs)
+    (λ c. search needs)
+    cast-t38
     (λ c. search needs)
     (λ c. search needs)
     (λ c. search needs)

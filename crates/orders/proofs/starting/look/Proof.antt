@@ -6,11 +6,10 @@ use native.Mathlib.Omega.{arith}
 use denote.Ref.{now}
 use borrow.Author.Tests.{not-true, not-false}
 use Rattle.looking.specs.Lent.{rightLengths}
-use Rattle.line.specs.declared.Line.{Line}
 use Rattle.numbers.specs.Plain.{lineOf}
 use Rattle.numbers.specs.Changes.{isWithin, recordOf}
 use Rattle.numbers.proofs.Changes.{within-facts, not-within}
-use Rattle.orders.specs.Starts.{isNeutral, textLook}
+use Rattle.orders.specs.Starts.{canStart, textLook}
 use Rattle.orders.proofs.Looks.{look-no-line, look-size, look-beyond, look-busy, look-text}
 use Rattle.orders.proofs.Ways.{record-there}
 use borrow.Author.Needs.{needs}
@@ -32,8 +31,8 @@ within : (c : tie.Else3) → let a = entry-42 c .args in isWithin (now (a .numbe
 within c = sym (c .before .is-within .ensures) ∙ not-false _ (c .if3 .left)
 
 -- the record that was read is that of the line
-state : (c : tie.After-record-of) → let a = entry-42 (c .before) .args in isNeutral (recordOf (now (a .numbers)) (a .i) .state) ≡ isNeutral (lineOf (now (a .numbers)) (a .i) .state)
-state c = let a = entry-42 (c .before) .args in ap (λ (l : Line). isNeutral (l .state)) (record-there (now (a .numbers)) (a .i) (within (c .before)))
+state : (c : tie.After-record-of) → let a = entry-42 (c .before) .args in canStart (recordOf (now (a .numbers)) (a .i)) ≡ canStart (lineOf (now (a .numbers)) (a .i))
+state c = let a = entry-42 (c .before) .args in ap canStart (record-there (now (a .numbers)) (a .i) (within (c .before)))
 
 returns : tie.Need-returns
 returns c = let a = c .before .before .args in look-no-line (a .i) _ _ (now (a .text)) _ _ _ (omega arith)
@@ -59,7 +58,7 @@ returns-4 c =
     let sized = past .before .before in
     let a = entry-42 past .args in
     look-busy (a .i) _ _ (now (a .text)) _ _ _ (omega arith) (sizes sized) ((within-facts (now (a .numbers)) (a .i) (within past)) .1)
-    (sym (state read) ∙ sym (ap (λ (l : Line). isNeutral (l .state)) (read .record-of .ensures)) ∙ sym (asked .is-neutral .ensures) ∙ not-true _ (c .if4 .taken))
+    (sym (state read) ∙ sym (ap canStart (read .record-of .ensures)) ∙ sym (asked .can-start .ensures) ∙ not-true _ (c .if4 .taken))
 
 returns-5 : tie.Need-returns-5
 returns-5 c =
@@ -72,7 +71,7 @@ returns-5 c =
     let a = entry-42 past .args in
     c .look-text .ensures ∙ ap textLook (checked .check .ensures)
     ∙ look-text (a .i) _ _ (now (a .text)) _ _ _ (omega arith) (sizes sized) ((within-facts (now (a .numbers)) (a .i) (within past)) .1)
-    (sym (state read) ∙ sym (ap (λ (l : Line). isNeutral (l .state)) (read .record-of .ensures)) ∙ sym (asked .is-neutral .ensures) ∙ not-false _ (free .if4 .left))
+    (sym (state read) ∙ sym (ap canStart (read .record-of .ensures)) ∙ sym (asked .can-start .ensures) ∙ not-false _ (free .if4 .left))
 
 pub look-spec : {M : Type 1} → statement M
 look-spec =

@@ -1,0 +1,4 @@
+pub mod Matching
+pub mod TestByte
+pub mod Controls
+pub mod Laws

@@ -1,0 +1,4 @@
+pub mod Readers
+pub mod Sights
+pub mod Hearings
+pub mod Replies

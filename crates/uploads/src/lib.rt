@@ -1,0 +1,1 @@
+// A strip reader's line over plain numbers.
