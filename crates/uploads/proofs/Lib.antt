@@ -1,1 +1,2 @@
 pub mod Scratches
+pub mod Puts
