@@ -1,2 +1,5 @@
 pub mod Scratches
 pub mod Puts
+pub mod Readings
+pub mod Acts
+pub mod Ways
