@@ -3,3 +3,4 @@ pub mod Puts
 pub mod Readings
 pub mod Acts
 pub mod Ways
+pub mod Events

@@ -1,3 +1,9 @@
+-- `uploads::on_line` meets its contract.
+-- Assumes nothing.
+use denote.Ref.{now}
+use Rattle.answers.specs.declared.Answer.the-variants.{Nothing}
+use Rattle.uploads.specs.Uploads.{rulingOf}
+use Rattle.uploads.proofs.Acts.{left}
 use borrow.Author.Needs.{needs}
 use Rattle.uploads.proofs.on_line.Statement.{statement}
 use Rattle.uploads.proofs.on_line.Tie as tie
@@ -32,11 +38,19 @@ same-length-2 c = search needs
 
 -- src/lib.rt:63:1
 returns : tie.Need-returns
-returns c = ?
+returns c =
+    let done = c .before .before .before .before in
+    let told = done .before .before .before .before .before in
+    rw (told .before .kind .given .1) (done .on-byte .ensures)
 
 -- src/lib.rt:63:1
 returns-2 : tie.Need-returns-2
-returns-2 c = ?
+unfolding rulingOf
+returns-2 c =
+    let told = c .before in
+    let start = told .before .before .before .before in
+    let a = start .args in
+    rw (told .enum-told .given .1) (left (now (a .numbers)) (now (a .counts)) (now (a .frames)) (a .patient) (a .line) (a .e .line) (start .pre) (now (a .journal)) _ Nothing (c .nothing .ensures))
 
 pub on-line-spec : {M : Type 1} → statement M
 on-line-spec =
