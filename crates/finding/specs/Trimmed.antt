@@ -1,4 +1,4 @@
--- Bytes without the spaces at their ends; spaces between others stay. [B6]
+-- Bytes without the spaces at their ends; spaces between others stay. [B8]
 -- Assumes nothing.
 use Prim.Native.Nat.{ℕ}
 use mathlib.Core.Bool.{Bool, cond}
@@ -18,5 +18,6 @@ unfoldable pub trimmedBack : List ℕ → List ℕ
 trimmedBack [] = []
 trimmedBack (b ∷ bs) = cond (all isSpace (b ∷ bs)) [] (b ∷ trimmedBack bs)
 
+-- without either [B8]
 abbrev pub trimmed : List ℕ → List ℕ
 trimmed bs = trimmedBack (trimmedFront bs)

@@ -8,7 +8,9 @@ pub mod Findings
 pub mod CameFrames
 pub mod CameBlocks
 pub mod Came
+pub mod Shapes
 pub mod Kept
+pub mod Dialogues
 pub mod Runs
 pub mod Exactly
 pub mod Queue
@@ -37,3 +39,5 @@ pub mod Alone
 pub mod Acknowledged
 pub mod Frauds
 pub mod Foreign
+pub mod Readers
+pub mod KeptBlocks
