@@ -1,6 +1,5 @@
 -- `uploads::hearing::hear` meets its contract.
 -- Assumes nothing.
-use mathlib.Core.Path.{sym, _∙_}
 use borrow.Author.Tests.{lt-ltb}
 use Rattle.memory.specs.Sizes.{lines}
 use borrow.Author.Needs.{needs}

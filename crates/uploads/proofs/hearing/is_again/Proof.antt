@@ -1,7 +1,6 @@
 -- `uploads::hearing::is_again` meets its contract.
 -- Assumes nothing.
-use mathlib.Core.Path.{sym, _∙_}
-use native.Mathlib.Omega.{arith}
+use mathlib.Core.Path.{_∙_}
 use borrow.Author.Tests.{not-true, not-false, lt-ltb}
 use Rattle.memory.specs.Sizes.{lines}
 use Rattle.keeping.specs.Keeping.{isKept}

@@ -3,7 +3,6 @@
 use native.Mathlib.Omega.{arith}
 use denote.Ref.{now}
 use lib.ListN.{length-take}
-use Rattle.settings.specs.Settings.{blockLimit}
 use Rattle.uploads.specs.Inner.Ruled.{Room}
 use Rattle.uploads.proofs.Readings.{reading-room}
 use borrow.Author.Needs.{needs}
