@@ -151,7 +151,7 @@ module _ {M : Type 1} (𝓤 : URA M) (H : Heap 𝓤) (A : Atoms 𝓤) (W : Given
       pass1 ! (init ! 28 refl (tt, tt)) $ pass1 ! (init ! 26 refl (tt, tt)) $ pass1 ! (init ! 24 refl (fits .event)) $ pass1 ! (init ! 22 refl (fits .journal)) $ pass1 ! (init ! 20 refl (fits .unfinished)) $ pass1 ! (init ! 18 refl (fits .frames)) $ pass0 ! $
       move ! (32 ∷ []) $ use1 W (later (given (g .Opened) (line-cell 𝓤 τ a (a .line) ⊛ ledger-cell 𝓤 τ a (a .ledger) ⊛ raw (g .Pre) ⊛ raw (g .Frame)))) (g .opened) $ await ! tt $ learn ! (λ was.
       split ! $ move ! (1 ∷ []) $ split ! $ move ! (1 ∷ []) $ split ! $
-      -- [Pre; Frame; ledger-cell; line-cell; _15; d15; ..; _0; d0]: local i at 34 - 2i, and local 0 at 34
+      -- [Pre; Frame; ledger-cell; line-cell; _15; d15; ..; _0; d0]: local i at 34 - 2i
       assigns ! (of-opd ! (load ! (from ! (hop ! (look ! 32 refl) (stop !))) (look ! 3 refl))) (from ! (stop !)) (init ! 18 refl (g .line-fits was)) $
       assigns ! (of-opd ! (load ! (from ! (hop ! (look ! 30 refl) (stop !))) (look ! 2 refl))) (from ! (stop !)) (init ! 16 refl (g .ledger-fits was)) $
       assigns ! (addr ! (from ! (fld ! refl (hop ! (look-in ! 26 (sub ! 0 refl (whole !))) (stop !))))) (from ! (stop !)) (init ! 14 refl (tt, tt)) $

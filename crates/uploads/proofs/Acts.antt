@@ -17,14 +17,13 @@ use Rattle.looking.specs.declared.Kind.{Kind}
 use Rattle.looking.specs.declared.Kind.the-variants.{Byte}
 use Rattle.ledger.specs.Ledgers.{ledgerOf, withSerial, withUsed}
 use Rattle.ledger.proofs.Ledgers.{used-back}
-use Rattle.numbers.specs.Plain.{stateNumber, triesNumber, placeNumber, lastNumber, flag, lineOf, withLine}
+use Rattle.numbers.specs.Plain.{stateNumber, triesNumber, placeNumber, lastNumber, flag, withLine}
 use Rattle.numbers.proofs.Numbers.{serial-back, numbers-back}
 use Rattle.answers.specs.InNumbers.{inNumbers}
 use Rattle.answers.specs.declared.Answer.{Answer}
 use Rattle.answers.specs.declared.Answered.{Answered}
 use Rattle.strips.specs.Hearings.{filedReader}
-use Rattle.strips.specs.declared.Reader.{Reader}
-use Rattle.keeping.specs.Keeping.{readerOf, keptBlock, memoOf, withReader, withMemo}
+use Rattle.keeping.specs.Keeping.{readerOf, keptBlock, memoOf, withMemo}
 use Rattle.keeping.proofs.Blocks.{read-past}
 use Rattle.keeping.proofs.Memos.{SameReader, reader-back, block-past, memo-left, memo-kept}
 use Rattle.uploads.specs.Uploads.{Deed, leave, add, settle, file, Ruling, ruling, addedLine, judgedLine, lineBy, memoBy, ledgerBy, journalBy, blockBytes}

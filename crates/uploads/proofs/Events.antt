@@ -12,7 +12,6 @@ use Rattle.settings.specs.declared.Patient.{Patient}
 use Rattle.settings.specs.Settings.{byDialogue}
 use Rattle.settings.specs.declared.Dialogue.{Dialogue}
 use Rattle.settings.specs.declared.Dialogue.the-variants.{Frames, Blocks}
-use Rattle.journal.specs.declared.Ledger.{Ledger}
 use Rattle.line.specs.declared.Line.{Line}
 use Rattle.answers.specs.InNumbers.{inNumbers}
 use Rattle.answers.specs.declared.Answer.{Answer}
@@ -23,7 +22,6 @@ use Rattle.looking.specs.Lent.{rightSizes}
 use Rattle.looking.specs.declared.Event.{Event}
 use Rattle.looking.specs.declared.Kind.the-variants.{Byte}
 use Rattle.looking.proofs.Alone.{lengths-facts}
-use Rattle.receiving.specs.Steps.{Memory}
 use Rattle.ledger.specs.Ledgers.{ledgerOf}
 use Rattle.numbers.specs.Plain.{withinNumbers, lineOf}
 use Rattle.numbers.specs.Changes.{isWithin, recordOf}
@@ -31,7 +29,7 @@ use Rattle.numbers.proofs.Changes.{within-facts}
 use Rattle.strips.specs.Sights.{sightOf}
 use Rattle.strips.specs.declared.Sight.{Sight}
 use Rattle.keeping.specs.Keeping.{memoOf}
-use Rattle.uploads.specs.Uploads.{Ruling, blockBytes, judgedBlock, seenAs, rulingOf, rulingOn, uploaded, uploadOf, AfterUpload}
+use Rattle.uploads.specs.Uploads.{Ruling, blockBytes, judgedBlock, seenAs, rulingOf, rulingOn, uploaded, uploadOf}
 use Rattle.uploads.specs.Host.{HostState, AfterCall, refused, Called}
 use Rattle.uploads.specs.Calls.{putUpload, uploadCall, Uploading}
 use Rattle.uploads.specs.Inner.Ruled.{Reading, Ruled}

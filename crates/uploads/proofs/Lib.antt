@@ -4,3 +4,4 @@ pub mod Readings
 pub mod Acts
 pub mod Ways
 pub mod Events
+pub mod OneOutcome

@@ -2,12 +2,11 @@
 -- Assumes nothing.
 use mathlib.Core.Path.{_≡_, refl, sym, ap, subst, _∙_}
 use mathlib.Core.Bool.{Bool, true, false}
-use mathlib.Core.List.{List, []}
-use Prim.Native.Nat.{ℕ, _+_, _≤_, _<_}
+use mathlib.Core.List.{List}
+use Prim.Native.Nat.{ℕ, _+_, _≤_}
 use native.Mathlib.Omega.{arith}
 use lib.ListN.{length, length-append}
-use Rattle.memory.specs.Sizes.{lines, framePart, framesSize}
-use Rattle.memory.specs.Parts.{part}
+use Rattle.memory.specs.Sizes.{framePart}
 use Rattle.memory.proofs.Parts.{length-part}
 use Rattle.room.specs.Room.{todaysShares}
 use Rattle.settings.specs.Settings.{resultsLength, blockLimit}
@@ -22,12 +21,9 @@ use Rattle.journal.specs.declared.Verdict.{Verdict as Judgement}
 use Rattle.journal.proofs.Judged.{fits-facts}
 use Rattle.journal.proofs.Wholes.{kept}
 use Rattle.line.specs.declared.Line.{Line}
-use Rattle.answers.specs.InNumbers.{inNumbers}
-use Rattle.answers.specs.declared.Answer.the-variants.{Nothing}
 use Rattle.answers.specs.declared.Answered.{Answered}
 use Rattle.looking.specs.Views.{frameStart, framesOf}
-use Rattle.looking.specs.declared.Kind.{Kind}
-use Rattle.looking.specs.declared.Kind.the-variants.{Byte, Seconds}
+use Rattle.looking.specs.declared.Kind.the-variants.{Byte}
 use Rattle.ledger.specs.Ledgers.{ledgerOf, Narrow}
 use Rattle.block.specs.Judged.{judgedOf}
 use Rattle.block.specs.declared.Judged.{Judged}
@@ -39,10 +35,10 @@ use Rattle.strips.specs.Hearings.{hearingOf}
 use Rattle.strips.specs.declared.Hearing.{Hearing}
 use Rattle.strips.specs.declared.Reader.{Reader}
 use Rattle.keeping.specs.Keeping.{readerOf, memoOf}
-use Rattle.uploads.specs.Uploads.{leave, settle, Ruling, ruling, filing, heardBy, judgedBlock, ledgerBy, journalBy, blockBytes}
+use Rattle.uploads.specs.Uploads.{settle, Ruling, ruling, filing, heardBy, judgedBlock, ledgerBy, journalBy, blockBytes}
 use Rattle.uploads.specs.Inner.Ruled.{Reading, Acted, Ruled}
 use Rattle.uploads.proofs.Readings.{results-fit, reader-within}
-use Rattle.uploads.proofs.Acts.{acted, left}
+use Rattle.uploads.proofs.Acts.{acted}
 
 -- what storing a finding does is what the journal's answer comes to
 store-row : (q : Judgement) (r : Reader) (d : Ledger) (i : ℕ) (text j : List ℕ)

@@ -12,6 +12,8 @@ ghost use Rattle.finding.specs.Findings.{findingOf};
 ghost use Rattle.keeping.specs.Keeping.{readerOf};
 ghost use Rattle.uploads.specs.Uploads.{blockBytes, filing};
 ghost use Rattle.uploads.specs.Inner.Ruled.{Reading, Room, Acted, Ruled};
+use crate::acting;
+use crate::storing;
 use answers::Answer;
 use answers::Answered;
 use journal::Ledger;
@@ -20,8 +22,6 @@ use layout::COUNTS;
 use layout::NUMBERS;
 use line::Line;
 use settings::Patient;
-use crate::acting;
-use crate::storing;
 
 pub fn file(
     patient: Patient,

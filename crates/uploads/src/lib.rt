@@ -76,7 +76,16 @@ fn on_line(
 {
     let kind = e.kind;
     match kind {
-        Kind::Byte(byte) => on_byte(patient, line, e.line, byte, numbers, counts, journal, frames),
+        Kind::Byte(byte) => on_byte(
+            patient,
+            line,
+            e.line,
+            byte,
+            numbers,
+            counts,
+            journal,
+            frames,
+        ),
         Kind::Seconds(_) => answers::nothing(),
     }
 }

@@ -10,10 +10,10 @@ ghost use Rattle.keeping.specs.Keeping.{memoOf};
 ghost use Rattle.uploads.specs.Uploads.{blockBytes, judgedBlock};
 ghost use Rattle.uploads.specs.Inner.Ruled.{Reading, Ruled};
 use crate::acting;
-use answers::Answered;
 use crate::filing;
 use crate::gathering;
 use crate::hearing;
+use answers::Answered;
 use layout::COUNTS;
 use layout::NUMBERS;
 use line::Line;
@@ -106,6 +106,14 @@ fn by_block(
         return answers::in_numbers(answer);
     }
     filing::file(
-        patient, line, i, byte, block, numbers, counts, journal, frames,
+        patient,
+        line,
+        i,
+        byte,
+        block,
+        numbers,
+        counts,
+        journal,
+        frames,
     )
 }

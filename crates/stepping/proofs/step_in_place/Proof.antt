@@ -1,5 +1,6 @@
--- `stepping::step_in_place` meets its contract: a walk of its MIR, by hand. Each lent record is copied out of its opened borrow; `step` is called on the copies, and takes the slices at their own
--- lifetimes, shares and ghost names, so those borrows are given up for good; the new records are stored, and the borrows closed at them. Of the callee the proof knows only that it meets its contract.
+-- `stepping::step_in_place` meets its contract: a walk of its MIR, by hand, which `Thin` makes over any types. Here is what that walk is told: each lent record is copied out of its opened borrow;
+-- `step` is called on the copies, and takes the slices at their own lifetimes, shares and ghost names, so those borrows are given up for good; the borrows are closed at the new records.
+-- Of the callee the proof knows only that it meets its contract.
 -- Assumes nothing.
 use mathlib.Core.Path.{_≡_, refl, ap}
 use Prim.Native.Nat.{ℕ}
@@ -140,25 +141,60 @@ module _ {M : Type 1} (𝓤 : URA M) (H : Heap 𝓤) (A : Atoms 𝓤) (W : Given
   abbrev vals : List Val × (List Val × (List Val × (List Val × (List Val × (List Val × Unit {0})))))
   vals = (vptr b-line o-line ∷ [], (vptr b-ledger o-ledger ∷ [], ((LL.val Event.the-type Event′.the-laws event) ∷ [], (s-journal ∷ [], (s-unfinished ∷ [], (s-frames ∷ [], tt))))))
 
+  -- the lifetimes and shares of all references, and of the slices, which the callee takes
+  abbrev κs : Lft × (Lft × (Lft × (Lft × (Lft × Unit {0}))))
+  κs = (κ-line, (κ-ledger, (κ-journal, (κ-unfinished, (κ-frames, tt)))))
+
+  abbrev qs : Share × (Share × (Share × (Share × (Share × Unit {0}))))
+  qs = (q-line, (q-ledger, (q-journal, (q-unfinished, (q-frames, tt)))))
+
+  abbrev κs-slices : Lft × (Lft × (Lft × Unit {0}))
+  κs-slices = (κ-journal, (κ-unfinished, (κ-frames, tt)))
+
+  abbrev qs-slices : Share × (Share × (Share × Unit {0}))
+  qs-slices = (q-journal, (q-unfinished, (q-frames, tt)))
+
+  abbrev bound : walkOf 𝓤 H A f.ended stayed (f.clauses 𝓤 H A at-mem run) .Ghost
+  bound = ((κs, qs, tt, a, vals), tt)
+
   abbrev Post : Val → SProp 𝓤
-  Post = walkOf 𝓤 H A f.ended stayed (f.clauses 𝓤 H A at-mem run) .post (((κ-line, (κ-ledger, (κ-journal, (κ-unfinished, (κ-frames, tt))))), (q-line, (q-ledger, (q-journal, (q-unfinished, (q-frames, tt))))), tt, a, vals), tt)
+  Post = walkOf 𝓤 H A f.ended stayed (f.clauses 𝓤 H A at-mem run) .post bound
+
+  abbrev called-with : Line × (Ledger × (Event × (RefT (List ℕ) × (RefT (List ℕ) × (RefT (List ℕ) × Unit {0})))))
+  called-with = (h-line, (h-ledger, (event, (x-journal, (x-unfinished, (x-frames, tt))))))
 
   -- what the callee's triple binds outside: the slices' own lifetimes, shares and values
   abbrev to : Callee 𝓤 H A at-mem run .Ghost
-  to = (((κ-journal, (κ-unfinished, (κ-frames, tt))), (q-journal, (q-unfinished, (q-frames, tt))), tt, (h-line, (h-ledger, (event, (x-journal, (x-unfinished, (x-frames, tt)))))), (LL.vals Line.the-type Line′.the-laws h-line, (LL.vals Ledger.the-type Ledger′.the-laws h-ledger, ((LL.val Event.the-type Event′.the-laws event) ∷ [], (s-journal ∷ [], (s-unfinished ∷ [], (s-frames ∷ [], tt))))))), tt)
+  to = ((κs-slices, qs-slices, tt, called-with, (LL.vals Line.the-type Line′.the-laws h-line, (LL.vals Ledger.the-type Ledger′.the-laws h-ledger, ((LL.val Event.the-type Event′.the-laws event) ∷ [], (s-journal ∷ [], (s-unfinished ∷ [], (s-frames ∷ [], tt))))))), tt)
 
-  goes-call : Is Line.the-row h-line (LL.vals Line.the-type Line′.the-laws h-line) → Is Ledger.the-row h-ledger (LL.vals Ledger.the-type Ledger′.the-laws h-ledger) → ent 𝓤 (⋆ 𝓤 H A ((‵ (flft κ-journal q-journal) ⊛ ‵ (flft κ-unfinished q-unfinished) ⊛ ‵ (flft κ-frames q-frames) ⊛ ‵ ftrue) ∷ ‵ (MutSlice (named 0) κ-journal u8 .own x-journal (s-journal ∷ [])) ∷ ‵ (MutSlice (named 1) κ-unfinished u8 .own x-unfinished (s-unfinished ∷ [])) ∷ ‵ (MutSlice (named 2) κ-frames u8 .own x-frames (s-frames ∷ [])) ∷ [])) (Callee 𝓤 H A at-mem run .pre to)
+  abbrev tokens : Item 𝓤
+  tokens = ‵ (flft κ-journal q-journal) ⊛ ‵ (flft κ-unfinished q-unfinished) ⊛ ‵ (flft κ-frames q-frames) ⊛ ‵ ftrue
+
+  -- what the callee asks beside the records' copies
+  abbrev asked : List (Item 𝓤)
+  asked = tokens ∷ ‵ (MutSlice (named 0) κ-journal u8 .own x-journal (s-journal ∷ [])) ∷ ‵ (MutSlice (named 1) κ-unfinished u8 .own x-unfinished (s-unfinished ∷ [])) ∷ ‵ (MutSlice (named 2) κ-frames u8 .own x-frames (s-frames ∷ [])) ∷ []
+
+  goes-call : Is Line.the-row h-line (LL.vals Line.the-type Line′.the-laws h-line) → Is Ledger.the-row h-ledger (LL.vals Ledger.the-type Ledger′.the-laws h-ledger) → ent 𝓤 (⋆ 𝓤 H A asked) (Callee 𝓤 H A at-mem run .pre to)
   goes-call was-line was-ledger =
-      qed W ((‵ (flft κ-journal q-journal) ⊛ ‵ (flft κ-unfinished q-unfinished) ⊛ ‵ (flft κ-frames q-frames) ⊛ ‵ ftrue) ∷ ‵ (MutSlice (named 0) κ-journal u8 .own x-journal (s-journal ∷ [])) ∷ ‵ (MutSlice (named 1) κ-unfinished u8 .own x-unfinished (s-unfinished ∷ [])) ∷ ‵ (MutSlice (named 2) κ-frames u8 .own x-frames (s-frames ∷ [])) ∷ []) ∵ nothing ! $ move ! (4 ∷ 0 ∷ []) $ fjoin ! $ move ! (3 ∷ 0 ∷ []) $ fjoin ! $ move ! (2 ∷ 0 ∷ []) $ fjoin ! $ owned ! Event.the-row (Is Event.the-row) (LL.makes Event.the-type Event′.the-plain 𝓤 H A) event _ is-event $ fjoin ! $ owned ! Ledger.the-row (Is Ledger.the-row) (LL.makes Ledger.the-type Ledger′.the-plain 𝓤 H A) h-ledger _ was-ledger $ fjoin ! $ owned ! Line.the-row (Is Line.the-row) (LL.makes Line.the-type Line′.the-plain 𝓤 H A) h-line _ was-line $ fjoin ! $ move ! (1 ∷ 0 ∷ []) $ join ! $ frame ! $ done !
+      qed W asked ∵ nothing ! $ move ! (4 ∷ 0 ∷ []) $ fjoin ! $ move ! (3 ∷ 0 ∷ []) $ fjoin ! $ move ! (2 ∷ 0 ∷ []) $ fjoin ! $ owned ! Event.the-row (Is Event.the-row) (LL.makes Event.the-type Event′.the-plain 𝓤 H A) event _ is-event $ fjoin ! $ owned ! Ledger.the-row (Is Ledger.the-row) (LL.makes Ledger.the-type Ledger′.the-plain 𝓤 H A) h-ledger _ was-ledger $ fjoin ! $ owned ! Line.the-row (Is Line.the-row) (LL.makes Line.the-type Line′.the-plain 𝓤 H A) h-line _ was-line $ fjoin ! $ move ! (1 ∷ 0 ∷ []) $ join ! $ frame ! $ done !
 
   abbrev Said : Stepped → List ℕ → List ℕ → List ℕ → Type 0
   Said r z-journal z-unfinished z-frames = Stepping h-line h-ledger event (memoryOf y-journal y-unfinished y-frames) r (memoryOf z-journal z-unfinished z-frames)
 
+  abbrev finals : List ℕ → List ℕ → List ℕ → List (Item 𝓤)
+  finals z-journal z-unfinished z-frames = ‵ (finally u8 γ-journal z-journal) ∷ ‵ (finally u8 γ-unfinished z-unfinished) ∷ ‵ (finally u8 γ-frames z-frames) ∷ []
+
+  -- what is had at the end, once the borrows are closed at the new records
+  abbrev closed-parts : Stepped → List ℕ → List ℕ → List ℕ → List (Item 𝓤)
+  closed-parts r z-journal z-unfinished z-frames =
+      ‵ (fobs γ-line (Line.the-row .coded .code (r .line))) ∷ ‵ (fbor κ-line (Body (mem Line.the-row) b-line o-line γ-line)) ∷ ‵ (flft κ-line q-line)
+      ∷ ‵ (fobs γ-ledger (Ledger.the-row .coded .code (r .ledger))) ∷ ‵ (fbor κ-ledger (Body (mem Ledger.the-row) b-ledger o-ledger γ-ledger)) ∷ ‵ (flft κ-ledger q-ledger) ∷ tokens ∷ finals z-journal z-unfinished z-frames
+
   exits : (r : Stepped) (z-journal : List ℕ) (z-unfinished : List ℕ) (z-frames : List ℕ) → Said r z-journal z-unfinished z-frames → length z-journal ≡ length y-journal → length z-unfinished ≡ length y-unfinished → length z-frames ≡ length y-frames → Is Answer.the-row (r .answer) (EL.vals Answer.the-type Answer′.the-laws (r .answer))
-      → ent 𝓤 (⋆ 𝓤 H A (‵ (fobs γ-line (Line.the-row .coded .code (r .line))) ∷ ‵ (fbor κ-line (Body (mem Line.the-row) b-line o-line γ-line)) ∷ ‵ (flft κ-line q-line) ∷ ‵ (fobs γ-ledger (Ledger.the-row .coded .code (r .ledger))) ∷ ‵ (fbor κ-ledger (Body (mem Ledger.the-row) b-ledger o-ledger γ-ledger)) ∷ ‵ (flft κ-ledger q-ledger) ∷ (‵ (flft κ-journal q-journal) ⊛ ‵ (flft κ-unfinished q-unfinished) ⊛ ‵ (flft κ-frames q-frames) ⊛ ‵ ftrue) ∷ ‵ (finally u8 γ-journal z-journal) ∷ ‵ (finally u8 γ-unfinished z-unfinished) ∷ ‵ (finally u8 γ-frames z-frames) ∷ [])) (Post (EL.val Answer.the-type Answer′.the-laws (r .answer)))
+      → ent 𝓤 (⋆ 𝓤 H A (closed-parts r z-journal z-unfinished z-frames)) (Post (EL.val Answer.the-type Answer′.the-laws (r .answer)))
   exits r z-journal z-unfinished z-frames e l-journal l-unfinished l-frames is-ans =
-      qed W (‵ (fobs γ-line (Line.the-row .coded .code (r .line))) ∷ ‵ (fbor κ-line (Body (mem Line.the-row) b-line o-line γ-line)) ∷ ‵ (flft κ-line q-line) ∷ ‵ (fobs γ-ledger (Ledger.the-row .coded .code (r .ledger))) ∷ ‵ (fbor κ-ledger (Body (mem Ledger.the-row) b-ledger o-ledger γ-ledger)) ∷ ‵ (flft κ-ledger q-ledger) ∷ (‵ (flft κ-journal q-journal) ⊛ ‵ (flft κ-unfinished q-unfinished) ⊛ ‵ (flft κ-frames q-frames) ⊛ ‵ ftrue) ∷ ‵ (finally u8 γ-journal z-journal) ∷ ‵ (finally u8 γ-unfinished z-unfinished) ∷ ‵ (finally u8 γ-frames z-frames) ∷ []) ∵
-      suffices ! _ (ends-at 𝓤 H A f.ended stayed (f.clauses 𝓤 H A at-mem run) W (((κ-line, (κ-ledger, (κ-journal, (κ-unfinished, (κ-frames, tt))))), (q-line, (q-ledger, (q-journal, (q-unfinished, (q-frames, tt))))), tt, a, vals), tt) (EL.val Answer.the-type Answer′.the-laws (r .answer)) (r .answer) (r .line, (r .ledger, (tt, (z-journal, (z-unfinished, (z-frames, tt)))))) (tt, (tt, (tt, (l-journal, (l-unfinished, (l-frames, tt))))))) $ says ! e $
+      qed W (closed-parts r z-journal z-unfinished z-frames) ∵
+      suffices ! _ (ends-at 𝓤 H A f.ended stayed (f.clauses 𝓤 H A at-mem run) W bound (EL.val Answer.the-type Answer′.the-laws (r .answer)) (r .answer) (r .line, (r .ledger, (tt, (z-journal, (z-unfinished, (z-frames, tt)))))) (tt, (tt, (tt, (l-journal, (l-unfinished, (l-frames, tt))))))) $ says ! e $
       move ! (5 ∷ 6 ∷ []) $ join ! $ move ! (3 ∷ 0 ∷ []) $ join ! $ frame ! $ feqI ! (List Val) (vptr b-line o-line ∷ []) (vptr b-line o-line ∷ []) refl $ fjoin3 ! $ move ! (1 ∷ 2 ∷ []) $ feqI ! (List Val) (vptr b-ledger o-ledger ∷ []) (vptr b-ledger o-ledger ∷ []) refl $ fjoin3 ! $ nothing ! $ move ! (5 ∷ 0 ∷ []) $ fjoin ! $ move ! (4 ∷ 0 ∷ []) $ fjoin ! $ move ! (3 ∷ 0 ∷ []) $ fjoin ! $ nothing ! $ fjoin ! $ move ! (1 ∷ 0 ∷ []) $ fjoin ! $ move ! (1 ∷ 0 ∷ []) $ fjoin ! $ owned ! Answer.the-row (Is Answer.the-row) (EL.makes Answer.the-type Answer′.the-plain 𝓤 H A) (r .answer) _ is-ans $ move ! (1 ∷ 0 ∷ []) $ done !
 
   -- what is passed, and that it is of its types
@@ -194,11 +230,8 @@ module _ {M : Type 1} (𝓤 : URA M) (H : Heap 𝓤) (A : Atoms 𝓤) (W : Given
   abbrev Frame : SProp 𝓤
   Frame = ⋆ 𝓤 H A frame-parts
 
-  abbrev tokens : Item 𝓤
-  tokens = ‵ (flft κ-journal q-journal) ⊛ ‵ (flft κ-unfinished q-unfinished) ⊛ ‵ (flft κ-frames q-frames) ⊛ ‵ ftrue
-
   abbrev Before : SProp 𝓤
-  Before = onEntry 𝓤 H A f.signature (κ-line, (κ-ledger, (κ-journal, (κ-unfinished, (κ-frames, tt))))) (q-line, (q-ledger, (q-journal, (q-unfinished, (q-frames, tt))))) a vals
+  Before = onEntry 𝓤 H A f.signature κs qs a vals
 
   opened : ent 𝓤 Before (H .⇛ (mean 𝓤 H A (given Opened (thin.line-cell 𝓤 laid passed (passed .line) ⊛ thin.ledger-cell 𝓤 laid passed (passed .ledger) ⊛ raw (Callee 𝓤 H A at-mem run .pre to) ⊛ raw Frame))))
   opened =
@@ -211,7 +244,7 @@ module _ {M : Type 1} (𝓤 : URA M) (H : Heap 𝓤) (A : Atoms 𝓤) (W : Given
       move ! (4 ∷ 5 ∷ 6 ∷ []) $ opens ! tt Ledger.the-row {h = h-ledger} b-ledger o-ledger (λ vs-ledger. spelt ! Ledger.the-row (Is Ledger.the-row) (shows 𝓤 H A Ledger.the-row) (LL.vals Ledger.the-type Ledger′.the-laws) (LL.tells Ledger.the-type Ledger′.the-laws) fullShare h-ledger vs-ledger b-ledger o-ledger $
       move ! (1 ∷ []) $ peeks ! Ledger.the-row (Is Ledger.the-row) (shows 𝓤 H A Ledger.the-row) h-ledger (LL.vals Ledger.the-type Ledger′.the-laws h-ledger) (λ was-ledger. drop ! $
       use1 W (‵ (fat fullShare Ledger′.mir b-ledger o-ledger (LL.val Ledger.the-type Ledger′.the-laws h-ledger))) (W .laws .raw-at fullShare Ledger′.mir b-ledger o-ledger (LL.val Ledger.the-type Ledger′.the-laws h-ledger)) $
-      move ! (8 ∷ 9 ∷ 10 ∷ 11 ∷ []) $ cut (tokens ∷ ‵ (MutSlice (named 0) κ-journal u8 .own x-journal (s-journal ∷ [])) ∷ ‵ (MutSlice (named 1) κ-unfinished u8 .own x-unfinished (s-unfinished ∷ [])) ∷ ‵ (MutSlice (named 2) κ-frames u8 .own x-frames (s-frames ∷ [])) ∷ []) (raw (Callee 𝓤 H A at-mem run .pre to) ∷ []) _ (goes-call was-line was-ledger) $
+      move ! (8 ∷ 9 ∷ 10 ∷ 11 ∷ []) $ cut asked (raw (Callee 𝓤 H A at-mem run .pre to) ∷ []) _ (goes-call was-line was-ledger) $
       move ! (5 ∷ 1 ∷ 0 ∷ 6 ∷ 7 ∷ 8 ∷ 2 ∷ 3 ∷ 4 ∷ []) $ at-once ! $ check ! (was-line, was-ledger) $ done !))))
 
   -- an outcome of the call: what the callee's contract says of it
@@ -238,17 +271,14 @@ module _ {M : Type 1} (𝓤 : URA M) (H : Heap 𝓤) (A : Atoms 𝓤) (W : Given
     answer = EL.lawful Answer.the-type Answer′.the-laws 𝓤 H A W tt .typed (x .r .answer) _ (is-answer (x .r) w (x .is)) .0;
   }
 
-  abbrev finals : List ℕ → List ℕ → List ℕ → List (Item 𝓤)
-  finals z-journal z-unfinished z-frames = ‵ (finally u8 γ-journal z-journal) ∷ ‵ (finally u8 γ-unfinished z-unfinished) ∷ ‵ (finally u8 γ-frames z-frames) ∷ []
-
   abbrev Left : (w : Val) → Outcome w → SProp 𝓤
   Left w x = ⋆ 𝓤 H A (tokens ∷ finals (x .z-journal) (x .z-unfinished) (x .z-frames))
 
   told : (w : Val) → ent 𝓤 (Callee 𝓤 H A at-mem run .post to w) (H .⇛ (mean 𝓤 H A (some (λ (x : Outcome w). raw (Left w x)))))
   told w =
-      qed W (later (some (λ (r : Stepped). (tokens ⊛ ‵ (Stepped.the-row .own r (w ∷ []))) ⊛ raw (ensured 𝓤 H A callee.ended (callee.clauses 𝓤 H A at-mem run) (κ-journal, (κ-unfinished, (κ-frames, tt))) (h-line, (h-ledger, (event, (x-journal, (x-unfinished, (x-frames, tt)))))) tt r))) ∷ []) ∵
+      qed W (later (some (λ (r : Stepped). (tokens ⊛ ‵ (Stepped.the-row .own r (w ∷ []))) ⊛ raw (ensured 𝓤 H A callee.ended (callee.clauses 𝓤 H A at-mem run) κs-slices called-with tt r))) ∷ []) ∵
       updating ! $ await ! tt $ pick ! (λ r.
-      split ! $ move ! (1 ∷ []) $ use1 W (some (λ (zs : Unit {0} × (Unit {0} × (Unit {0} × (List ℕ × (List ℕ × (List ℕ × Unit {0})))))). ‵ (lasts callee.ended (κ-journal, (κ-unfinished, (κ-frames, tt))) (h-line, (h-ledger, (event, (x-journal, (x-unfinished, (x-frames, tt)))))) zs) ⊛ raw (fact 𝓤 (Said r (zs .1 .1 .1 .0) (zs .1 .1 .1 .1 .0) (zs .1 .1 .1 .1 .1 .0))))) (id⊢ 𝓤 _) $ pick ! (λ zs.
+      split ! $ move ! (1 ∷ []) $ use1 W (some (λ (zs : Unit {0} × (Unit {0} × (Unit {0} × (List ℕ × (List ℕ × (List ℕ × Unit {0})))))). ‵ (lasts callee.ended κs-slices called-with zs) ⊛ raw (fact 𝓤 (Said r (zs .1 .1 .1 .0) (zs .1 .1 .1 .1 .0) (zs .1 .1 .1 .1 .1 .0))))) (id⊢ 𝓤 _) $ pick ! (λ zs.
       split ! $ move ! (1 ∷ []) $ heard ! (Said r (zs .1 .1 .1 .0) (zs .1 .1 .1 .1 .0) (zs .1 .1 .1 .1 .1 .0)) (λ e.
       fsplit ! $ drop ! $ fsplit ! $ drop ! $ fsplit ! $ drop ! $ fsplit ! $ fsplit ! $ move ! (1 ∷ []) $ feqL ! (λ l-journal.
       move ! (1 ∷ []) $ fsplit ! $ fsplit ! $ move ! (1 ∷ []) $ feqL ! (λ l-unfinished.

@@ -13,13 +13,6 @@ use Rattle.uploads.proofs.Events.{no-line, wrong-size, beyond, in-frame
 use borrow.Author.Needs.{needs}
 use Rattle.uploads.proofs.event.Statement.{statement}
 use Rattle.uploads.proofs.event.Tie as tie
-use Rattle.uploads.proofs.event.Reads as reads
-use Rattle.uploads.proofs.event.Lts as lts
-use Rattle.answers.proofs.in_numbers.Reads as in-numbers-reads
-use Rattle.looking.proofs.are_right.Reads as are-right-reads
-use Rattle.numbers.proofs.is_within.Reads as is-within-reads
-use Rattle.numbers.proofs.record_of.Reads as record-of-reads
-use Rattle.uploads.proofs.on_line.Reads as on-line-reads
 
 -- where the function was entered
 abbrev entry : tie.After-struct-known → tie.Start
@@ -45,44 +38,17 @@ right c = sym (c .before .are-right .ensures) ∙ not-false _ (c .if2 .left)
 within : (c : tie.Else3) → let a = begun c .args in isWithin (now (a .numbers)) (a .e .line) ≡ true
 within c = sym (c .before .is-within .ensures) ∙ not-false _ (c .if3 .left)
 
--- src/lib.rt:43:13
-cast-i : tie.Need-cast-i
-cast-i c = search needs
-
--- src/lib.rt:45:9
-in-numbers-requires : tie.Need-in-numbers-requires
-in-numbers-requires c κs = search needs
-
--- src/lib.rt:45:9
 returns : tie.Need-returns
 returns c =
     let start = entry (c .before .before) in
     no-line (kept start) (start .args .e) _ (omega arith) (c .in-numbers .ensures)
 
--- src/lib.rt:47:9
-are-right-requires : tie.Need-are-right-requires
-are-right-requires c κs = search needs
-
--- src/lib.rt:48:9
-in-numbers-requires-2 : tie.Need-in-numbers-requires-2
-in-numbers-requires-2 c κs = search needs
-
--- src/lib.rt:48:9
 returns-2 : tie.Need-returns-2
 returns-2 c =
     let asked = c .before .before in
     let start = entry (asked .before .before) in
     wrong-size (kept start) (start .args .e) _ (omega arith) (sym (asked .are-right .ensures) ∙ not-true _ (c .before .if2 .taken)) (c .in-numbers2 .ensures)
 
--- src/lib.rt:50:9
-is-within-requires : tie.Need-is-within-requires
-is-within-requires c κs = search needs
-
--- src/lib.rt:51:9
-in-numbers-requires-3 : tie.Need-in-numbers-requires-3
-in-numbers-requires-3 c κs = search needs
-
--- src/lib.rt:51:9
 returns-3 : tie.Need-returns-3
 returns-3 c =
     let asked = c .before .before in
@@ -91,23 +57,6 @@ returns-3 c =
     beyond (kept start) (start .args .e) _ (omega arith) (right sized)
     (not-within (now (start .args .numbers)) (start .args .e .line) (omega arith) (sym (asked .is-within .ensures) ∙ not-true _ (c .before .if3 .taken))) (c .in-numbers3 .ensures)
 
--- src/lib.rt:53:9
-record-of-requires : tie.Need-record-of-requires
-record-of-requires c κs = search needs
-
--- src/lib.rt:57:49
-enum-told : tie.Need-enum-told
-enum-told c = search needs
-
--- src/lib.rt:57:29
-in-numbers-requires-4 : tie.Need-in-numbers-requires-4
-in-numbers-requires-4 c κs = search needs
-
--- src/lib.rt:58:26
-enum-known-dialogue : tie.Need-enum-known-dialogue
-enum-known-dialogue c = search needs
-
--- src/lib.rt:58:38
 on-line-requires : tie.Need-on-line-requires
 on-line-requires c κs =
     let dialogue = c .before .before .before .before .before in
@@ -116,7 +65,6 @@ on-line-requires c κs =
     let start = begun past in
     reading (kept start) (start .args .e) (right (sized past)) (within past) (read .record-of .ensures) (dialogue .dialogue .given .1)
 
--- src/lib.rt:30:1
 returns-4 : tie.Need-returns-4
 returns-4 c =
     let told = c .before in
@@ -125,15 +73,6 @@ returns-4 c =
     let start = begun past in
     in-frames (kept start) (start .args .e) (right (sized past)) (within past) (read .record-of .ensures) _ (told .enum-told .given .1) (c .in-numbers4 .ensures)
 
--- src/lib.rt:30:1
-same-length : tie.Need-same-length
-same-length c = search needs
-
--- src/lib.rt:30:1
-same-length-2 : tie.Need-same-length-2
-same-length-2 c = search needs
-
--- src/lib.rt:30:1
 returns-5 : tie.Need-returns-5
 returns-5 c =
     let done = c .before .before .before .before in
@@ -148,21 +87,21 @@ pub event-spec : {M : Type 1} → statement M
 event-spec =
     tie.close
     (tie.spec
-    cast-i
-    in-numbers-requires
+    (λ c. search needs)
+    (λ c κs. search needs)
     returns
-    are-right-requires
-    in-numbers-requires-2
+    (λ c κs. search needs)
+    (λ c κs. search needs)
     returns-2
-    is-within-requires
-    in-numbers-requires-3
+    (λ c κs. search needs)
+    (λ c κs. search needs)
     returns-3
-    record-of-requires
-    enum-told
-    in-numbers-requires-4
-    enum-known-dialogue
+    (λ c κs. search needs)
+    (λ c. search needs)
+    (λ c κs. search needs)
+    (λ c. search needs)
     on-line-requires
     returns-4
-    same-length
-    same-length-2
+    (λ c. search needs)
+    (λ c. search needs)
     returns-5)
