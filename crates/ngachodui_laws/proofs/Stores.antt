@@ -10,14 +10,15 @@ use native.Mathlib.Decide.{decLt, ℕ-discrete}
 use native.Mathlib.Omega.{arith}
 use native.Mathlib.Numerals.{add-one}
 use borrow.Author.Tests.{le-leb, leb-true}
-use lib.Dec.{eqb}
+use lib.Dec.{eqb, leb}
 use lib.ListN.{length, getD, set, length-set}
 use lib.Seq.{sets, length-sets, set-comm, getD-set-same, getD-set-other}
 use Rattle.memory.specs.Sizes.{lines, messageLimit}
+use Rattle.memory.proofs.Tests.{and-left, and-right}
 use Rattle.digits.specs.Number.{mostNumber}
 use Rattle.settings.specs.Settings.{blockLimit}
 use Rattle.journal.specs.declared.Ledger.{Ledger}
-use Rattle.line.specs.Line.{mostCollected, mostSeconds, lastWithin, stateWithin, withinLimits}
+use Rattle.line.specs.Line.{mostCollected, mostSeconds, lastWithin, stateWithin, countsWithin, withinLimits}
 use Rattle.line.specs.declared.Line.{Line}
 use Rattle.line.specs.declared.State.{State}
 use Rattle.line.specs.declared.State.the-variants.{Neutral, Waiting, Inside, Out}
@@ -25,7 +26,7 @@ use Rattle.line.specs.declared.Sending.the-variants.{Asking, Pausing, Offering}
 use Rattle.line.specs.declared.Last.{Last}
 use Rattle.line.specs.declared.Last.the-variants.{NoneYet, Number}
 use Rattle.line.proofs.Limits.{within-facts}
-use Rattle.layout.specs.Layout.{fields, placeAt, start, firstAt, numberAt, blockStart}
+use Rattle.layout.specs.Layout.{fields, placeAt, speaksAt, start, firstAt, numberAt, blockStart}
 use Rattle.ledger.specs.Ledgers.{withSerial}
 use Rattle.numbers.specs.Plain.{offering, stateOf, stateNumber, triesNumber, placeNumber, sendingFits, lastOf, lastNumber, flag, readerFits, speechFits, withinNumbers, settingsOf, lineOf, withLine}
 use Rattle.strips.specs.Replies.{repliedOf}
@@ -123,7 +124,7 @@ module _ (ns : List ℕ) (i : ℕ) (l : Line) (d : Ledger) where
       let since = spare-stays k 12 (omega arith) (omega arith) in
       let kept = spare-stays k 13 (omega arith) (omega arith) in
       let block : keptBlock stored k ≡ keptBlock ns k = numbers-alike ns stored (blockStart k) blockLimit
-          (λ p a b. ap (λ (x : List ℕ). getD x p 0) as-row ∙ sets-behind (numbersOf l (getD (d .serials) i 0)) ns (start i) p (omega arith)) in
+      (λ p a b. ap (λ (x : List ℕ). getD x p 0) as-row ∙ sets-behind (numbersOf l (getD (d .serials) i 0)) ns (start i) p (omega arith)) in
       λ z. record { reader = record { reply = repliedOf (reply z); since = eqb (since z) 1; kept = eqb (kept z) 1 }; block = block z }
 
   -- its own
@@ -133,6 +134,9 @@ module _ (ns : List ℕ) (i : ℕ) (l : Line) (d : Ledger) where
 
     first-own : firstAt stored i ≡ stateNumber (l .state)
     first-own = ap (λ (p : ℕ). getD stored p 0) (sym (add-zero (start i))) ∙ number-own 0 (omega arith)
+
+    pub collected-own : numberAt stored i 1 ≡ l .collected
+    collected-own = number-own 1 (omega arith)
 
     pub serial-own : numberAt stored i 7 ≡ getD (d .serials) i 0
     serial-own = number-own 7 (omega arith)
@@ -179,8 +183,8 @@ flag-low : (b : Bool) → flag b ≤ 1
 flag-low true = omega arith
 flag-low false = omega arith
 
--- numbers of which a line's own are as they were tell of it what they told
-module _ (ns ns′ : List ℕ) (k : ℕ) (same : (m : ℕ) → m < fields → numberAt ns′ k m ≡ numberAt ns k m) where
+-- numbers of which those of a line's record are as they were tell that record
+module _ (ns ns′ : List ℕ) (k : ℕ) (same : (m : ℕ) → m ≤ speaksAt → numberAt ns′ k m ≡ numberAt ns k m) where
   first-alike : firstAt ns′ k ≡ firstAt ns k
   first-alike = ap (λ (p : ℕ). getD ns′ p 0) (sym (add-zero (start k))) ∙ same 0 (omega arith) ∙ ap (λ (p : ℕ). getD ns p 0) (add-zero (start k))
 
@@ -198,17 +202,10 @@ module _ (ns ns′ : List ℕ) (k : ℕ) (same : (m : ℕ) → m < fields → nu
     same 10 (omega arith),
   )
 
-  pub fits-alike : readerFits ns′ k ≡ readerFits ns k
-  fits-alike = rw (same 11 (omega arith), same 12 (omega arith), same 13 (omega arith))
-
-  speech-alike : speechFits ns′ k ≡ speechFits ns k
-  unfolding speechFits
-  speech-alike = rw (line-alike, fits-alike, same 1 (omega arith), same 10 (omega arith))
-
-  pub within-alike : withinNumbers ns′ k ≡ withinNumbers ns k
+  pub within-alike : speechFits ns′ k ≡ speechFits ns k → withinNumbers ns′ k ≡ withinNumbers ns k
   unfolding withinNumbers
-  within-alike = rw (
-    speech-alike,
+  within-alike speech = rw (
+    speech,
     first-alike,
     same 2 (omega arith),
     same 3 (omega arith),
@@ -219,6 +216,24 @@ module _ (ns ns′ : List ℕ) (k : ℕ) (same : (m : ℕ) → m < fields → nu
     same 9 (omega arith),
   )
 
+-- and where what is kept of its reader is as it was too, they fit as they did
+module _ (ns ns′ : List ℕ) (k : ℕ) (same : (m : ℕ) → m < fields → numberAt ns′ k m ≡ numberAt ns k m) where
+  abbrev record-same : (m : ℕ) → m ≤ speaksAt → numberAt ns′ k m ≡ numberAt ns k m
+  record-same m q = same m (omega arith)
+
+  pub all-line-alike : lineOf ns′ k ≡ lineOf ns k
+  all-line-alike = line-alike ns ns′ k record-same
+
+  pub fits-alike : readerFits ns′ k ≡ readerFits ns k
+  fits-alike = rw (same 11 (omega arith), same 12 (omega arith), same 13 (omega arith))
+
+  speech-alike : speechFits ns′ k ≡ speechFits ns k
+  unfolding speechFits
+  speech-alike = rw (all-line-alike, fits-alike, same 1 (omega arith), same 10 (omega arith))
+
+  pub all-within-alike : withinNumbers ns′ k ≡ withinNumbers ns k
+  all-within-alike = within-alike ns ns′ k record-same speech-alike
+
 -- what a record has beside what is collected and spoken is within the limits
 pub record Counts (l : Line) : Type 0 where
   pub joined : l .joined ≤ messageLimit
@@ -227,12 +242,25 @@ pub record Counts (l : Line) : Type 0 where
   pub last : lastWithin (l .last) ≡ true
   pub state : stateWithin (l .state) ≡ true
 
+pub counts-facts : (l : Line) → countsWithin l ≡ true → Counts l
+counts-facts l e =
+    let rest₁ = and-right (leb (l .joined) messageLimit) _ e in
+    let rest₂ = and-right (leb (l .seconds) mostSeconds) _ rest₁ in
+    let rest₃ = and-right (leb (l .next) mostNumber) _ rest₂ in
+    record {
+      joined = leb-true _ _ (and-left (leb (l .joined) messageLimit) _ e);
+      seconds = leb-true _ _ (and-left (leb (l .seconds) mostSeconds) _ rest₁);
+      next = leb-true _ _ (and-left (leb (l .next) mostNumber) _ rest₂);
+      last = and-left (lastWithin (l .last)) _ rest₃;
+      state = and-right (lastWithin (l .last)) _ rest₃;
+    }
+
 module _ (ns : List ℕ) (i : ℕ) (l : Line) (d : Ledger) where
   pub line-other : (k : ℕ) → k ≢ i → lineOf (stored ns i l d) k ≡ lineOf ns k
-  line-other k n = line-alike ns (stored ns i l d) k (λ m q. number-other ns i l d k m n q)
+  line-other k n = all-line-alike ns (stored ns i l d) k (λ m q. number-other ns i l d k m n q)
 
   pub within-other : (k : ℕ) → k ≢ i → withinNumbers (stored ns i l d) k ≡ withinNumbers ns k
-  within-other k n = within-alike ns (stored ns i l d) k (λ m q. number-other ns i l d k m n q)
+  within-other k n = all-within-alike ns (stored ns i l d) k (λ m q. number-other ns i l d k m n q)
 
   -- what is kept of a reader fits as before, on every line
   pub readers-stay : (k : ℕ) → readerFits (stored ns i l d) k ≡ readerFits ns k
