@@ -1,7 +1,7 @@
 -- Each way out of a call.
 -- Assumes nothing.
 use mathlib.Core.Path.{_≡_, refl, sym, ap, subst, _∙_}
-use mathlib.Core.Bool.{Bool, true, false, not, _&&_}
+use mathlib.Core.Bool.{Bool, true, false, cond, not, _&&_}
 use mathlib.Core.List.{List}
 use Prim.Native.Nat.{ℕ, _+_, _≤_, _<_}
 use borrow.Author.Tests.{lt-ltb, le-ltb, eqb-true, not-true}
@@ -12,6 +12,10 @@ use Rattle.memory.specs.Tests.{is}
 use Rattle.memory.proofs.Tests.{and-left, and-right, clash}
 use Rattle.characters.specs.Control.{lf, stx}
 use Rattle.room.specs.Room.{todaysShares}
+use Rattle.settings.specs.Settings.{byDialogue}
+use Rattle.settings.specs.declared.Patient.the-variants.{Ten, Thirteen}
+use Rattle.settings.specs.declared.Dialogue.{Dialogue}
+use Rattle.settings.specs.declared.Dialogue.the-variants.{Frames, Blocks}
 use Rattle.line.specs.Line.{mostCollected}
 use Rattle.answers.specs.declared.Answer.{Answer}
 use Rattle.answers.specs.declared.Answer.the-variants.{Nothing, NoLine, WrongSize, BeyondLimits}
@@ -36,10 +40,13 @@ use Rattle.looking.specs.Verdicts.{Collects, Begins}
 use Rattle.layout.specs.Layout.{firstAt, numberAt}
 use Rattle.ledger.specs.Ledgers.{withSerial, withUsed, ledgerOf, serialAfter, countsAfter, Narrow}
 use Rattle.answers.specs.InNumbers.{inNumbers}
-use Rattle.numbers.specs.Plain.{waiting, inside, begins, insideAt, withLine, withinNumbers, onlyCollects, oneMore, quick, lineOf}
+use Rattle.numbers.specs.Plain.{waiting, inside, begins, insideAt, withLine, withinNumbers, onlyCollects, oneMore, quick, dialogueOf, lineOf}
 use Rattle.calls.specs.Calls.{HostState, AfterCall, refused, putBack, callOf, Called, Calling}
+use Rattle.keeping.specs.Keeping.{memoOf}
+use Rattle.uploads.specs.Uploads.{uploadOf}
+use Rattle.uploads.specs.Calls.{putUpload, uploadCall, Uploading}
 use Rattle.calls.specs.Inner.Steps.{Stepping, Deciding, PutBack}
-use Rattle.numbers.specs.Changes.{isWithin, recordOf, isCollected, Collected, isBegun, Begun, recordAfter}
+use Rattle.numbers.specs.Changes.{isWithin, isReader, recordOf, isCollected, Collected, isBegun, Begun, recordAfter}
 use Rattle.answers.specs.declared.Answered.{Answered}
 use Rattle.ledger.proofs.Ledgers.{there, used-back}
 use Rattle.numbers.proofs.Changes.{within-facts}
@@ -68,6 +75,10 @@ stepped-on s numbers unfinished frames = record { numbers = numbers; counts = s 
 abbrev reframed : HostState → List ℕ → List ℕ → HostState
 reframed s numbers frames = stepped-on s numbers (s .memory .unfinished) frames
 
+-- a line that speaks blocks
+abbrev speaksBlocks : Dialogue → Bool
+speaksBlocks t = byDialogue t false (λ p. true)
+
 module _ (s : HostState) (e : Event) where
   same : (a : Answer) (r : Answered) → r ≡ inNumbers a → Called (refused a s) r s
   same a r q = record { result = q; state = refl }
@@ -85,10 +96,38 @@ module _ (s : HostState) (e : Event) where
   unfolding callOf
   beyond r h z w q = as-called (rw (lt-ltb (e .line) lines h, z, w)) (same BeyondLimits r q)
 
-  -- past 40 to 42: the step
-  pub by-step : {r : Answered} {t : HostState} → e .line < lines → right s ≡ true → withinNumbers (s .numbers) (e .line) ≡ true → Stepping s (lineOf (s .numbers) (e .line)) e r t → Calling s e r t
+  -- past 40 to 42, by what the line speaks
+  abbrev spoken : Dialogue → AfterCall
+  spoken t =
+      byDialogue t (putBack s (e .line) (stepOf todaysShares (lineOf (s .numbers) (e .line)) (ledger s) e (s .memory)))
+      (λ p. putUpload s (e .line) (uploadOf todaysShares p (lineOf (s .numbers) (e .line)) (memoOf (s .numbers) (e .line)) (ledger s) e (s .memory)))
+
+  past : e .line < lines → right s ≡ true → withinNumbers (s .numbers) (e .line) ≡ true → callOf s e ≡ spoken (lineOf (s .numbers) (e .line) .settings .dialogue)
   unfolding callOf
-  by-step h z w c = as-called (rw (lt-ltb (e .line) lines h, z, w)) c
+  past h z w = rw (lt-ltb (e .line) lines h, z, w)
+
+  -- what a reader speaks is no frames, and then both calls are the same
+  reader-speaks : (n : ℕ) → eqb n 0 ≡ false → speaksBlocks (dialogueOf n) ≡ true
+  reader-speaks n q = by-patient (eqb n 10) q
+    where
+      by-patient : (b : Bool) {a : Bool} → a ≡ false → speaksBlocks (cond a Frames (cond b (Blocks Ten) (Blocks Thirteen))) ≡ true
+      by-patient true p = rw p
+      by-patient false p = rw p
+
+  same-blocks : (t : Dialogue) → speaksBlocks t ≡ true
+      → byDialogue t (refused BeyondLimits s) (λ p. putUpload s (e .line) (uploadOf todaysShares p (lineOf (s .numbers) (e .line)) (memoOf (s .numbers) (e .line)) (ledger s) e (s .memory))) ≡ spoken t
+  same-blocks Frames q = clash cc
+  same-blocks (Blocks p) q = refl
+
+  -- the step
+  pub by-step : {r : Answered} {t : HostState} → e .line < lines → right s ≡ true → withinNumbers (s .numbers) (e .line) ≡ true → numberAt (s .numbers) (e .line) 10 ≡ 0
+      → Stepping s (lineOf (s .numbers) (e .line)) e r t → Calling s e r t
+  by-step h z w n c = as-called (past h z w ∙ ap (λ (x : ℕ). spoken (dialogueOf x)) n) c
+
+  -- or a reader's event
+  pub by-upload : {r : Answered} {t : HostState} → e .line < lines → right s ≡ true → isReader (s .numbers) (e .line) ≡ true → withinNumbers (s .numbers) (e .line) ≡ true → Uploading s e r t → Calling s e r t
+  unfolding uploadCall isReader
+  by-upload h z n w c = as-called (past h z w ∙ sym (rw (lt-ltb (e .line) lines h, z, w) (same-blocks (dialogueOf (numberAt (s .numbers) (e .line) 10)) (reader-speaks (numberAt (s .numbers) (e .line) 10) (not-true _ (and-right (ltb (e .line) lines) _ n)))))) c
 
 -- the step of a line with the record l, and the deciding
 module _ (s : HostState) (l : Line) (e : Event) where
@@ -149,14 +188,21 @@ module _ (ns : List ℕ) (i b : ℕ) (q : quick ns i b ≡ true) where
   unfolding onlyCollects
   is-inside =
       let only = and-left (onlyCollects ns i b) (withinNumbers ns i) q in
-      rw (eqb-true (firstAt ns i) inside (and-left (eqb (firstAt ns i) inside) (not (is lf b) && not (eqb (numberAt ns i 1) (mostCollected (lineOf ns i)))) only))
+      rw (eqb-true (firstAt ns i) inside (and-left (eqb (firstAt ns i) inside) _ only))
+
+  in-frames : numberAt ns i 10 ≡ 0
+  unfolding onlyCollects
+  in-frames =
+      let only = and-left (onlyCollects ns i b) (withinNumbers ns i) q in
+      let rest = and-right (not (is lf b)) _ (and-right (eqb (firstAt ns i) inside) _ only) in
+      eqb-true (numberAt ns i 10) 0 (and-left (eqb (numberAt ns i 10) 0) _ rest)
 
   no-end : (is lf b ≡ false) × (eqb (numberAt ns i 1) (mostCollected (lineOf ns i)) ≡ false)
   unfolding onlyCollects
   no-end =
       let only = and-left (onlyCollects ns i b) (withinNumbers ns i) q in
-      let rest = and-right (eqb (firstAt ns i) inside) (not (is lf b) && not (eqb (numberAt ns i 1) (mostCollected (lineOf ns i)))) only in
-      (not-true _ (and-left (not (is lf b)) (not (eqb (numberAt ns i 1) (mostCollected (lineOf ns i)))) rest), not-true _ (and-right (not (is lf b)) (not (eqb (numberAt ns i 1) (mostCollected (lineOf ns i)))) rest))
+      let rest = and-right (eqb (firstAt ns i) inside) _ only in
+      (not-true _ (and-left (not (is lf b)) _ rest), not-true _ (and-right (eqb (numberAt ns i 10) 0) _ (and-right (not (is lf b)) _ rest)))
 
 module _ (s : HostState) (i b : ℕ) (h : i < lines) (z : right s ≡ true) where
   abbrev here : Event
@@ -172,7 +218,7 @@ module _ (s : HostState) (i b : ℕ) (h : i < lines) (z : right s ≡ true) wher
   unfolding verdictOf ownWork byteLook insideLook
   collects q =
       let ns = s .numbers in
-      rw (lt-ltb i lines h, z, line-within ns i (quick-within ns i b q), no-end ns i b q .0, no-end ns i b q .1, is-inside ns i b q)
+      rw (lt-ltb i lines h, z, line-within ns i (quick-within ns i b q) (in-frames ns i b q), no-end ns i b q .0, no-end ns i b q .1, is-inside ns i b q)
 
   by-quick : {r : Answered} {ns f : List ℕ} → quick (s .numbers) i b ≡ true → r ≡ inNumbers Nothing → ns ≡ oneMore (s .numbers) i → f ≡ set (s .memory .frames) (frameStart i + numberAt (s .numbers) i 1) b
       → Calling s here r (reframed s ns f)
@@ -180,7 +226,7 @@ module _ (s : HostState) (i b : ℕ) (h : i < lines) (z : right s ≡ true) wher
       let within = quick-within (s .numbers) i b q in
       let numbers = n ∙ sym (count-back (s .numbers) (s .counts) i h within (numberAt (s .numbers) i 1 + 1)) in
       let counts = sym (used-back (s .numbers) (s .counts) i h) in
-      by-step s here h z within (as-called (stepped Collects (collects q)) (record {
+      by-step s here h z within (in-frames (s .numbers) i b q) (as-called (stepped Collects (collects q)) (record {
         result = p;
         state = λ x. record { numbers = numbers x; counts = counts x; memory = record { journal = s .memory .journal; unfinished = s .memory .unfinished; frames = g x } };
       }))
@@ -211,10 +257,10 @@ module _ (s : HostState) (i b : ℕ) (h : i < lines) (z : right s ≡ true) wher
     not-collected p c = rw (← kept-numbers p, ← kept-frames p) c
 
 -- STX between frames: the line is inside one, and nothing else has changed
-module _ (s : HostState) (e : Event) (h : e .line < lines) (z : right s ≡ true) (w : withinNumbers (s .numbers) (e .line) ≡ true) where
+module _ (s : HostState) (e : Event) (h : e .line < lines) (z : right s ≡ true) (w : withinNumbers (s .numbers) (e .line) ≡ true) (n : numberAt (s .numbers) (e .line) 10 ≡ 0) where
   is-between : (k : Kind) → begins (s .numbers) (e .line) k ≡ true → firstAt (s .numbers) (e .line) ≡ waiting
   is-between (Byte b) q = eqb-true (firstAt (s .numbers) (e .line)) waiting (and-right (is stx b) (eqb (firstAt (s .numbers) (e .line)) waiting) q)
-  is-between (Seconds n) q = clash cc
+  is-between (Seconds k) q = clash cc
 
   begin-verdict : (k : Kind) → e .kind ≡ k → begins (s .numbers) (e .line) k ≡ true
       → verdictOf todaysShares (lineOf (s .numbers) (e .line)) (ledger s) e (s .memory .journal) (s .memory .unfinished) (s .memory .frames) ≡ Begins
@@ -222,21 +268,21 @@ module _ (s : HostState) (e : Event) (h : e .line < lines) (z : right s ≡ true
   begin-verdict (Byte b) p q =
       let first = firstAt (s .numbers) (e .line) in
       let stx-is = and-left (is stx b) (eqb first waiting) q in
-      rw (lt-ltb (e .line) lines h, z, line-within (s .numbers) (e .line) w, p, is-between (Byte b) q, stx-is)
-  begin-verdict (Seconds n) p q = clash cc
+      rw (lt-ltb (e .line) lines h, z, line-within (s .numbers) (e .line) w n, p, is-between (Byte b) q, stx-is)
+  begin-verdict (Seconds k) p q = clash cc
 
   by-begin : {ns : List ℕ} → begins (s .numbers) (e .line) (e .kind) ≡ true → ns ≡ insideAt (s .numbers) (e .line) → Calling s e (inNumbers Nothing) (renumbered s ns)
   unfolding stepOf
-  by-begin q n =
-      let numbers = n ∙ sym (begun-back (s .numbers) (s .counts) (e .line) h w (is-between (e .kind) q)) in
+  by-begin q m =
+      let numbers = m ∙ sym (begun-back (s .numbers) (s .counts) (e .line) h w (is-between (e .kind) q)) in
       let counts = sym (used-back (s .numbers) (s .counts) (e .line) h) in
-      by-step s e h z w (as-called (ap (λ (x : Verdict). putBack s (e .line) (settle x (lineOf (s .numbers) (e .line)) (ledger s) e (s .memory))) (begin-verdict (e .kind) refl q)) (record {
+      by-step s e h z w n (as-called (ap (λ (x : Verdict). putBack s (e .line) (settle x (lineOf (s .numbers) (e .line)) (ledger s) e (s .memory))) (begin-verdict (e .kind) refl q)) (record {
         result = refl;
         state = λ x. record { numbers = numbers x; counts = counts x; memory = s .memory };
       }))
 
 -- an event that began a frame, or did not
-module _ (s : HostState) (e : Event) (z : right s ≡ true) (w : isWithin (s .numbers) (e .line) ≡ true) {t : Bool} {ns : List ℕ} (x : Begun (s .numbers) (e .line) (e .kind) t ns) where
+module _ (s : HostState) (e : Event) (z : right s ≡ true) (w : isWithin (s .numbers) (e .line) ≡ true) (n : numberAt (s .numbers) (e .line) 10 ≡ 0) {t : Bool} {ns : List ℕ} (x : Begun (s .numbers) (e .line) (e .kind) t ns) where
   starts : isBegun (s .numbers) (e .line) (e .kind) ≡ true → begins (s .numbers) (e .line) (e .kind) ≡ true
   unfolding isBegun
   starts is = and-right (ltb (e .line) lines) (begins (s .numbers) (e .line) (e .kind)) is
@@ -245,7 +291,7 @@ module _ (s : HostState) (e : Event) (z : right s ≡ true) (w : isWithin (s .nu
   by-begun p q =
       let is : isBegun (s .numbers) (e .line) (e .kind) ≡ true = sym (x .result) ∙ p in
       let (h, within) = within-facts (s .numbers) (e .line) w in
-      rw q (by-begin s e h z within (starts is) (x .numbers ∙ rw is))
+      rw q (by-begin s e h z within n (starts is) (x .numbers ∙ rw is))
 
   not-begun : t ≡ false → ns ≡ s .numbers
   not-begun p = x .numbers ∙ rw (sym (x .result) ∙ p)
@@ -257,7 +303,7 @@ module _ (s : HostState) (e : Event) (z : right s ≡ true) (w : isWithin (s .nu
   by-other {r} {after} p c =
       let y : Stepping s (lineOf (s .numbers) (e .line)) e r after = rw (← not-begun p) c in
       let (h, within) = within-facts (s .numbers) (e .line) w in
-      by-step s e h z within y
+      by-step s e h z within n y
 
 -- the record that the numbers stand for
 pub by-record : (s : HostState) (e : Event) {l : Line} {r : Answered} {t : HostState} → isWithin (s .numbers) (e .line) ≡ true → l ≡ recordOf (s .numbers) (e .line) → Stepping s l e r t

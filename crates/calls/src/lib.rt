@@ -83,7 +83,8 @@ pub fn seconds(
     event(e, numbers, counts, journal, unfinished, frames)
 }
 
-// An event past 40 and 41: numbers that are no record are 42; STX between frames only begins one, and needs no record; any other is stepped.
+// An event past 40 and 41: numbers that are no record are 42; a strip reader's line goes its own way; STX between frames only begins one,
+// and needs no record; any other is stepped.
 fn event(
     e: Event,
     numbers: &mut [u16; NUMBERS],
@@ -101,6 +102,9 @@ fn event(
     let i = e.line as usize;
     if !numbers::is_within(numbers, i) {
         return answers::in_numbers(Answer::BeyondLimits);
+    }
+    if numbers::is_reader(numbers, i) {
+        return uploads::event(e, numbers, counts, journal, unfinished, frames);
     }
     let kind = e.kind;
     if numbers::begin(i, kind, numbers) {

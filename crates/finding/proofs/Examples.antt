@@ -8,7 +8,7 @@ use Rattle.escaping.specs.Letters.{letterFor}
 use Rattle.escaping.specs.Escape.{escapeOf}
 use Rattle.settings.specs.declared.Patient.the-variants.{Ten, Thirteen}
 use Rattle.finding.specs.Trimmed.{trimmedFront, trimmedBack}
-use Rattle.finding.specs.Findings.{findingOf}
+use Rattle.finding.specs.Findings.{sayingOf, findingOf}
 
 abbrev ten : List ℕ
 ten =
@@ -56,3 +56,8 @@ of-ten = refl
 pub of-thirteen : findingOf Thirteen thirteen ≡ message
 unfolding part letterFor escapeOf trimmedFront trimmedBack findingOf
 of-thirteen = refl
+
+-- A&B|7 between spaces is said A&E&B&F&7
+pub with-delimiters : sayingOf (0x20 ∷ 0x41 ∷ 0x26 ∷ 0x42 ∷ 0x7c ∷ 0x37 ∷ 0x20 ∷ 0x20 ∷ []) 0 8 ≡ 0x41 ∷ 0x26 ∷ 0x45 ∷ 0x26 ∷ 0x42 ∷ 0x26 ∷ 0x46 ∷ 0x26 ∷ 0x37 ∷ []
+unfolding part letterFor escapeOf trimmedFront trimmedBack
+with-delimiters = refl

@@ -1,6 +1,6 @@
 -- A datum put into lent memory.
 -- Assumes nothing.
-use mathlib.Core.Path.{_≡_, refl, sym, ap, _∙_}
+use mathlib.Core.Path.{_≡_, refl, ap, _∙_}
 use mathlib.Core.Bool.{true}
 use mathlib.Core.List.{List, _++_}
 use Prim.Native.Nat.{ℕ, _+_, _-_, _≤_}
@@ -11,7 +11,7 @@ use borrow.Author.Tests.{le-leb}
 use Rattle.memory.specs.Parts.{splice}
 use Rattle.memory.specs.Moves.{copied}
 use Rattle.memory.proofs.Moves.{laid-back}
-use Rattle.kinds.specs.Delimiters.{standard, areDelimiters}
+use Rattle.kinds.specs.Delimiters.{standard}
 use Rattle.kinds.proofs.Allowed.{standard-allowed}
 use Rattle.escaping.specs.Escape.{escaped, escapeAnswer, escapedOver, Escaping}
 use Rattle.escaping.specs.declared.Put.{Put}

@@ -43,32 +43,40 @@ fielded f (g ∷ gs) = f ++ standard .field ∷ fielded g gs
 abbrev pub Saying : Type 0
 Saying = ℕ → ℕ → List ℕ
 
--- an R for each result, from number k on: its name in field 3, and its value in field 4; the results stand from byte `at` on [B6]
+-- an R for each result, from number k on: its name in field 3, and its value in field 4; the results stand from byte `at` on [B8]
 abbrev pub resultRecords : Saying → ℕ → ℕ → List Result → List (List ℕ)
 resultRecords say k at [] = []
 resultRecords say k at (r ∷ rs) =
     fielded (letterOf ResultKind ∷ []) (numeral k ∷ r .name ∷ say (at + length (r .name)) (r .value) ∷ [])
     ∷ resultRecords say (k + 1) (at + length (r .name) + r .value + r .blank) rs
 
--- H, P with the patient number in field 3, O with the sequence number in field 3, the results, L [B6]
+-- H, P with the patient number in field 3, O with the sequence number in field 3, and L [B8]
+abbrev pub headerRecord : List ℕ
+headerRecord = letterOf Header ∷ standard .field ∷ standard .repeat ∷ standard .component ∷ standard .escape ∷ []
+
+abbrev pub patientRecord : Patient → Saying → List ℕ
+patientRecord p say = fielded (letterOf PatientKind ∷ []) (numeral 1 ∷ say patientAt (patientLength p) ∷ [])
+
+abbrev pub orderRecord : Patient → Saying → List ℕ
+orderRecord p say = fielded (letterOf Order ∷ []) (numeral 1 ∷ say (sequenceAt p) sequenceLength ∷ [])
+
+abbrev pub lastRecord : List ℕ
+lastRecord = fielded (letterOf Terminator ∷ []) (numeral 1 ∷ [])
+
+-- all records, in their order [B8]
 abbrev pub recordsSaying : Patient → Saying → List (List ℕ)
-recordsSaying p say =
-    (letterOf Header ∷ standard .field ∷ standard .repeat ∷ standard .component ∷ standard .escape ∷ [])
-    ∷ fielded (letterOf PatientKind ∷ []) (numeral 1 ∷ say patientAt (patientLength p) ∷ [])
-    ∷ fielded (letterOf Order ∷ []) (numeral 1 ∷ say (sequenceAt p) sequenceLength ∷ [])
-    ∷ (resultRecords say 1 (resultsAt p) results
-    ++ fielded (letterOf Terminator ∷ []) (numeral 1 ∷ []) ∷ [])
+recordsSaying p say = headerRecord ∷ patientRecord p say ∷ orderRecord p say ∷ (resultRecords say 1 (resultsAt p) results ++ lastRecord ∷ [])
 
 -- of each place it says the bytes that stand there, trimmed and escaped. Names are the layout's: a right block has them at their places.
--- What stands behind a value is spaces in a right block, and trimmed [B6]
+-- What stands behind a value is spaces in a right block, and trimmed [B8]
 abbrev pub sayingOf : List ℕ → Saying
 sayingOf bs at n = escaped standard (trimmed (part bs at n))
 
--- the finding of a block [B6]
+-- the finding of a block [B8]
 unfoldable pub findingOf : Patient → List ℕ → List ℕ
 findingOf p bs = joined (recordsSaying p (sayingOf bs))
 
--- the longest finding: every byte of data becomes an escape of three [B6]
+-- the longest finding: every byte of data becomes an escape of three [B8]
 abbrev pub findingLimit : ℕ
 findingLimit = 557
 

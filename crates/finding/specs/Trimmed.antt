@@ -1,4 +1,4 @@
--- Bytes without the spaces at their ends; spaces between others stay. [B6]
+-- Bytes without the spaces at their ends; spaces between others stay. [B8]
 -- Assumes nothing.
 use Prim.Native.Nat.{ℕ}
 use mathlib.Core.Bool.{Bool, cond}

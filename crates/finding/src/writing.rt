@@ -14,8 +14,10 @@ use settings::Patient;
 // What stands in the template for a datum.
 const MARK: u8 = b'.';
 
+const TEMPLATE_LENGTH: usize = 132;
+
 // Every finding, with a mark for each datum.
-const TEMPLATE: [u8; 132] = *b"\
+const TEMPLATE: [u8; TEMPLATE_LENGTH] = *b"\
     H|\\^&\r\
     P|1|.\r\
     O|1|.\r\
@@ -122,7 +124,7 @@ pub fn write(patient: Patient, block: &[u8], out: &mut [u8]) -> usize
     let mut end: usize = 0;
     let mut k: usize = 0;
     let mut i: usize = 0;
-    while i < 132 {
+    while i < TEMPLATE_LENGTH {
         let b = template_at(i);
         i += 1;
         if b == MARK {

@@ -1,2 +1,5 @@
 pub mod Placed
 pub mod Texts
+pub mod Message
+pub mod Fields
+pub mod Says

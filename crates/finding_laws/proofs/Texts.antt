@@ -1,15 +1,14 @@
 -- What trimming and escaping make of bytes of data.
 -- Assumes nothing.
-use mathlib.Core.Path.{_≡_, refl, sym, ap, _∙_}
+use mathlib.Core.Path.{_≡_, refl, ap, _∙_}
 use mathlib.Core.Bool.{Bool, true, false, not, cond, _&&_}
 use mathlib.Core.List.{List, [], _∷_, _++_}
 use Prim.Native.Nat.{ℕ, _≤_}
 use native.Mathlib.Omega.{arith}
 use lib.Dec.{eqb, leb}
 use borrow.Author.Tests.{leb-true, le-leb, ne-eqb}
-use Rattle.memory.specs.Tests.{is, between, all}
-use Rattle.memory.proofs.Tests.{and-left, and-right, and-both, all-append, and-not-right, between-yes, never-both}
-use Rattle.characters.specs.Control.{cr}
+use Rattle.memory.specs.Tests.{is, all}
+use Rattle.memory.proofs.Tests.{and-left, and-right, and-both, all-append}
 use Rattle.characters.specs.Allowed.{allowed, ordinary}
 use Rattle.kinds.specs.Delimiters.{standard}
 use Rattle.escaping.specs.Letters.{letterFor}

@@ -33,7 +33,7 @@ pub record IsRecord (m : List ℕ) (k : ℕ) (kind : Kind) (number : ℕ) : Type
   pub type : typeIn (delimitersOf m) (recordOf m k) ≡ Known kind
   pub number-is : numberIn (delimitersOf m) (recordOf m k) ≡ number
 
--- the k-th result, which stands in the block from byte `at` on, has the R record with its number: the name in field 3, the rest in field 4, both trimmed [B6]
+-- the k-th result, which stands in the block from byte `at` on, has the R record with its number: the name in field 3, the rest in field 4, both trimmed [B8]
 pub record SaysResult (bs m : List ℕ) (k at : ℕ) (r : Result) : Type 0 where
   pub kind : IsRecord m (k + 3) ResultKind k
   pub name : readAt m (k + 3) 3 ≡ some (trimmed (part bs at (length (r .name))))
@@ -44,7 +44,7 @@ abbrev pub SaysResults : List ℕ → List ℕ → ℕ → ℕ → List Result �
 SaysResults bs m k at [] = Unit {0}
 SaysResults bs m k at (r ∷ rs) = SaysResult bs m k at r × SaysResults bs m (k + 1) (at + length (r .name) + r .value + r .blank) rs
 
--- P has the patient number in field 3, O the sequence number in field 3, both trimmed, and each result its R [B6]
+-- P has the patient number in field 3, O the sequence number in field 3, both trimmed, and each result its R [B8]
 pub record Says (p : Patient) (bs m : List ℕ) : Type 0 where
   pub patient-kind : IsRecord m 2 PatientKind 1
   pub patient : readAt m 2 3 ≡ some (trimmed (part bs patientAt (patientLength p)))

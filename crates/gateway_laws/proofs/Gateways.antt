@@ -46,7 +46,7 @@ act-settings (Await n) l = refl
 act-settings (Go s n) l = refl
 
 -- one record is put back that speaks what it spoke: every record does
-settings-set : (ls : List Line) (i k : ℕ) (l : Line) → l .settings ≡ getD ls i noRecord .settings → getD (set ls i l) k noRecord .settings ≡ getD ls k noRecord .settings
+pub settings-set : (ls : List Line) (i k : ℕ) (l : Line) → l .settings ≡ getD ls i noRecord .settings → getD (set ls i l) k noRecord .settings ≡ getD ls k noRecord .settings
 settings-set [] i k l e = refl
 settings-set (x ∷ ls) zero zero l e = e
 settings-set (x ∷ ls) zero (suc k) l e = refl

@@ -17,11 +17,10 @@ use Rattle.journal_laws.specs.Runs.{Numbered, numbered, only, texts, waiting}
 use Rattle.journal_laws.proofs.Guarantees.{today-reaches, today-no-more}
 use Rattle.room.proofs.Totals.{raised-own, raised-other}
 use Rattle.journal.proofs.Wholes.{whole-facts}
-use Rattle.receiving.specs.Steps.{Memory}
 use Rattle.looking.specs.declared.Kind.{Kind}
 use Rattle.serial.specs.Serial.{final, Every}
 use Rattle.promises.specs.Machine.{State, GatewayItem, came, step, Sound, May}
-use Rattle.promises.specs.Runs.{RightSizes, fresh, answered, Completes, usedBy, usedWith, mostAlone}
+use Rattle.promises.specs.Runs.{Beginning, Right, fresh, answered, Completes, usedBy, usedWith, mostAlone}
 use Rattle.promises.specs.Queue.{allTaken}
 use Rattle.promises.specs.Freed.{Alone}
 use Rattle.promises.proofs.Runs.{no-space, space, always-sound}
@@ -41,20 +40,20 @@ second-none (x ∷ xs) ys e = absurd (omega (arith, ap (λ (zs : List Numbered).
 
 -- ---- over runs from fresh
 
-module _ (m : Memory) (sizes : RightSizes m) (es : List GatewayItem) (may : Every May es) where
+module _ (began : Beginning) (right : Right began) (es : List GatewayItem) (may : Every May es) where
   abbrev s : State
-  s = final step (fresh m) es
+  s = final step (fresh began) es
 
   w : Sound s
-  w = always-sound m sizes es may
+  w = always-sound began right es may
 
-  module _ (i : ℕ) (line : i < lines) (alone : Alone (fresh m) es i) (k : Kind) where
+  module _ (i : ℕ) (line : i < lines) (alone : Alone (fresh began) es i) (k : Kind) where
     no-others : (c : ℕ) → c < lines → (c ≡ i → ⊥) → usedBy s c ≡ 0
     no-others c q x =
-        let lost = nothing-lost m sizes es may in
+        let lost = nothing-lost began right es may in
         let rows = ap (numbered 0) (sym (alone c q x)) ∙ lost .queue c q in
         whole-facts (s .gateway .ledger) (s .memory .journal) (lost .entries) (lost .held .whole) .sums c q
-        ∙ none-waiting c (lost .entries) (second-none (allTaken c (fresh m) es) (waiting c (lost .entries)) rows)
+        ∙ none-waiting c (lost .entries) (second-none (allTaken c (fresh began) es) (waiting c (lost .entries)) rows)
 
     module _ (n : ℕ) where
       abbrev grown : List ℕ

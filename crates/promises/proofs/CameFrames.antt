@@ -10,8 +10,6 @@ use Rattle.memory.specs.Sizes.{lines}
 use Rattle.memory.proofs.Tests.{clash}
 use Rattle.faults.specs.Message.{isMessage}
 use Rattle.faults.proofs.Messages.{message-some, message-short}
-use Rattle.settings.specs.Settings.{byDialogue}
-use Rattle.settings.specs.declared.Dialogue.{Dialogue}
 use Rattle.settings.specs.declared.Dialogue.the-variants.{Frames}
 use Rattle.gateway.specs.Events.{dialogueAt}
 use Rattle.room.specs.Room.{todaysShares}
@@ -40,10 +38,11 @@ use Rattle.gateway_laws.specs.Classes.{classOf}
 use Rattle.gateway_laws.proofs.Proper.{parcel-sends, objection-against}
 use Rattle.promises.specs.Machine.{State, Response, step, isDecision, decides, Parts, partsOf, storeOf, came}
 use Rattle.promises.specs.Inner.ByParts.{left, onFrames, onEvent}
-use Rattle.promises.specs.Runs.{answered, isDamage, offered, offeredBy, offeredIn, hasSpace}
+use Rattle.promises.specs.Runs.{answered, isDamage, offered, offeredBy, hasSpace}
 use Rattle.promises.specs.Sending.{Intact}
 use Rattle.promises.specs.Inner.Came.{Passes, Settles, Came, quiet, stored, crowded, against}
 use Rattle.promises.proofs.Parts.{on-frames}
+use Rattle.promises.proofs.Findings.{offered-look}
 use Rattle.promises.proofs.Framed.{work, ready, framed-answer, framed-journal}
 
 -- a look that is done decides nothing and speaks of no damage: only a text that is complete is decided
@@ -84,11 +83,6 @@ module _ (s : State) (w : Intact s) (i : ℕ) (k : Kind) (line : i < lines) (spe
   abbrev look : Look
   look = lookOf (own .line) k (own .texts) (own .frames)
 
-  -- what it completes is told by the look
-  offered-is : offered s i k ≡ offeredBy s i look
-  offered-is =
-      ap (λ (d : Dialogue). byDialogue d (offeredBy s i look) (λ p. offeredIn p (own .line) (own .memo) (own .frames) k)) speaks
-
   -- what a look comes to at any store
   abbrev verdict : Look → Store → Verdict
   verdict x j = decided x todaysShares (own .line) (j .ledger) i (j .journal) (own .texts) (own .frames)
@@ -126,7 +120,7 @@ module _ (s : State) (w : Intact s) (i : ℕ) (k : Kind) (line : i < lines) (spe
 
     passes : Passes s i k
     passes = record {
-      no-text = offered-is ∙ ap (offeredBy s i) is;
+      no-text = offered-look s i k speaks ∙ ap (offeredBy s i) is;
       undecided = ap decides (told-is v (work-is (Done v) is)) ∙ plain .1;
       no-damage = ap (λ (t : Response). isDamage (answered t)) (told-is v (work-is (Done v) is)) ∙ plain .0;
       kept = store-is v (work-is (Done v) is) ∙ same-store (storeOf s);
@@ -142,7 +136,7 @@ module _ (s : State) (w : Intact s) (i : ℕ) (k : Kind) (line : i < lines) (spe
     settles : (v : Verdict) → work s w i k line speaks ≡ v → isDecision (classOf (v .answer)) ≡ true → (Such : ℕ → Type 0) → Such (numberOf (v .answer))
         → Settles s i k text Such ((left v i own k (storeOf s)) .2)
     settles v of d Such such = record {
-      complete = offered-is ∙ ap (offeredBy s i) is;
+      complete = offered-look s i k speaks ∙ ap (offeredBy s i) is;
       decided = ap decides (told-is v of) ∙ d;
       number = subst (λ (t : Response). Such (answered t)) (sym (told-is v of)) such;
       left = store-is v of;
@@ -180,8 +174,8 @@ module _ (s : State) (w : Intact s) (i : ℕ) (k : Kind) (line : i < lines) (spe
   frames-objected t complete m = by-look-at look refl
     where
       by-look-at : (x : Look) → look ≡ x → (step s (came i k)) .0 .answer ≡ objectionTo t
-      by-look-at (Done v) is = let z : none ≡ some t = sym (offered-is ∙ ap (offeredBy s i) is) ∙ complete in clash cc
+      by-look-at (Done v) is = let z : none ≡ some t = sym (offered-look s i k speaks ∙ ap (offeredBy s i) is) ∙ complete in clash cc
       by-look-at (Decides n) is =
-          let z : some (text n is) ≡ some t = sym (offered-is ∙ ap (offeredBy s i) is) ∙ complete in
+          let z : some (text n is) ≡ some t = sym (offered-look s i k speaks ∙ ap (offeredBy s i) is) ∙ complete in
           let same : text n is ≡ t = cc z in
           ap (λ (r : Response). r .answer) (told-is (Against (objectionTo (text n is)) n) (no-message n is (ap isMessage same ∙ m))) ∙ ap objectionTo same

@@ -8,7 +8,7 @@ use mathlib.Core.List.{List, [], _∷_, _++_}
 use mathlib.Core.Option.{some}
 use Prim.Native.Nat.{ℕ, _+_, _<_, _≤_}
 use native.Mathlib.Omega.{arith}
-use lib.ListN.{length, take, getD-replicate}
+use lib.ListN.{length, take}
 use Rattle.memory.specs.Sizes.{lines, messageLimit}
 use Rattle.memory.specs.Parts.{part, splice}
 use Rattle.memory.specs.Tests.{all}
@@ -23,8 +23,12 @@ use Rattle.answers.specs.declared.Fault.the-variants.{NoFinalCr}
 use Rattle.faults.specs.declared.Checked.the-variants.{Faulty}
 use Rattle.faults.proofs.Places.{fault-place, fault-ended, has-fault}
 use Rattle.pieces.proofs.Steps.{ended-some}
+use Rattle.faults.proofs.Messages.{message-some, message-short, message-ends, message-allowed}
 use Rattle.room.specs.Room.{todaysShares}
-use Rattle.line.specs.Line.{freshLine}
+use Rattle.settings.specs.declared.Dialogue.{Dialogue}
+use Rattle.settings.specs.declared.Dialogue.the-variants.{Frames, Blocks}
+use Rattle.journal_laws.specs.Runs.{State as Journal}
+use Rattle.uploads.specs.Uploads.{Deed, leave, add, settle, file, lineBy}
 use Rattle.line.specs.declared.Line.{Line}
 use Rattle.line.proofs.Limits.{within-facts}
 use Rattle.looking.specs.Views.{unfinishedText, frameText, joinedText}
@@ -42,18 +46,21 @@ use Rattle.deciding.specs.Decisions.{outcomeOf}
 use Rattle.deciding.specs.declared.Fate.{Fate}
 use Rattle.receiving.specs.Verdicts.{fateAct, decided, ownWork}
 use Rattle.receiving.specs.Settled.{lineAfter}
-use Rattle.receiving.specs.Steps.{Memory}
-use Rattle.gateway.specs.Events.{noRecord, takeOf}
+use Rattle.gateway.specs.Events.{dialogueAt, takeOf}
 use Rattle.gateway_laws.specs.Inner.Own.{ownTexts}
 use Rattle.serial.specs.Serial.{event, taking, final, Every}
-use Rattle.promises.specs.Machine.{State, GatewayItem, happens, starts, came, step, Parts, partsOf, storeOf, Sound, May}
-use Rattle.promises.specs.Inner.ByParts.{onEvent}
-use Rattle.promises.specs.Runs.{RightSizes, fresh, offeredBy, offered}
+use Rattle.promises.specs.Machine.{State, Response, GatewayItem, happens, starts, came, step, Parts, partsOf, storeOf, Sound, May}
+use Rattle.promises.specs.Inner.ByParts.{onFrames, onEvent}
+use Rattle.promises.specs.Runs.{Beginning, Right, fresh, offeredBy, offered}
 use Rattle.promises.specs.Sending.{Intact}
 use Rattle.promises.specs.Clean.{unfinishedIn, Clean, CompleteText, WrongAt}
-use Rattle.promises.proofs.Sound.{sound-intact, work, ready, fitting, event-own, event-others, each-line}
+use Rattle.promises.proofs.Parts.{on-frames, on-blocks}
+use Rattle.promises.proofs.Framed.{work, ready, fitting}
+use Rattle.promises.proofs.Uploaded.{work as ruled}
+use Rattle.promises.proofs.Findings.{offered-look, offered-finding}
+use Rattle.promises.proofs.Sound.{sound-intact, event-own, event-others, each-line}
 use Rattle.promises.proofs.Starts.{start-clean}
-use Rattle.promises.proofs.Kept.{keeps, fresh-sound}
+use Rattle.promises.proofs.Kept.{keeps, started-at, fresh-sound}
 
 -- two texts of allowed bytes, joined
 both-clean : (x y : List ℕ) → all allowed x ≡ true → all allowed y ≡ true → all allowed (x ++ y) ≡ true
@@ -61,11 +68,11 @@ both-clean x y p q = all-append allowed x y ∙ and-both (all allowed x) (all al
 
 -- ---- a text that an event completes, in any state
 
-module _ (s : State) (i : ℕ) (k : Kind) (text : List ℕ) (complete : offered s i k ≡ some text) where
+-- on a line of frames it ends with n bytes of a frame, whose text has passed its tests
+module _ (s : State) (i : ℕ) (k : Kind) (text : List ℕ) (speaks : dialogueAt (s .gateway) i ≡ Frames) (complete : offered s i k ≡ some text) where
   abbrev own : Parts
   own = partsOf s i
 
-  -- it ends with n bytes of a frame, whose text has passed its tests
   record Ends : Type 0 where
     n : ℕ
     is : joinedText (own .line) n (own .texts) (own .frames) ≡ text
@@ -73,7 +80,7 @@ module _ (s : State) (i : ℕ) (k : Kind) (text : List ℕ) (complete : offered 
     ended : endsWithCr text ≡ true
 
   ends : Ends
-  ends = by-look (lookOf (own .line) k (own .texts) (own .frames)) (look-joins (own .line) (own .texts) (own .frames) k) complete
+  ends = by-look (lookOf (own .line) k (own .texts) (own .frames)) (look-joins (own .line) (own .texts) (own .frames) k) (sym (offered-look s i k speaks) ∙ complete)
     where
       by-look : (x : Look) → LookJoins x (own .line) (own .texts) (own .frames) → offeredBy s i x ≡ some text → Ends
       by-look (Done v) j e = clash cc
@@ -81,21 +88,40 @@ module _ (s : State) (i : ℕ) (k : Kind) (text : List ℕ) (complete : offered 
           let is : joinedText (own .line) n (own .texts) (own .frames) ≡ text = cc e in
           record { n = n; is = is; joins = j .0; ended = rw is at (j .1) }
 
-  pub offered-ended : CompleteText text
-  offered-ended = record {
+  framed-ended : CompleteText text
+  framed-ended = record {
     some = ended-some text (ends .ended);
     short = subst (λ (t : List ℕ). length t ≤ messageLimit) (ends .is) (ends .joins .short);
     ended = ends .ended;
   }
 
+  framed-clean : all allowed (unfinishedIn own) ≡ true → all allowed text ≡ true
+  framed-clean c = ap (all allowed) (sym (ends .is)) ∙ both-clean (unfinishedIn own) (frameText (ends .n) (own .frames)) c (ends .joins .clean)
+
+-- a message is such a text: on a reader's line every one is
+message-ended : (text : List ℕ) → isMessage text ≡ true → CompleteText text
+message-ended text m = record { some = message-some _ text m; short = message-short _ text m; ended = message-ends _ text m }
+
+module _ (s : State) (i : ℕ) (k : Kind) (text : List ℕ) (complete : offered s i k ≡ some text) where
+  pub offered-ended : CompleteText text
+  offered-ended = by-dialogue (dialogueAt (s .gateway) i) refl
+    where
+      by-dialogue : (d : Dialogue) → dialogueAt (s .gateway) i ≡ d → CompleteText text
+      by-dialogue Frames e = framed-ended s i k text e complete
+      by-dialogue (Blocks p) e = message-ended text (offered-finding s i k p e text complete)
+
   -- so 54 is not what is wrong with it
   pub never-54 : (p : ℕ) → faultOf text ≢ Faulty NoFinalCr p
-  never-54 p = fault-ended _ text p (ends .ended)
+  never-54 p = fault-ended _ text p (offered-ended .ended)
 
   -- where the unfinished texts are of allowed bytes, it is too
   module _ (c : Clean s) (line : i < lines) where
     pub offered-clean : all allowed text ≡ true
-    offered-clean = ap (all allowed) (sym (ends .is)) ∙ both-clean (unfinishedIn own) (frameText (ends .n) (own .frames)) (c i line) (ends .joins .clean)
+    offered-clean = by-dialogue (dialogueAt (s .gateway) i) refl
+      where
+        by-dialogue : (d : Dialogue) → dialogueAt (s .gateway) i ≡ d → all allowed text ≡ true
+        by-dialogue Frames e = framed-clean s i k text e complete (c i line)
+        by-dialogue (Blocks p) e = message-allowed _ text (offered-finding s i k p e text complete)
 
     -- and where it is no message, it is wrong at one of its records
     pub offered-faulty : isMessage text ≡ false → WrongAt text
@@ -144,33 +170,49 @@ module _ (l : Line) (texts frames : List ℕ) (own : Own l texts frames) where
   act-clean (Await n) t j c = c
   act-clean (Go s n) t j c = c
 
+-- what a deed on a reader's line leaves: the text that was, or none
+deed-clean : (x : Deed) (l : Line) (texts : List ℕ) → all allowed (unfinishedText l texts) ≡ true → all allowed (unfinishedText (lineBy x l) texts) ≡ true
+deed-clean leave l texts c = c
+deed-clean add l texts c = c
+deed-clean (settle r) l texts c = nothing texts
+deed-clean file l texts c = nothing texts
+
 -- ---- items
+
+abbrev IsClean : Parts → Type 0
+IsClean p = all allowed (unfinishedIn p) ≡ true
 
 module _ (s : State) (w : Intact s) (c : Clean s) (i : ℕ) (k : Kind) (h : i < lines) where
   abbrev had : Parts
   had = partsOf s i
 
-  work-joins : ActJoins (work s w i k h .act) (had .line) (had .texts) (had .frames)
-  unfolding ownWork
-  work-joins = by-look (lookOf (had .line) k (had .texts) (had .frames)) (look-joins (had .line) (had .texts) (had .frames) k)
-    where
-      by-fate : (o : Fate) (n : ℕ) → ActJoins (fateAct o n) (had .line) (had .texts) (had .frames)
-      by-fate Fate.Store n = tt
-      by-fate Fate.Object n = tt
-      by-fate Fate.Leave n = tt
+  module _ (e : dialogueAt (s .gateway) i ≡ Frames) where
+    work-joins : ActJoins (work s w i k h e .act) (had .line) (had .texts) (had .frames)
+    unfolding ownWork
+    work-joins = by-look (lookOf (had .line) k (had .texts) (had .frames)) (look-joins (had .line) (had .texts) (had .frames) k)
+      where
+        by-fate : (o : Fate) (n : ℕ) → ActJoins (fateAct o n) (had .line) (had .texts) (had .frames)
+        by-fate Fate.Store n = tt
+        by-fate Fate.Object n = tt
+        by-fate Fate.Leave n = tt
 
-      by-look : (x : Look) → LookJoins x (had .line) (had .texts) (had .frames)
-          → ActJoins (decided x todaysShares (had .line) (s .gateway .ledger) i (s .memory .journal) (had .texts) (had .frames) .act) (had .line) (had .texts) (had .frames)
-      by-look (Done v) j = j
-      by-look (Decides n) j = by-fate (outcomeOf todaysShares (s .gateway .ledger) i (joinedText (had .line) n (had .texts) (had .frames)) (s .memory .journal) .fate) n
+        by-look : (x : Look) → LookJoins x (had .line) (had .texts) (had .frames)
+            → ActJoins (decided x todaysShares (had .line) (s .gateway .ledger) i (s .memory .journal) (had .texts) (had .frames) .act) (had .line) (had .texts) (had .frames)
+        by-look (Done v) j = j
+        by-look (Decides n) j = by-fate (outcomeOf todaysShares (s .gateway .ledger) i (joinedText (had .line) n (had .texts) (had .frames)) (s .memory .journal) .fate) n
 
-  abbrev IsClean : Parts → Type 0
-  IsClean p = all allowed (unfinishedIn p) ≡ true
+    frames-clean : IsClean ((onFrames i had k (storeOf s)) .1)
+    frames-clean =
+        act-clean (had .line) (had .texts) (had .frames) (own-parts (had .line) i (s .memory .unfinished) (s .memory .frames) (ready s w i k h e))
+        (work s w i k h e .act) (fitting s w i k h e) work-joins (c i h)
 
   own-clean : IsClean ((onEvent i had k (storeOf s)) .1)
-  own-clean =
-      act-clean (had .line) (had .texts) (had .frames) (own-parts (had .line) i (s .memory .unfinished) (s .memory .frames) (ready s w i k h))
-      (work s w i k h .act) (fitting s w i k h) work-joins (c i h)
+  own-clean = by-dialogue (dialogueAt (s .gateway) i) refl
+    where
+      by-dialogue : (d : Dialogue) → dialogueAt (s .gateway) i ≡ d → IsClean ((onEvent i had k (storeOf s)) .1)
+      by-dialogue Frames e = subst (λ (r : Response × Parts × Journal). IsClean (r .1)) (sym (on-frames had i k (storeOf s) e)) (frames-clean e)
+      by-dialogue (Blocks p) e =
+          subst (λ (r : Response × Parts × Journal). IsClean (r .1)) (sym (on-blocks had i k (storeOf s) p e)) (deed-clean (ruled s w i k h p e .deed) (had .line) (had .texts) (c i h))
 
   pub event-clean : Clean ((step s (came i k)) .1)
   event-clean = each-line IsClean s ((step s (came i k)) .1) i _ (event-own s w i k h) (event-others s w i k h) own-clean c
@@ -188,22 +230,22 @@ keeps-clean s (taking i b) w c m = taking-clean s c i b
 -- ---- runs
 
 -- on a fresh line nothing is unfinished, whatever the memory holds
-pub fresh-clean : (m : Memory) → Clean (fresh m)
-fresh-clean m i h = rw (getD-replicate lines i freshLine noRecord h) (nothing (partsOf (fresh m) i .texts))
+pub fresh-clean : (began : Beginning) → Right began → Clean (fresh began)
+fresh-clean began right i h = rw (started-at (began .settings) i (omega (arith, right .settings))) (nothing (partsOf (fresh began) i .texts))
 
 stays-clean : (s : State) (es : List GatewayItem) → Sound s → Clean s → Every May es → Clean (final step s es)
 stays-clean s [] w c o = c
 stays-clean s (e ∷ es) w c o = stays-clean ((step s e) .1) es (keeps s e w (o .0)) (keeps-clean s e w c (o .0)) (o .1)
 
-module _ (m : Memory) (sizes : RightSizes m) (es : List GatewayItem) (may : Every May es) where
+module _ (began : Beginning) (right : Right began) (es : List GatewayItem) (may : Every May es) where
   -- after every run from fresh the unfinished texts are of allowed bytes
-  pub always-clean : Clean (final step (fresh m) es)
-  always-clean = stays-clean (fresh m) es (fresh-sound m sizes) (fresh-clean m) may
+  pub always-clean : Clean (final step (fresh began) es)
+  always-clean = stays-clean (fresh began) es (fresh-sound began right) (fresh-clean began right) may
 
   -- and where the next event completes a text, so is that, and if it is no message, it is wrong at one of its records
-  module _ (i : ℕ) (k : Kind) (h : i < lines) (text : List ℕ) (complete : offered (final step (fresh m) es) i k ≡ some text) where
+  module _ (i : ℕ) (k : Kind) (h : i < lines) (text : List ℕ) (complete : offered (final step (fresh began) es) i k ≡ some text) where
     pub completed-clean : all allowed text ≡ true
-    completed-clean = offered-clean (final step (fresh m) es) i k text complete always-clean h
+    completed-clean = offered-clean (final step (fresh began) es) i k text complete always-clean h
 
     pub completed-faulty : isMessage text ≡ false → WrongAt text
-    completed-faulty = offered-faulty (final step (fresh m) es) i k text complete always-clean h
+    completed-faulty = offered-faulty (final step (fresh began) es) i k text complete always-clean h

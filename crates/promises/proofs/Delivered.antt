@@ -22,6 +22,8 @@ use Rattle.frame.specs.declared.End.{End}
 use Rattle.framing.proofs.ReadBack.{early, long}
 use Rattle.faults.specs.Message.{isMessage}
 use Rattle.faults.proofs.Messages.{message-short, message-allowed}
+use Rattle.settings.specs.Settings.{standardSettings}
+use Rattle.strips.specs.Readers.{Memo}
 use Rattle.line.specs.Line.{acceptedLine}
 use Rattle.line.specs.Turn.{isLast}
 use Rattle.line.specs.declared.Line.{Line}
@@ -35,9 +37,10 @@ use Rattle.promises.specs.Machine.{response}
 use Rattle.promises.specs.Sending.{Usable}
 use Rattle.promises.proofs.Feeding.{feed, ended, unanswered, ready, own-text, last, sent}
 
--- the line waits for a frame with this number, with nothing joined
+-- the line speaks frames and waits for one with this number, with nothing joined
 pub record Open (number : ℕ) (l : Line) : Type 0 where
-  pub waits : l ≡ record { state = Waiting; collected = 0; joined = l .joined; seconds = l .seconds; next = l .next; last = l .last; refusing = l .refusing }
+  pub waits : l ≡ record { state = Waiting; collected = 0; joined = l .joined; seconds = l .seconds; next = l .next; last = l .last; refusing = l .refusing; settings = l .settings }
+  pub speaks : l .settings ≡ standardSettings
   pub joined : l .joined ≡ 0
   pub refusing : l .refusing ≡ false
   pub new : isLast (l .last) number ≡ false
@@ -54,9 +57,10 @@ unfolding nextNumber
 next-low number = omega arith
 
 -- behind a stored message the line is open again
-pub accepted-open : (l : Line) (number : ℕ) → l .refusing ≡ false → number ≡ l .next → number ≤ mostNumber → Open (nextNumber number) (acceptedLine l 0)
-accepted-open l number kind next low = record {
+pub accepted-open : (l : Line) (number : ℕ) → l .settings ≡ standardSettings → l .refusing ≡ false → number ≡ l .next → number ≤ mostNumber → Open (nextNumber number) (acceptedLine l 0)
+accepted-open l number speaks kind next low = record {
   waits = refl;
+  speaks = speaks;
   joined = refl;
   refusing = kind;
   new = rw (← next) (ne-eqb number (nextNumber number) (not-next number low));
@@ -66,6 +70,7 @@ accepted-open l number kind next low = record {
 
 -- x of a message has been joined on the line, y is to come, and this number is next
 pub record Going (x y : List ℕ) (number : ℕ) (l : Line) (texts frames : List ℕ) : Type 0 where
+  pub speaks : l .settings ≡ standardSettings
   pub message : isMessage (x ++ y) ≡ true
   pub refusing : l .refusing ≡ false
   pub new : isLast (l .last) number ≡ false
@@ -77,7 +82,7 @@ pub record Going (x y : List ℕ) (number : ℕ) (l : Line) (texts frames : List
   pub held : part texts 0 (length x) ≡ x
 
 -- one frame of it, with the first n bytes of what is to come
-module _ (limit : ℕ) (usable : Usable limit) (i : ℕ) (j : Store) (x t y : List ℕ) (number : ℕ) (end : End) (l : Line) (texts frames : List ℕ) (g : Going x (t ++ y) number l texts frames)
+module _ (limit : ℕ) (usable : Usable limit) (i : ℕ) (j : Store) (memo : Memo) (x t y : List ℕ) (number : ℕ) (end : End) (l : Line) (texts frames : List ℕ) (g : Going x (t ++ y) number l texts frames)
     (room : length t + aroundText ≤ limit) where
   pub clean : all allowed t ≡ true
   clean =
@@ -91,11 +96,11 @@ module _ (limit : ℕ) (usable : Usable limit) (i : ℕ) (j : Store) (x t y : Li
   most-joined : l .joined + length t ≤ messageLimit
   most-joined = rw (g .joined) most
 
-  pub one-sent : feed i (ready i j l texts frames) j (frameOf number end t)
-      ≡ ended (map unanswered (stx ∷ early number end t)) (last i j l texts limit usable number end t frames room (g .low) clean (g .frames-long) (endLook end (length t) (x ++ t)))
+  pub one-sent : feed i (ready i j memo l texts frames) j (frameOf number end t)
+      ≡ ended (map unanswered (stx ∷ early number end t)) (last i j memo l texts limit usable number end t frames room (g .low) clean (g .frames-long) (endLook end (length t) (x ++ t)))
   one-sent =
-      sent i j l texts limit usable number end t frames room (g .low) clean (g .frames-long) (g .refusing) (g .new) (g .next) most-joined
-      ∙ ap (λ (u : List ℕ). ended (map unanswered (stx ∷ early number end t)) (last i j l texts limit usable number end t frames room (g .low) clean (g .frames-long) (endLook end (length t) (u ++ t))))
+      sent i j memo l texts limit usable number end t frames room (g .low) clean (g .frames-long) (g .refusing) (g .new) (g .next) most-joined
+      ∙ ap (λ (u : List ℕ). ended (map unanswered (stx ∷ early number end t)) (last i j memo l texts limit usable number end t frames room (g .low) clean (g .frames-long) (endLook end (length t) (u ++ t))))
       (ap (part texts 0) (g .joined) ∙ g .held)
 
   -- a frame that is joined: what is left is a line that waits for the next one
@@ -108,10 +113,10 @@ module _ (limit : ℕ) (usable : Usable limit) (i : ℕ) (j : Store) (x t y : Li
   abbrev pub frames-then : List ℕ
   frames-then = splice (splice frames 0 (early number end t)) (length (early number end t)) (lf ∷ [])
 
-  pub accepted : last i j l texts limit usable number end t frames room (g .low) clean (g .frames-long) (Done (Accepts (length t))) ≡ (response Accepted [], ready i j line-then texts-then frames-then, j)
+  pub accepted : last i j memo l texts limit usable number end t frames room (g .low) clean (g .frames-long) (Done (Accepts (length t))) ≡ (response Accepted [], ready i j memo line-then texts-then frames-then, j)
   accepted =
-      ap (λ (u : List ℕ). (response Accepted [], ready i j line-then (splice texts (l .joined) u) frames-then, j))
-      (own-text i j l texts limit usable number end t frames room (g .low) clean (g .frames-long))
+      ap (λ (u : List ℕ). (response Accepted [], ready i j memo line-then (splice texts (l .joined) u) frames-then, j))
+      (own-text i j memo l texts limit usable number end t frames room (g .low) clean (g .frames-long))
 
   two-long : length frames-then ≡ framePart
   two-long =
@@ -121,6 +126,7 @@ module _ (limit : ℕ) (usable : Usable limit) (i : ℕ) (j : Store) (x t y : Li
   pub going-on : Going (x ++ t) y (nextNumber number) line-then texts-then frames-then
   going-on =
       record {
+        speaks = g .speaks;
         message = rw (append-assoc x t y) (g .message);
         refusing = g .refusing;
         new = rw (← (g .next)) (ne-eqb number (nextNumber number) (not-next number (g .low)));

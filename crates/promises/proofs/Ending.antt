@@ -12,6 +12,8 @@ use Rattle.memory.specs.Sizes.{lines, frameLimit}
 use Rattle.memory.proofs.Tests.{clash, never-both}
 use Rattle.pieces.specs.Pieces.{piecesOf}
 use Rattle.frame.specs.Piece.{Piece}
+use Rattle.settings.specs.declared.Dialogue.the-variants.{Frames}
+use Rattle.gateway.specs.Events.{dialogueAt}
 use Rattle.line.specs.declared.State.the-variants.{Out}
 use Rattle.line.specs.declared.Sending.{Sending}
 use Rattle.line.specs.declared.Sending.the-variants.{Asking, Pausing, Offering}
@@ -28,7 +30,8 @@ use Rattle.promises.specs.Runs.{answered}
 use Rattle.promises.specs.Clean.{unfinishedIn}
 use Rattle.promises.specs.Orders.{isTick, ticks, neutralAlong, longest}
 use Rattle.promises.proofs.Sound.{sound-intact}
-use Rattle.promises.proofs.Starts.{start-sends, asks-own, asks-text}
+use Rattle.promises.proofs.Starts.{start-sends, asks-own, asks-text, starts-frames}
+use Rattle.promises.proofs.Dialogues.{still-frames}
 use Rattle.promises.proofs.Kept.{keeps}
 use Rattle.promises.proofs.Onward.{partsOn, onward, out-own}
 use Rattle.promises.proofs.Moves.{placeBehind, Moves, offers-first, pauses, ignores, asks-again, offers-next, offers-again, waits, ends-whole, ends-short, ends-past, gives-up, moves}
@@ -116,23 +119,23 @@ module _ (i : ℕ) (h : i < lines) where
   event-tick (Byte b) = refl
   event-tick (Seconds n) = rw (eq-eqb i i refl)
 
-  item-nearer : (s : State) (w : Sound s) (e : GatewayItem) (t : Sending) → Going (partsOf s i) t → ItemOn i s e → Nearer (isTick i e) (partsOf s i) t (partsOf ((step s e) .1) i)
-  item-nearer s w e t g (idle quiet still same) =
+  item-nearer : (s : State) (w : Sound s) → dialogueAt (s .gateway) i ≡ Frames → (e : GatewayItem) (t : Sending) → Going (partsOf s i) t → ItemOn i s e → Nearer (isTick i e) (partsOf s i) t (partsOf ((step s e) .1) i)
+  item-nearer s w speaks e t g (idle quiet still same) =
       subst (Nearer (isTick i e) (partsOf s i) t) (sym same) (rw still (nearer t g (omega arith)))
-  item-nearer s w e t g (begun now neutral) = let z : false ≡ true = sym (ap isNeutral (g .out)) ∙ neutral in clash cc
-  item-nearer s w e t g (received k quiet before after) = never-both (isOut (stateOf s i)) (ap isOut (g .out)) before
-  item-nearer s w e t g (sending k u out) =
+  item-nearer s w speaks e t g (begun now neutral) = let z : false ≡ true = sym (ap isNeutral (g .out)) ∙ neutral in clash cc
+  item-nearer s w speaks e t g (received k quiet before after) = never-both (isOut (stateOf s i)) (ap isOut (g .out)) before
+  item-nearer s w speaks e t g (sending k u out) =
       let v = sound-intact s w in
-      subst (λ (q : Parts). Nearer (isTick i (came i k)) (partsOf s i) t q) (sym (out-own s v i h t (g .out) k))
-      (rw (event-tick k) (row-nearer (partsOf s i) (text-long s v i h) k t (onward s v i h t (g .out) k) g (moves (partsOf s i) k t)))
+      subst (λ (q : Parts). Nearer (isTick i (came i k)) (partsOf s i) t q) (sym (out-own s v i h speaks t (g .out) k))
+      (rw (event-tick k) (row-nearer (partsOf s i) (text-long s v i h speaks) k t (onward s v i h speaks t (g .out) k) g (moves (partsOf s i) k t)))
 
   pub neutral-here : (s : State) (es : List GatewayItem) → isNeutral (stateOf s i) ≡ true → neutralAlong i s es ≡ true
   neutral-here s [] e = e
   neutral-here s (x ∷ es) e = rw e
 
-  going-ends : (s : State) (es : List GatewayItem) → Sound s → Every May es → (t : Sending) → Going (partsOf s i) t → lasts (partsOf s i) t ≤ ticks i es → neutralAlong i s es ≡ true
-  going-ends s [] w may t g enough = absurd (omega (arith, g .waiting))
-  going-ends s (e ∷ es) w may t g enough = rw (ap isNeutral (g .out)) (by-step (item-nearer s w e t g (item-on s w i h e (may .0))) (λ u r le. going-ends ((step s e) .1) es (keeps s e w (may .0)) (may .1) u r le))
+  going-ends : (s : State) (es : List GatewayItem) → Sound s → dialogueAt (s .gateway) i ≡ Frames → Every May es → (t : Sending) → Going (partsOf s i) t → lasts (partsOf s i) t ≤ ticks i es → neutralAlong i s es ≡ true
+  going-ends s [] w speaks may t g enough = absurd (omega (arith, g .waiting))
+  going-ends s (e ∷ es) w speaks may t g enough = rw (ap isNeutral (g .out)) (by-step (item-nearer s w speaks e t g (item-on s w i h speaks e (may .0))) (λ u r le. going-ends ((step s e) .1) es (keeps s e w (may .0)) (still-frames s e i speaks) (may .1) u r le))
     where
       by-step : Nearer (isTick i e) (partsOf s i) t (partsOf ((step s e) .1) i) → ((u : Sending) → Going (partsOf ((step s e) .1) i) u → lasts (partsOf ((step s e) .1) i) u ≤ ticks i es → neutralAlong i ((step s e) .1) es ≡ true)
           → neutralAlong i ((step s e) .1) es ≡ true
@@ -151,7 +154,7 @@ sending-ends s w i h m e es may enough =
     let seconds = ap (λ (p : Parts). p .line .seconds) own in
     let going : Going (partsOf t i) (Asking 0) = record { out = ap (λ (p : Parts). p .line .state) own; waiting = omega (arith, seconds) } in
     let frames = ap (λ (x : List ℕ). length (piecesOf frameLimit (drop 0 x))) text in
-    going-ends i h t es (keeps s (starting i m) w h) may (Asking 0) going (omega (arith, enough, seconds, frames))
+    going-ends i h t es (keeps s (starting i m) w h) (still-frames s (starting i m) i (starts-frames s v i m h asks)) may (Asking 0) going (omega (arith, enough, seconds, frames))
 
 -- the figures
 pub longest-figures : (frames : ℕ) → longest frames ≡ 140 + 90 * frames

@@ -17,6 +17,8 @@ use Rattle.frame.specs.Piece.{Piece}
 use Rattle.pieces.specs.Pieces.{piecesOf}
 use Rattle.answers.specs.Paper.{numberOf, replyOf, firstOut}
 use Rattle.answers.specs.InNumbers.{replyByte}
+use Rattle.settings.specs.declared.Dialogue.the-variants.{Frames}
+use Rattle.gateway.specs.Events.{dialogueAt}
 use Rattle.line.specs.declared.State.the-variants.{Out}
 use Rattle.line.specs.declared.Sending.{Sending}
 use Rattle.line.specs.declared.Sending.the-variants.{Asking, Pausing, Offering}
@@ -31,7 +33,8 @@ use Rattle.promises.specs.Runs.{answered}
 use Rattle.promises.specs.Clean.{unfinishedIn}
 use Rattle.promises.specs.Orders.{isSent, begins, firstOf, isAck, acknowledges, acknowledgements, EotTells, neutralAlong}
 use Rattle.promises.proofs.Sound.{sound-intact}
-use Rattle.promises.proofs.Starts.{start-sends, start-passed, asks-own, asks-text}
+use Rattle.promises.proofs.Starts.{start-sends, start-passed, asks-own, asks-text, starts-frames}
+use Rattle.promises.proofs.Dialogues.{still-frames}
 use Rattle.promises.proofs.Kept.{keeps}
 use Rattle.promises.proofs.Onward.{answerOn, partsOn, onward, out-answer, out-own}
 use Rattle.promises.proofs.Moves.{placeIn, placeBehind, Moves, offers-first, pauses, ignores, asks-again, offers-next, offers-again, waits, ends-whole, ends-short, ends-past, gives-up, moves}
@@ -119,46 +122,46 @@ module _ (i : ℕ) (h : i < lines) where
     same-sending : begins i e ((step s e) .0) ≡ false
     goes : Further (isAcked s e) (partsOf s i) t (partsOf ((step s e) .1) i)
 
-  item-further : (s : State) (w : Sound s) (e : GatewayItem) (t : Sending) → UnderWay (partsOf s i) t → ItemOn i s e → Step s e t
-  item-further s w e t g (idle quiet still same) = record {
+  item-further : (s : State) (w : Sound s) → dialogueAt (s .gateway) i ≡ Frames → (e : GatewayItem) (t : Sending) → UnderWay (partsOf s i) t → ItemOn i s e → Step s e t
+  item-further s w speaks e t g (idle quiet still same) = record {
     same-sending = not-begun e ((step s e) .0) quiet;
     goes = subst (Further (isAcked s e) (partsOf s i) t) (sym same) (rw quiet (further t g (omega arith)));
   }
-  item-further s w e t g (begun now neutral) = let z : false ≡ true = sym (ap isNeutral (g .out)) ∙ neutral in clash cc
-  item-further s w e t g (received k quiet before after) = never-both (isOut (stateOf s i)) (ap isOut (g .out)) before
-  item-further s w e t g (sending k u out) =
+  item-further s w speaks e t g (begun now neutral) = let z : false ≡ true = sym (ap isNeutral (g .out)) ∙ neutral in clash cc
+  item-further s w speaks e t g (received k quiet before after) = never-both (isOut (stateOf s i)) (ap isOut (g .out)) before
+  item-further s w speaks e t g (sending k u out) =
       let v = sound-intact s w in
-      let o = onward s v i h t (g .out) k in
+      let o = onward s v i h speaks t (g .out) k in
       record {
         same-sending = refl;
         goes =
-            subst (λ (r : Response). Further (acknowledges i (came i k) (answered r) (firstOf r)) (partsOf s i) t (partsOf ((step s (came i k)) .1) i)) (sym (out-answer s v i h t (g .out) k))
-            (subst (Further (acknowledges i (came i k) (numberOf (answerOn o)) (replyByte (firstOut (answerOn o)))) (partsOf s i) t) (sym (out-own s v i h t (g .out) k))
-            (rw (eq-eqb i i refl) (row-further (partsOf s i) (text-long s v i h) k t o g (moves (partsOf s i) k t))));
+            subst (λ (r : Response). Further (acknowledges i (came i k) (answered r) (firstOf r)) (partsOf s i) t (partsOf ((step s (came i k)) .1) i)) (sym (out-answer s v i h speaks t (g .out) k))
+            (subst (Further (acknowledges i (came i k) (numberOf (answerOn o)) (replyByte (firstOut (answerOn o)))) (partsOf s i) t) (sym (out-own s v i h speaks t (g .out) k))
+            (rw (eq-eqb i i refl) (row-further (partsOf s i) (text-long s v i h speaks) k t o g (moves (partsOf s i) k t))));
       }
 
   -- the item with which it goes out
-  last-tells : (s : State) (w : Sound s) (k : Kind) (t : Sending) → UnderWay (partsOf s i) t → firstOf ((step s (came i k)) .0) ≡ eot
+  last-tells : (s : State) (w : Sound s) → dialogueAt (s .gateway) i ≡ Frames → (k : Kind) (t : Sending) → UnderWay (partsOf s i) t → firstOf ((step s (came i k)) .0) ≡ eot
       → EotTells (isAck k) (acknowledgements i s (came i k ∷ [])) (toCome (unfinishedIn (partsOf s i)) t)
-  last-tells s w k t g e =
+  last-tells s w speaks k t g e =
       let v = sound-intact s w in
-      let o = onward s v i h t (g .out) k in
-      let r = out-answer s v i h t (g .out) k in
+      let o = onward s v i h speaks t (g .out) k in
+      let r = out-answer s v i h speaks t (g .out) k in
       subst (λ (x : Response). EotTells (isAck k) (cond (acknowledges i (came i k) (answered x) (firstOf x)) 1 0 + 0) (toCome (unfinishedIn (partsOf s i)) t)) (sym r)
-      (rw (eq-eqb i i refl) (row-tells (partsOf s i) (text-long s v i h) k t o g (moves (partsOf s i) k t) (sym (ap firstOf r) ∙ e)))
+      (rw (eq-eqb i i refl) (row-tells (partsOf s i) (text-long s v i h speaks) k t o g (moves (partsOf s i) k t) (sym (ap firstOf r) ∙ e)))
 
   module _ (k : Kind) where
     -- what is told by the event k, behind the run es
     abbrev Tells : State → Sending → List GatewayItem → Type 0
     Tells s t es = EotTells (isAck k) (acknowledgements i s (es ++ (came i k ∷ []))) (toCome (unfinishedIn (partsOf s i)) t)
 
-    along : (s : State) (es : List GatewayItem) → Sound s → Every May es → (t : Sending) → UnderWay (partsOf s i) t → neutralAlong i s es ≡ false
+    along : (s : State) (es : List GatewayItem) → Sound s → dialogueAt (s .gateway) i ≡ Frames → Every May es → (t : Sending) → UnderWay (partsOf s i) t → neutralAlong i s es ≡ false
         → firstOf ((step (final step s es) (came i k)) .0) ≡ eot → Tells s t es
-    along s [] w may t g on e = last-tells s w k t g e
-    along s (x ∷ es) w may t g on e =
+    along s [] w speaks may t g on e = last-tells s w speaks k t g e
+    along s (x ∷ es) w speaks may t g on e =
         let later : neutralAlong i ((step s x) .1) es ≡ false = rw (ap isNeutral (g .out)) at on in
-        let y = item-further s w x t g (item-on s w i h x (may .0)) in
-        rw (y .same-sending) (by-step (y .goes) later (λ u v. along ((step s x) .1) es (keeps s x w (may .0)) (may .1) u v later e))
+        let y = item-further s w speaks x t g (item-on s w i h speaks x (may .0)) in
+        rw (y .same-sending) (by-step (y .goes) later (λ u v. along ((step s x) .1) es (keeps s x w (may .0)) (still-frames s x i speaks) (may .1) u v later e))
       where
         by-step : Further (isAcked s x) (partsOf s i) t (partsOf ((step s x) .1) i) → neutralAlong i ((step s x) .1) es ≡ false
             → ((u : Sending) → UnderWay (partsOf ((step s x) .1) i) u → Tells ((step s x) .1) u es)
@@ -180,4 +183,4 @@ eot-tells s w i h m nine es may on k e =
     let joined = ap (λ (p : Parts). p .line .joined) own in
     let way : UnderWay (partsOf t i) (Asking 0) = record { out = ap (λ (p : Parts). p .line .state) own; there = omega (arith, some, joined) } in
     subst (λ (x : List ℕ). EotTells (isAck k) (acknowledgements i t (es ++ (came i k ∷ []))) (1 + length (piecesOf frameLimit (drop 0 x)))) text
-    (along i h k t es (keeps s (starting i m) w h) may (Asking 0) way on e)
+    (along i h k t es (keeps s (starting i m) w h) (still-frames s (starting i m) i (starts-frames s v i m h asks)) may (Asking 0) way on e)

@@ -1,4 +1,4 @@
--- Bytes that come one behind the other on one line, told of its parts and the store: a frame that is sent is collected and judged at its LF.
+-- Bytes that come one behind the other on one line of frames, told of its parts and the store: a frame that is sent is collected and judged at its LF.
 -- Assumes nothing.
 use mathlib.Core.Path.{_≡_, refl, sym, ap, _∙_}
 use mathlib.Core.Bool.{Bool, true, false, not, cond, _&&_, true≢false}
@@ -28,6 +28,7 @@ use Rattle.line.specs.Turn.{isLast, turnOf}
 use Rattle.line.specs.declared.Line.{Line}
 use Rattle.line.specs.declared.State.the-variants.{Waiting, Inside}
 use Rattle.answers.specs.declared.Answer.the-variants.{Nothing}
+use Rattle.strips.specs.Readers.{Memo}
 use Rattle.room.specs.Room.{todaysShares}
 use Rattle.journal_laws.specs.Runs.{State as Store}
 use Rattle.looking.specs.Looks.{waitingLook, insideLook, byteLook, frameLook, endLook, lookOf}
@@ -35,14 +36,14 @@ use Rattle.receiving.specs.Verdicts.{decided, ownWork}
 use Rattle.looking.specs.declared.Kind.the-variants.{Byte}
 use Rattle.looking.specs.declared.Look.{Look}
 use Rattle.promises.specs.Machine.{Response, response, Parts}
-use Rattle.promises.specs.Inner.ByParts.{left, onEvent}
+use Rattle.promises.specs.Inner.ByParts.{left, onFrames}
 use Rattle.promises.specs.Sending.{Usable}
 
 -- bytes on line i, one behind the other: the answers, and what is left
 abbrev pub feed : ℕ → Parts → Store → List ℕ → List Response × Parts × Store
 feed i p j [] = ([], p, j)
 feed i p j (b ∷ bs) =
-    let r = onEvent i p (Byte b) j in
+    let r = onFrames i p (Byte b) j in
     let q = feed i (r .1) (r .2) bs in
     (r .0 ∷ q .0, q .1, q .2)
 
@@ -57,7 +58,7 @@ pub feed-append : (i : ℕ) (xs ys : List ℕ) (p : Parts) (j : Store)
     → feed i p j (xs ++ ys) ≡ (feed i p j xs .0 ++ feed i (feed i p j xs .1) (feed i p j xs .2) ys .0, feed i (feed i p j xs .1) (feed i p j xs .2) ys .1, feed i (feed i p j xs .1) (feed i p j xs .2) ys .2)
 feed-append i [] ys p j = refl
 feed-append i (b ∷ xs) ys p j =
-    let r = onEvent i p (Byte b) j in
+    let r = onFrames i p (Byte b) j in
     ap (onto (r .0)) (feed-append i xs ys (r .1) (r .2))
 
 abbrev pub unanswered : ℕ → Response
@@ -116,30 +117,32 @@ digits-clear check =
 pub early-clear : (number : ℕ) (end : End) (text : List ℕ) → all allowed text ≡ true → all notLf (early number end text) ≡ true
 early-clear number end text h = both-clear (bodyOf number end text) _ (body-clear number end text h) (digits-clear (checkOf (bodyOf number end text)))
 
-module _ (i : ℕ) (j : Store) (l : Line) (texts : List ℕ) where
+module _ (i : ℕ) (j : Store) (memo : Memo) (l : Line) (texts : List ℕ) where
   -- the line inside a frame, with c bytes collected
   abbrev pub inside : ℕ → List ℕ → Parts
   inside c frames = record {
-    line = record { state = Inside; collected = c; joined = l .joined; seconds = l .seconds; next = l .next; last = l .last; refusing = l .refusing };
+    line = record { state = Inside; collected = c; joined = l .joined; seconds = l .seconds; next = l .next; last = l .last; refusing = l .refusing; settings = l .settings };
     texts = texts;
     frames = frames;
+    memo = memo;
   }
 
   -- the line waiting for a frame
   abbrev pub ready : List ℕ → Parts
   ready frames = record {
-    line = record { state = Waiting; collected = 0; joined = l .joined; seconds = l .seconds; next = l .next; last = l .last; refusing = l .refusing };
+    line = record { state = Waiting; collected = 0; joined = l .joined; seconds = l .seconds; next = l .next; last = l .last; refusing = l .refusing; settings = l .settings };
     texts = texts;
     frames = frames;
+    memo = memo;
   }
 
-  pub begins : (frames : List ℕ) → onEvent i (ready frames) (Byte stx) j ≡ (unanswered stx, inside 0 frames, j)
+  pub begins : (frames : List ℕ) → onFrames i (ready frames) (Byte stx) j ≡ (unanswered stx, inside 0 frames, j)
   unfolding ownWork byteLook waitingLook
   begins frames = refl
 
   -- a byte is collected
   pub collects : (b c : ℕ) (frames : List ℕ) → c < mostCollected l → is lf b ≡ false
-      → onEvent i (inside c frames) (Byte b) j ≡ (unanswered b, inside (c + 1) (splice frames c (b ∷ [])), j)
+      → onFrames i (inside c frames) (Byte b) j ≡ (unanswered b, inside (c + 1) (splice frames c (b ∷ [])), j)
   unfolding ownWork byteLook insideLook mostCollected
   collects b c frames h n = rw (n, ne-eqb c (mostCollected l) (λ e. absurd (omega (arith, e))))
 
@@ -210,6 +213,6 @@ module _ (i : ℕ) (j : Store) (l : Line) (texts : List ℕ) where
         ap (λ (bs : List ℕ). feed i (ready frames) j (stx ∷ bs)) (spelt number end text)
         ∙ ap (λ (r : Response × Parts × Store). onto (r .0) (feed i (r .1) (r .2) (early number end text ++ (lf ∷ [])))) opened
         ∙ ap (onto (unanswered stx)) (feed-append i (early number end text) (lf ∷ []) (inside 0 frames) j)
-        ∙ ap (λ (r : List Response × Parts × Store). onto (unanswered stx) (ended (r .0) (onEvent i (r .1) (Byte lf) (r .2)))) all-of-it
-        ∙ ap (λ (k : ℕ). onto (unanswered stx) (ended (map unanswered (early number end text)) (onEvent i (inside k held) (Byte lf) j))) from-none
+        ∙ ap (λ (r : List Response × Parts × Store). onto (unanswered stx) (ended (r .0) (onFrames i (r .1) (Byte lf) (r .2)))) all-of-it
+        ∙ ap (λ (k : ℕ). onto (unanswered stx) (ended (map unanswered (early number end text)) (onFrames i (inside k held) (Byte lf) j))) from-none
         ∙ ap (λ (x : Look). ended (map unanswered (stx ∷ early number end text)) (last x)) look

@@ -1,4 +1,4 @@
--- What a reader's line offers is a message: the finding of a right block with results.
+-- What a line offers, by what it speaks; and what a reader's line offers is a message: the finding of a right block with results.
 -- Assumes nothing.
 use mathlib.Core.Path.{_≡_, refl, sym, ap, _∙_}
 use mathlib.Core.Bool.{Bool, true, false, cond, not}
@@ -9,7 +9,7 @@ use Rattle.memory.proofs.Tests.{clash, and-left}
 use Rattle.settings.specs.Settings.{byDialogue}
 use Rattle.settings.specs.declared.Patient.{Patient}
 use Rattle.settings.specs.declared.Dialogue.{Dialogue}
-use Rattle.settings.specs.declared.Dialogue.the-variants.{Blocks}
+use Rattle.settings.specs.declared.Dialogue.the-variants.{Frames, Blocks}
 use Rattle.faults.specs.Message.{isMessage}
 use Rattle.block.specs.Judged.{judgedOf}
 use Rattle.block.specs.declared.Judged.{Judged}
@@ -44,6 +44,12 @@ wanted-results p w bs e = is-results (judgedOf p bs) (and-left (isResults (judge
 
 pub wanted-message : (p : Patient) (w : Memo) (bs : List ℕ) → isWanted p w bs ≡ true → isMessage (findingOf p bs) ≡ true
 wanted-message p w bs e = finding-message p bs (results-matches p bs (wanted-results p w bs e))
+
+-- what a line of frames offers is told by the look
+pub offered-look : (s : State) (i : ℕ) (k : Kind) → dialogueAt (s .gateway) i ≡ Frames → offered s i k ≡ offeredBy s i (lookOf (partsOf s i .line) k (partsOf s i .texts) (partsOf s i .frames))
+offered-look s i k speaks =
+    let own = partsOf s i in
+    ap (λ (d : Dialogue). byDialogue d (offeredBy s i (lookOf (own .line) k (own .texts) (own .frames))) (λ q. offeredIn q (own .line) (own .memo) (own .frames) k)) speaks
 
 module _ (s : State) (i : ℕ) (k : Kind) (p : Patient) (speaks : dialogueAt (s .gateway) i ≡ Blocks p) where
   abbrev own : Parts

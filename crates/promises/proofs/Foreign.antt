@@ -19,11 +19,10 @@ use Rattle.journal.specs.declared.Took.{Took}
 use Rattle.journal.specs.declared.Took.the-variants.{Taken, NothingWaiting, BufferShort, Broken, NoLine, WrongSize}
 use Rattle.taking.specs.Taking.{tookAnswer}
 use Rattle.gateway.specs.Events.{takeOf}
-use Rattle.receiving.specs.Steps.{Memory}
 use Rattle.looking.specs.declared.Kind.{Kind}
 use Rattle.serial.specs.Serial.{event, taking, annotate, Every}
 use Rattle.promises.specs.Machine.{State, Response, GatewayItem, happens, starts, step, Sound, May}
-use Rattle.promises.specs.Runs.{RightSizes, fresh, answered}
+use Rattle.promises.specs.Runs.{Beginning, Right, fresh, answered}
 use Rattle.promises.specs.Clean.{Clean}
 use Rattle.promises.specs.Inner.Came.{answer, Came, quiet, stored, crowded, against}
 use Rattle.promises.proofs.Sound.{sound-intact}
@@ -66,5 +65,5 @@ stays-not-30 : (s : State) (es : List GatewayItem) → Sound s → Clean s → E
 stays-not-30 s [] w c o = tt
 stays-not-30 s (e ∷ es) w c o = (item-not-30 s w c e (o .0), stays-not-30 ((step s e) .1) es (keeps s e w (o .0)) (keeps-clean s e w c (o .0)) (o .1))
 
-pub never-30 : (m : Memory) → RightSizes m → (es : List GatewayItem) → Every May es → Every (λ x. eqb (answered (x .1)) 30 ≡ false) (annotate step (fresh m) es)
-never-30 m sizes es may = stays-not-30 (fresh m) es (fresh-sound m sizes) (fresh-clean m) may
+pub never-30 : (began : Beginning) → Right began → (es : List GatewayItem) → Every May es → Every (λ x. eqb (answered (x .1)) 30 ≡ false) (annotate step (fresh began) es)
+never-30 began right es may = stays-not-30 (fresh began) es (fresh-sound began right) (fresh-clean began right) may

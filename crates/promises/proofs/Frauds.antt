@@ -8,7 +8,8 @@ use mathlib.Core.Option.{Option, none, some}
 use Prim.Native.Nat.{ℕ, _<_}
 use native.Mathlib.Omega.{arith}
 use lib.ListN.{length, getD, replicate, length-append, length-replicate}
-use Rattle.memory.specs.Sizes.{frameLimit, journalSize, unfinishedSize, framesSize}
+use Rattle.settings.specs.Settings.{standardSettings}
+use Rattle.memory.specs.Sizes.{lines, frameLimit, journalSize, unfinishedSize, framesSize}
 use Rattle.digits.specs.Check.{checkOf, hexDigit, digitsOf, total}
 use Rattle.digits.specs.Number.{nextNumber}
 use Rattle.framing.specs.Writing.{bodyOf, tailOf, collectedOf, frameOf}
@@ -28,7 +29,7 @@ use Rattle.receiving.specs.Steps.{Memory, memoryOf}
 use Rattle.looking.specs.declared.Kind.the-variants.{Byte}
 use Rattle.serial.specs.Serial.{taking, final}
 use Rattle.promises.specs.Machine.{State, Response, response, GatewayItem, came}
-use Rattle.promises.specs.Runs.{RightSizes, fresh, replied, isAck}
+use Rattle.promises.specs.Runs.{Right, fresh, standardBeginning, replied, isAck}
 use Rattle.promises.specs.Examples.{both, holds}
 use Rattle.promises.specs.Sending.{Runner, bytesOn, sending, sendingReplies, newEntries, HasRoom, Intact, DeliversBy, Demand2, GivesBackBy}
 use Rattle.promises.proofs.Sound.{sound-intact}
@@ -41,8 +42,14 @@ use Rattle.promises.proofs.Examples.{shown}
 abbrev memory : Memory
 memory = memoryOf (replicate journalSize 0) (replicate unfinishedSize 0) (replicate framesSize 0)
 
-right : RightSizes memory
-right = record { journal = length-replicate {A = ℕ} journalSize 0; texts = length-replicate {A = ℕ} unfinishedSize 0; frames = length-replicate {A = ℕ} framesSize 0 }
+abbrev began : State
+began = fresh (standardBeginning memory)
+
+right : Right (standardBeginning memory)
+right = record {
+  settings = length-replicate lines standardSettings;
+  sizes = record { journal = length-replicate {A = ℕ} journalSize 0; texts = length-replicate {A = ℕ} unfinishedSize 0; frames = length-replicate {A = ℕ} framesSize 0 };
+}
 
 holds-true : (b : Bool) → holds b ≡ 1 ∷ [] → b ≡ true
 holds-true true e = refl
@@ -51,16 +58,16 @@ holds-true false e = absurd (omega (arith, ap (λ (xs : List ℕ). getD xs 0 0) 
 is-message : isMessage both ≡ true
 is-message = holds-true (isMessage both) (ap (λ (xs : List (List ℕ)). getD xs 6 []) shown)
 
-room : HasRoom (fresh memory) 0 (both ∷ [])
+room : HasRoom began 0 (both ∷ [])
 unfolding claims headSize
 room = refl
 
-intact : Intact (fresh memory)
-intact = sound-intact (fresh memory) (fresh-sound memory right)
+intact : Intact began
+intact = sound-intact began (fresh-sound (standardBeginning memory) right)
 
 module _ (f : Runner) (promise : Demand2 f) where
-  delivered : DeliversBy f (fresh memory) 0 (sending frameLimit both) (sendingReplies frameLimit both) (both ∷ []) (intact .entries)
-  delivered = promise 0 (omega arith) (fresh memory) intact refl both is-message room
+  delivered : DeliversBy f began 0 (sending frameLimit both) (sendingReplies frameLimit both) (both ∷ []) (intact .entries)
+  delivered = promise 0 (omega arith) began intact refl both is-message room
 
 abbrev ackAt : ℕ → List Response → Bool
 ackAt n ts = isAck (replied (getD ts n (response Nothing [])))
@@ -81,13 +88,13 @@ longer es fs gs h e = omega (arith, h, length-append es fs, length-append es gs,
 -- NAK to all, or no reply at all: ENQ on a fresh line is to be acknowledged
 pub never-acknowledges : (f : Runner) → ((s : State) (e : GatewayItem) → isAck (replied ((f s e) .0)) ≡ false) → Demand2 f → ⊥
 unfolding replyOf
-never-acknowledges f fraud promise = true≢false (sym (ap (ackAt 0) (delivered f promise .answered)) ∙ fraud (fresh memory) (came 0 (Byte enq)))
+never-acknowledges f fraud promise = true≢false (sym (ap (ackAt 0) (delivered f promise .answered)) ∙ fraud began (came 0 (Byte enq)))
 
 -- ACK to all: the bytes within a frame are not to be answered
 pub always-acknowledges : (f : Runner) → ((s : State) (e : GatewayItem) → isAck (replied ((f s e) .0)) ≡ true) → Demand2 f → ⊥
 unfolding replyOf total checkOf hexDigit digitsOf nextNumber bodyOf tailOf collectedOf frameOf cutOf piecesOf
 always-acknowledges f fraud promise =
-    true≢false (sym (fraud ((f (fresh memory) (came 0 (Byte enq))) .1) (came 0 (Byte 0x02))) ∙ ap (ackAt 1) (delivered f promise .answered))
+    true≢false (sym (fraud ((f began (came 0 (Byte enq))) .1) (came 0 (Byte 0x02))) ∙ ap (ackAt 1) (delivered f promise .answered))
 
 -- doing nothing, whatever is answered, and so acknowledging without storing: the message is to be in the journal
 stays : (f : Runner) → ((s : State) (e : GatewayItem) → (f s e) .1 ≡ s) → (es : List GatewayItem) (s : State) → final f s es ≡ s
@@ -96,9 +103,9 @@ stays f fraud (e ∷ es) s = ap (λ (t : State). final f t es) (fraud s e) ∙ s
 
 pub changes-nothing : (f : Runner) → ((s : State) (e : GatewayItem) → (f s e) .1 ≡ s) → Demand2 f → ⊥
 changes-nothing f fraud promise =
-    let d = fresh memory .gateway .ledger in
-    let held-then = subst (λ (t : State). Held todaysShares (t .gateway .ledger) (t .memory .journal) (intact .entries ++ newEntries d 0 (both ∷ []))) (stays f fraud (bytesOn 0 (sending frameLimit both)) (fresh memory)) (delivered f promise .held) in
-    let same = held-once d (fresh memory .memory .journal) (intact .entries) (intact .entries ++ newEntries d 0 (both ∷ [])) (room-held (fresh memory) intact 0 (omega arith) (both ∷ []) room) held-then in
+    let d = began .gateway .ledger in
+    let held-then = subst (λ (t : State). Held todaysShares (t .gateway .ledger) (t .memory .journal) (intact .entries ++ newEntries d 0 (both ∷ []))) (stays f fraud (bytesOn 0 (sending frameLimit both)) began) (delivered f promise .held) in
+    let same = held-once d (began .memory .journal) (intact .entries) (intact .entries ++ newEntries d 0 (both ∷ [])) (room-held began intact 0 (omega arith) (both ∷ []) room) held-then in
     omega (arith, length-append (intact .entries) (newEntries d 0 (both ∷ [])), ap (λ (xs : List Entry). length xs) same)
 
 -- storing the first message and only acknowledging the second: then the journal does not hold both

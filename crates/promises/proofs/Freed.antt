@@ -27,13 +27,12 @@ use Rattle.journal.proofs.Wholes.{whole-facts}
 use Rattle.answers.specs.Paper.{valuesOf}
 use Rattle.answers.specs.declared.Answer.{Answer}
 use Rattle.answers.specs.declared.Answer.the-variants.{Taken as Answer8}
-use Rattle.receiving.specs.Steps.{Memory}
 use Rattle.gateway.specs.Events.{takeOf}
 use Rattle.taking.specs.Taking.{tookAnswer}
 use Rattle.looking.specs.declared.Kind.{Kind}
 use Rattle.serial.specs.Serial.{taking, final, Every}
 use Rattle.promises.specs.Machine.{State, GatewayItem, came, step, Sound, May}
-use Rattle.promises.specs.Runs.{RightSizes, fresh, answered, NoSpace, Larger, usedBy}
+use Rattle.promises.specs.Runs.{Beginning, Right, fresh, answered, NoSpace, Larger, usedBy}
 use Rattle.promises.specs.Freed.{takenThen, Frees}
 use Rattle.promises.proofs.Kept.{keeps}
 use Rattle.promises.proofs.Runs.{no-space, stays-sound, always-sound}
@@ -156,12 +155,12 @@ module _ (s : State) (w : Sound s) (l : ℕ) (line : l < lines) (b : List ℕ) (
 
 -- ---- over runs from fresh
 
-module _ (m : Memory) (sizes : RightSizes m) (es : List GatewayItem) (may : Every May es) where
+module _ (began : Beginning) (right : Right began) (es : List GatewayItem) (may : Every May es) where
   abbrev s : State
-  s = final step (fresh m) es
+  s = final step (fresh began) es
 
   w : Sound s
-  w = always-sound m sizes es may
+  w = always-sound began right es may
 
   -- after a run and a taking that gave n bytes from line l, a message on that line that takes no more room than those is not refused for room, whatever came in
   -- between that stored nothing

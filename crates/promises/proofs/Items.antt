@@ -1,4 +1,4 @@
--- What an item does to one line: nothing; it begins a sending there; it comes on the line while that receives, and then nothing goes out; or it moves the line's sending on.
+-- What an item does to one line that speaks frames: nothing; it begins a sending there; it comes on the line while that receives, and then nothing goes out; or it moves the line's sending on.
 -- Assumes nothing.
 use mathlib.Core.Path.{_≡_, refl, sym, ap, subst, _∙_}
 use mathlib.Core.Bool.{Bool, true, false, not}
@@ -11,7 +11,9 @@ use lib.Dec.{eqb}
 use lib.ListN.{length}
 use Rattle.memory.specs.Sizes.{lines}
 use Rattle.memory.proofs.Parts.{length-part}
-use Rattle.memory.proofs.Tests.{never-both, and-not-right}
+use Rattle.memory.proofs.Tests.{never-both, and-left, and-not-right}
+use Rattle.settings.specs.Settings.{speaksFrames}
+use Rattle.settings.specs.declared.Dialogue.the-variants.{Frames}
 use Rattle.room.specs.Room.{todaysShares}
 use Rattle.journal.specs.Verdicts.{judgeOf}
 use Rattle.journal.specs.declared.Verdict.{Verdict as Judgement}
@@ -36,7 +38,7 @@ use Rattle.deciding.proofs.Decisions.{outcome-cases}
 use Rattle.receiving.specs.Settled.{lineAfter}
 use Rattle.receiving.specs.Verdicts.{outcomeVerdict, decided, ownWork}
 use Rattle.orders.specs.Starts.{isNeutral}
-use Rattle.gateway.specs.Events.{takeOf}
+use Rattle.gateway.specs.Events.{dialogueAt, takeOf}
 use Rattle.gateway.specs.Out.{sends}
 use Rattle.gateway_laws.specs.Classes.{Class, classOf}
 use Rattle.gateway_laws.proofs.Proper.{objection-against}
@@ -46,7 +48,9 @@ use Rattle.promises.specs.Runs.{answered}
 use Rattle.promises.specs.Sending.{Intact}
 use Rattle.promises.specs.Clean.{unfinishedIn}
 use Rattle.promises.specs.Orders.{isSent, begins, isTick}
-use Rattle.promises.proofs.Sound.{sound-intact, work, ready, event-answer, event-own}
+use Rattle.promises.proofs.Parts.{frames-within}
+use Rattle.promises.proofs.Framed.{work, ready, framed-answer, framed-own}
+use Rattle.promises.proofs.Sound.{sound-intact}
 use Rattle.promises.proofs.Starts.{start-refused, start-sends, start-passed}
 use Rattle.promises.proofs.Stretches.{coming-others}
 
@@ -61,11 +65,12 @@ abbrev pub stateOf : State → ℕ → LineState
 stateOf s i = partsOf s i .line .state
 
 -- the text of a line has as many bytes as are joined
-pub text-long : (s : State) → Intact s → (i : ℕ) → i < lines → length (unfinishedIn (partsOf s i)) ≡ partsOf s i .line .joined
-text-long s w i h =
+pub text-long : (s : State) → Intact s → (i : ℕ) → i < lines → dialogueAt (s .gateway) i ≡ Frames → length (unfinishedIn (partsOf s i)) ≡ partsOf s i .line .joined
+text-long s w i h speaks =
     let own = partsOf s i in
-    let parts = own-parts (own .line) i (s .memory .unfinished) (s .memory .frames) (record { line = h; within = w .within i h; texts = w .texts; bytes = w .frames }) in
-    length-part (own .texts) 0 (own .line .joined) (omega (arith, parts .texts-long, within-facts (own .line) (w .within i h)))
+    let within = frames-within (own .line) speaks (w .within i h) in
+    let parts = own-parts (own .line) i (s .memory .unfinished) (s .memory .frames) (record { line = h; within = within; texts = w .texts; bytes = w .frames }) in
+    length-part (own .texts) 0 (own .line .joined) (omega (arith, parts .texts-long, within-facts (own .line) within))
 
 -- ---- a line that receives: no event is answered 9, and none makes it send
 
@@ -118,14 +123,14 @@ module _ (l : Line) (receives : isOut (l .state) ≡ false) (n : ℕ) where
   objection-plain : (text : List ℕ) → eqb (numberOf (objectionTo text)) sends ≡ false
   objection-plain text = every-but (λ a. undecided (classOf a)) (λ a. eqb (numberOf a) sends) (λ vs. refl) (objectionTo text) (ap undecided (objection-against text))
 
-module _ (s : State) (w : Intact s) (i : ℕ) (h : i < lines) (k : Kind) (receives : isOut (stateOf s i) ≡ false) where
+module _ (s : State) (w : Intact s) (i : ℕ) (h : i < lines) (speaks : dialogueAt (s .gateway) i ≡ Frames) (k : Kind) (receives : isOut (stateOf s i) ≡ false) where
   abbrev own : Parts
   own = partsOf s i
 
-  work-plain : Plain (own .line) (work s w i k h)
+  work-plain : Plain (own .line) (work s w i k h speaks)
   unfolding ownWork
   work-plain =
-      let parts = own-parts (own .line) i (s .memory .unfinished) (s .memory .frames) (ready s w i k h) in
+      let parts = own-parts (own .line) i (s .memory .unfinished) (s .memory .frames) (ready s w i k h speaks) in
       by-look (lookOf (own .line) k (own .texts) (own .frames)) (every-look (LookPlain (own .line)) (own .line) (plain (own .line) receives) (own .texts) (own .frames) parts k)
     where
       by-look : (x : Look) → LookPlain (own .line) x → Plain (own .line) (decided x todaysShares (own .line) (s .gateway .ledger) i (s .memory .journal) (own .texts) (own .frames))
@@ -136,10 +141,10 @@ module _ (s : State) (w : Intact s) (i : ℕ) (h : i < lines) (k : Kind) (receiv
           (room-plain (own .line) receives n (judgeOf (s .gateway .ledger) todaysShares i (length text) (s .memory .journal)))
 
   pub received-answer : eqb (answered ((step s (came i k)) .0)) sends ≡ false
-  received-answer = ap (λ (r : Response). eqb (answered r) sends) (event-answer s w i k h) ∙ work-plain .0
+  received-answer = ap (λ (r : Response). eqb (answered r) sends) (framed-answer s w i k h speaks) ∙ work-plain .0
 
   pub received-state : isOut (stateOf ((step s (came i k)) .1) i) ≡ false
-  received-state = ap (λ (p : Parts). isOut (p .line .state)) (event-own s w i k h) ∙ work-plain .1
+  received-state = ap (λ (p : Parts). isOut (p .line .state)) (framed-own s w i k h speaks) ∙ work-plain .1
 
 -- ---- every item
 
@@ -153,19 +158,20 @@ pub data ItemOn (i : ℕ) (s : State) : GatewayItem → Type 0 where
   -- an event while it sends
   sending : (k : Kind) (t : Sending) → stateOf s i ≡ Out t → ItemOn i s (came i k)
 
-module _ (s : State) (w : Sound s) (i : ℕ) (h : i < lines) where
+module _ (s : State) (w : Sound s) (i : ℕ) (h : i < lines) (speaks : dialogueAt (s .gateway) i ≡ Frames) where
   v : Intact s
   v = sound-intact s w
 
   by-state : (k : Kind) (x : LineState) → stateOf s i ≡ x → ItemOn i s (came i k)
-  by-state k Neutral e = received k (received-answer s v i h k (ap isOut e)) (ap isOut e) (received-state s v i h k (ap isOut e))
-  by-state k Waiting e = received k (received-answer s v i h k (ap isOut e)) (ap isOut e) (received-state s v i h k (ap isOut e))
-  by-state k Inside e = received k (received-answer s v i h k (ap isOut e)) (ap isOut e) (received-state s v i h k (ap isOut e))
+  by-state k Neutral e = received k (received-answer s v i h speaks k (ap isOut e)) (ap isOut e) (received-state s v i h speaks k (ap isOut e))
+  by-state k Waiting e = received k (received-answer s v i h speaks k (ap isOut e)) (ap isOut e) (received-state s v i h speaks k (ap isOut e))
+  by-state k Inside e = received k (received-answer s v i h speaks k (ap isOut e)) (ap isOut e) (received-state s v i h speaks k (ap isOut e))
   by-state k (Out t) e = sending k t e
 
   by-start : (text : List ℕ) (b : Bool) → eqb (answered ((step s (starting i text)) .0)) sends ≡ b → ItemOn i s (starting i text)
   by-start text true e =
-      begun {e = starting i text} (rw (eq-eqb i i refl) e) (start-passed s v i text h (start-sends s v i text h (eqb-true (answered ((step s (starting i text)) .0)) sends e)) .neutral)
+      begun {e = starting i text} (rw (eq-eqb i i refl) e)
+      (and-left (isNeutral (stateOf s i)) (speaksFrames (partsOf s i .line .settings)) (start-passed s v i text h (start-sends s v i text h (eqb-true (answered ((step s (starting i text)) .0)) sends e)) .neutral))
   by-start text false e =
       idle (and-not-right (eqb i i) (eqb (answered ((step s (starting i text)) .0)) sends) e) refl
       (ap (λ (x : State). partsOf x i) (start-refused s i text (eqb-false (answered ((step s (starting i text)) .0)) sends e)))

@@ -8,7 +8,9 @@ pub mod Findings
 pub mod CameFrames
 pub mod CameBlocks
 pub mod Came
+pub mod Shapes
 pub mod Kept
+pub mod Dialogues
 pub mod Runs
 pub mod Exactly
 pub mod Queue

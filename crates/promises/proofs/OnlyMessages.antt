@@ -20,11 +20,10 @@ use Rattle.header.specs.Entry.{Entry}
 use Rattle.journal.proofs.Wholes.{whole-facts}
 use Rattle.journal.proofs.Inside.{All, all-sound}
 use Rattle.journal_laws.specs.Runs.{Numbered, numbered, only, texts, waiting}
-use Rattle.receiving.specs.Steps.{Memory}
 use Rattle.looking.specs.declared.Kind.{Kind}
 use Rattle.serial.specs.Serial.{event, taking, final, Every}
 use Rattle.promises.specs.Machine.{State, GatewayItem, happens, starts, came, step, Sound, May}
-use Rattle.promises.specs.Runs.{RightSizes, fresh, answered}
+use Rattle.promises.specs.Runs.{Beginning, Right, fresh, answered}
 use Rattle.promises.specs.Queue.{completedIn, completed, storedOn, allStored, allTaken}
 use Rattle.promises.specs.OnlyMessages.{IsMessage, OnlyMessages, Readable}
 use Rattle.promises.proofs.Every.{every-both, every-left, every-right, every-so}
@@ -84,21 +83,21 @@ each-entry (e ∷ es) all p = (
   each-entry es (all .1) (λ l h. later e es (eqb (e .line) l) (only l es) (p l h)),
 )
 
-module _ (m : Memory) (sizes : RightSizes m) (es : List GatewayItem) (may : Every May es) where
-  pub only-messages : OnlyMessages m es
+module _ (began : Beginning) (right : Right began) (es : List GatewayItem) (may : Every May es) where
+  pub only-messages : OnlyMessages began es
   only-messages =
-      let lost = nothing-lost m sizes es may in
-      let s = final step (fresh m) es in
+      let lost = nothing-lost began right es may in
+      let s = final step (fresh began) es in
       let d = s .gateway .ledger in
-      let rows : (l : ℕ) → l < lines → Every OfNumbered (allTaken l (fresh m) es ++ waiting l (lost .entries)) =
-      λ l h. subst (Every OfNumbered) (lost .queue l h) (with-serials 0 (allStored l (fresh m) es) (all-stored l (fresh m) es (fresh-sound m sizes) may)) in
+      let rows : (l : ℕ) → l < lines → Every OfNumbered (allTaken l (fresh began) es ++ waiting l (lost .entries)) =
+      λ l h. subst (Every OfNumbered) (lost .queue l h) (with-serials 0 (allStored l (fresh began) es) (all-stored l (fresh began) es (fresh-sound began right) may)) in
       record {
         entries = lost .entries;
         whole = lost .held .whole;
         waiting =
             each-entry (lost .entries) (all-sound (lost .entries) (take (d .in_use) (s .memory .journal)) (whole-facts d (s .memory .journal) (lost .entries) (lost .held .whole) .there))
-            (λ l h. every-right OfNumbered (allTaken l (fresh m) es) (waiting l (lost .entries)) (rows l h));
-        taken = λ l h. every-left OfNumbered (allTaken l (fresh m) es) (waiting l (lost .entries)) (rows l h);
+            (λ l h. every-right OfNumbered (allTaken l (fresh began) es) (waiting l (lost .entries)) (rows l h));
+        taken = λ l h. every-left OfNumbered (allTaken l (fresh began) es) (waiting l (lost .entries)) (rows l h);
       }
 
 -- ---- reading it
@@ -120,6 +119,6 @@ readable text m = record {
 }
 
 -- reading a text that was taken is never answered 46 or a fault
-pub read-never-refused : (m : Memory) → RightSizes m → (es : List GatewayItem) → Every May es → (l : ℕ) → l < lines → Every (λ (n : Numbered). Readable (n .text)) (allTaken l (fresh m) es)
-read-never-refused m sizes es may l line =
-    every-so OfNumbered (λ (n : Numbered). Readable (n .text)) (λ n p. readable (n .text) p) (allTaken l (fresh m) es) (only-messages m sizes es may .taken l line)
+pub read-never-refused : (began : Beginning) → Right began → (es : List GatewayItem) → Every May es → (l : ℕ) → l < lines → Every (λ (n : Numbered). Readable (n .text)) (allTaken l (fresh began) es)
+read-never-refused began right es may l line =
+    every-so OfNumbered (λ (n : Numbered). Readable (n .text)) (λ n p. readable (n .text) p) (allTaken l (fresh began) es) (only-messages began right es may .taken l line)

@@ -12,6 +12,8 @@ use Rattle.answers.specs.Paper.{numberOf}
 use Rattle.answers.specs.declared.Answer.{Answer}
 use Rattle.answers.specs.declared.Answer.the-variants.{Nothing, Sends, GivenUp}
 use Rattle.answers.specs.declared.Parcel.the-variants.{Ending}
+use Rattle.settings.specs.declared.Dialogue.the-variants.{Frames}
+use Rattle.gateway.specs.Events.{dialogueAt}
 use Rattle.line.specs.Seconds.{passedOf}
 use Rattle.line.specs.declared.State.{State as LineState}
 use Rattle.line.specs.declared.State.the-variants.{Neutral, Out}
@@ -29,13 +31,16 @@ use Rattle.looking.specs.declared.Verdict.{Verdict}
 use Rattle.receiving.specs.Settled.{lineAfter}
 use Rattle.receiving.specs.Verdicts.{decided, ownWork}
 use Rattle.serial.specs.Serial.{event}
-use Rattle.promises.specs.Machine.{State, Response, Coming, happens, starts, step, Parts, partsOf, told, storeOf, came, starting}
+use Rattle.promises.specs.Machine.{State, Response, response, Coming, happens, starts, step, Parts, partsOf, framesOut, told, storeOf, came, starting}
 use Rattle.promises.specs.Runs.{answered}
-use Rattle.promises.specs.Inner.ByParts.{left, onEvent}
+use Rattle.promises.specs.Inner.ByParts.{left, onFrames}
 use Rattle.promises.specs.Sending.{Intact}
 use Rattle.promises.specs.Clean.{unfinishedIn}
-use Rattle.promises.proofs.Sound.{event-answer, event-own, event-journal, shaped-intact}
-use Rattle.promises.proofs.Kept.{event-shaped}
+use Rattle.promises.proofs.Parts.{told-frames}
+use Rattle.promises.proofs.Framed.{framed-answer, framed-own, framed-journal}
+use Rattle.promises.proofs.Sound.{shaped-intact}
+use Rattle.promises.proofs.Shapes.{event-shaped}
+use Rattle.promises.proofs.Dialogues.{still-frames}
 
 -- what a byte, or seconds, make of the sending of a line that has these parts
 abbrev pub onwardBy : Parts → Sending → Kind → Onward
@@ -55,7 +60,11 @@ answerOn o = verdictOn o .answer
 
 -- and what the line has: its memory stays as it is
 abbrev pub partsOn : Onward → Parts → Parts
-partsOn o p = record { line = lineAfter (verdictOn o .act) (p .line); texts = p .texts; frames = p .frames }
+partsOn o p = record { line = lineAfter (verdictOn o .act) (p .line); texts = p .texts; frames = p .frames; memo = p .memo }
+
+-- the answer, with what goes out by it
+abbrev pub saidOn : Onward → Parts → Response
+saidOn o p = response (answerOn o) (framesOut (answerOn o) (partsOn o p))
 
 -- where its sending is then; where it is over, the line is neutral
 abbrev pub stateOn : Onward → Sending → LineState
@@ -79,7 +88,7 @@ look-verdict (Goes s n) = refl
 look-verdict Ends = refl
 look-verdict GivesUp = refl
 
-verdict-left : (o : Onward) (i : ℕ) (p : Parts) (k : Kind) (j : Store) → left (verdictOn o) i p k j ≡ (told (answerOn o) (partsOn o p), partsOn o p, j)
+verdict-left : (o : Onward) (i : ℕ) (p : Parts) (k : Kind) (j : Store) → left (verdictOn o) i p k j ≡ (saidOn o p, partsOn o p, j)
 verdict-left Stays i p k j = refl
 verdict-left (Waits n) i p k j = refl
 verdict-left (Goes s n) i p k j = refl
@@ -96,38 +105,38 @@ module _ (p : Parts) (t : Sending) (out : p .line .state ≡ Out t) where
       ap (λ (x : LineState). byState x (Done (Left Nothing)) (passedLook (passedOf (p .line) n)) (passedLook (passedOf (p .line) n)) (λ s. onwardLook (onwardBy p s (Seconds n)))) out
       ∙ look-verdict (onwardBy p t (Seconds n))
 
-  event-on : (i : ℕ) (k : Kind) (j : Store) → onEvent i p k j ≡ (told (answerOn (onwardBy p t k)) (partsOn (onwardBy p t k) p), partsOn (onwardBy p t k) p, j)
+  event-on : (i : ℕ) (k : Kind) (j : Store) → onFrames i p k j ≡ (saidOn (onwardBy p t k) p, partsOn (onwardBy p t k) p, j)
   unfolding ownWork
   event-on i k j =
       ap (λ (x : Look). left (decided x todaysShares (p .line) (j .ledger) i (j .journal) (p .texts) (p .frames)) i p k j) (look-on k) ∙ verdict-left (onwardBy p t k) i p k j
 
-module _ (s : State) (w : Intact s) (i : ℕ) (h : i < lines) (t : Sending) (out : partsOf s i .line .state ≡ Out t) (k : Kind) where
+module _ (s : State) (w : Intact s) (i : ℕ) (h : i < lines) (speaks : dialogueAt (s .gateway) i ≡ Frames) (t : Sending) (out : partsOf s i .line .state ≡ Out t) (k : Kind) where
   -- what it makes of the line's sending
   abbrev pub onward : Onward
   onward = onwardBy (partsOf s i) t k
 
-  abbrev whole : onEvent i (partsOf s i) k (storeOf s) ≡ (told (answerOn onward) (partsOn onward (partsOf s i)), partsOn onward (partsOf s i), storeOf s)
+  abbrev whole : onFrames i (partsOf s i) k (storeOf s) ≡ (saidOn onward (partsOf s i), partsOn onward (partsOf s i), storeOf s)
   whole = event-on (partsOf s i) t out i k (storeOf s)
 
-  pub out-answer : (step s (came i k)) .0 ≡ told (answerOn onward) (partsOn onward (partsOf s i))
-  out-answer = event-answer s w i k h ∙ ap (λ (r : Response × Parts × Store). r .0) whole
+  pub out-answer : (step s (came i k)) .0 ≡ saidOn onward (partsOf s i)
+  out-answer = framed-answer s w i k h speaks ∙ ap (λ (r : Response × Parts × Store). r .0) whole
 
   pub out-own : partsOf ((step s (came i k)) .1) i ≡ partsOn onward (partsOf s i)
-  out-own = event-own s w i k h ∙ ap (λ (r : Response × Parts × Store). r .1) whole
+  out-own = framed-own s w i k h speaks ∙ ap (λ (r : Response × Parts × Store). r .1) whole
 
   pub out-state : partsOf ((step s (came i k)) .1) i .line .state ≡ stateOn onward t
   out-state = ap (λ (p : Parts). p .line .state) out-own ∙ state-on onward t (partsOf s i) out
 
   pub out-store : storeOf ((step s (came i k)) .1) ≡ storeOf s
-  out-store = event-journal s w i k h ∙ ap (λ (r : Response × Parts × Store). r .2) whole
+  out-store = framed-journal s w i k h speaks ∙ ap (λ (r : Response × Parts × Store). r .2) whole
 
   pub out-intact : Intact ((step s (came i k)) .1)
   out-intact = shaped-intact s ((step s (came i k)) .1) w (event-shaped s w i k h) out-store
 
--- nothing goes out with any other answer than 9, in whatever state
-silent : (a : Answer) (p : Parts) → numberOf a ≢ 9 → told a p .buffer ≡ []
-silent a p n = rw (ne-eqb (numberOf a) 9 n)
+-- nothing goes out on a line of frames with any other answer than 9, in whatever state
+silent : (a : Answer) (p : Parts) → p .line .settings .dialogue ≡ Frames → numberOf a ≢ 9 → told a p .buffer ≡ []
+silent a p speaks n = ap (λ (r : Response). r .buffer) (told-frames p a speaks) ∙ rw (ne-eqb (numberOf a) 9 n)
 
-pub only-9-sends : (s : State) (i : ℕ) (k : Coming) → answered ((step s (event i k)) .0) ≢ 9 → (step s (event i k)) .0 .buffer ≡ []
-only-9-sends s i (happens k) n = silent ((step s (came i k)) .0 .answer) (partsOf ((step s (came i k)) .1) i) n
-only-9-sends s i (starts text) n = silent ((step s (starting i text)) .0 .answer) (partsOf ((step s (starting i text)) .1) i) n
+pub only-9-sends : (s : State) (i : ℕ) (k : Coming) → dialogueAt (s .gateway) i ≡ Frames → answered ((step s (event i k)) .0) ≢ 9 → (step s (event i k)) .0 .buffer ≡ []
+only-9-sends s i (happens k) speaks n = silent ((step s (came i k)) .0 .answer) (partsOf ((step s (came i k)) .1) i) (still-frames s (came i k) i speaks) n
+only-9-sends s i (starts text) speaks n = silent ((step s (starting i text)) .0 .answer) (partsOf ((step s (starting i text)) .1) i) (still-frames s (starting i text) i speaks) n

@@ -22,13 +22,12 @@ use Rattle.journal.specs.declared.Took.the-variants.{Taken, NothingWaiting, Buf
 use Rattle.journal.specs.declared.Verdict.the-variants.{Fits}
 use Rattle.journal_laws.proofs.Cases.{store-fits}
 use Rattle.journal_laws.proofs.Queue.{fresh-runs}
-use Rattle.receiving.specs.Steps.{Memory}
 use Rattle.gateway.specs.Events.{takeOf}
 use Rattle.taking.specs.Taking.{tookAnswer}
 use Rattle.looking.specs.declared.Kind.{Kind}
 use Rattle.serial.specs.Serial.{event, taking, final, Every}
 use Rattle.promises.specs.Machine.{State, response, GatewayItem, happens, starts, came, step, storeOf, Sound, May}
-use Rattle.promises.specs.Runs.{RightSizes, fresh, answered, hasSpace}
+use Rattle.promises.specs.Runs.{Beginning, Right, fresh, answered, hasSpace}
 use Rattle.promises.specs.Inner.Came.{storedIn, answer, store, Settles, Came, quiet, stored, crowded, against}
 use Rattle.promises.specs.Queue.{completedIn, completed, gave, storedOn, takenOn, allStored, allTaken, NothingLost}
 use Rattle.promises.proofs.Sound.{sound-intact}
@@ -142,10 +141,10 @@ runs s (e ∷ es) w o =
     let d = does s e w (o .0) in
     runs-onto s e es (d .operation) (d .store) (d .entering) (d .leaving) (runs ((step s e) .1) es (keeps s e w (o .0)) (o .1))
 
-pub nothing-lost : (m : Memory) → RightSizes m → (es : List GatewayItem) → Every May es → NothingLost m es
-nothing-lost m sizes es may =
-    let r = runs (fresh m) es (fresh-sound m sizes) may in
-    let q = fresh-runs todaysShares (r .operations) (m .journal) (sizes .journal) (omega arith) in
+pub nothing-lost : (began : Beginning) → Right began → (es : List GatewayItem) → Every May es → NothingLost began es
+nothing-lost began right es may =
+    let r = runs (fresh began) es (fresh-sound began right) may in
+    let q = fresh-runs todaysShares (r .operations) (began .memory .journal) (right .sizes .journal) (omega arith) in
     record {
       entries = q .es;
       held = subst (λ (j : Store). Held todaysShares (j .ledger) (j .journal) (q .es)) (sym (r .store)) (q .held);

@@ -118,4 +118,13 @@ module _ (s : State) (w : Intact s) (i : ℕ) (line : i < lines) (ms : List (Lis
   }
 
   pub room-sound : Sound s
-  room-sound = record { as-many = w .as-many; within = w .within; texts = w .texts; frames = w .frames; entries = w .entries; held = room-held }
+  room-sound = record {
+    as-many = w .as-many;
+    as-many-memos = w .as-many-memos;
+    within = w .within;
+    blocks = w .blocks;
+    texts = w .texts;
+    frames = w .frames;
+    entries = w .entries;
+    held = room-held;
+  }

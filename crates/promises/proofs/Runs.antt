@@ -21,13 +21,12 @@ use Rattle.journal.specs.declared.Took.the-variants.{Taken, NothingWaiting, Buf
 use Rattle.journal_laws.proofs.Cases.{Gives, Keeps, take-cases}
 use Rattle.room.proofs.Totals.{claims-own-share}
 use Rattle.answers.specs.Paper.{numberOf}
-use Rattle.receiving.specs.Steps.{Memory}
 use Rattle.gateway.specs.Events.{takeOf}
 use Rattle.taking.specs.Taking.{tookAnswer}
 use Rattle.looking.specs.declared.Kind.{Kind}
 use Rattle.serial.specs.Serial.{event, taking, annotate, final, Every}
 use Rattle.promises.specs.Machine.{State, Response, GatewayItem, happens, starts, came, step, Sound, May}
-use Rattle.promises.specs.Runs.{RightSizes, fresh, answered, isDamage, Overfull, NoSpace, Space}
+use Rattle.promises.specs.Runs.{Beginning, Right, fresh, answered, isDamage, Overfull, NoSpace, Space}
 use Rattle.promises.specs.Inner.Came.{answer, Came, quiet, stored, crowded, against}
 use Rattle.promises.proofs.Sound.{sound-intact}
 use Rattle.promises.proofs.Starts.{start-mild, start-answer}
@@ -119,15 +118,15 @@ stays-undamaged : (s : State) (es : List GatewayItem) → Sound s → Every May 
 stays-undamaged s [] w o = tt
 stays-undamaged s (e ∷ es) w o = (undamaged s e w (o .0), stays-undamaged ((step s e) .1) es (keeps s e w (o .0)) (o .1))
 
-module _ (m : Memory) (sizes : RightSizes m) (es : List GatewayItem) (may : Every May es) where
+module _ (began : Beginning) (right : Right began) (es : List GatewayItem) (may : Every May es) where
   -- after every run from fresh the records are within their limits, the chain is whole and every share is kept
-  pub always-sound : Sound (final step (fresh m) es)
-  always-sound = stays-sound (fresh m) es (fresh-sound m sizes) may
+  pub always-sound : Sound (final step (fresh began) es)
+  always-sound = stays-sound (fresh began) es (fresh-sound began right) may
 
   -- and no item of it was answered 41, 42 or 43
-  pub never-damaged : Every (λ x. isDamage (answered (x .1)) ≡ false) (annotate step (fresh m) es)
-  never-damaged = stays-undamaged (fresh m) es (fresh-sound m sizes) may
+  pub never-damaged : Every (λ x. isDamage (answered (x .1)) ≡ false) (annotate step (fresh began) es)
+  never-damaged = stays-undamaged (fresh began) es (fresh-sound began right) may
 
   -- the next event is answered 31 only if it completes a message that does not fit in what is left of its line's share
-  pub share-kept : (i : ℕ) (k : Kind) (h : i < lines) → answered ((step (final step (fresh m) es) (came i k)) .0) ≡ 31 → Overfull (final step (fresh m) es) i k
-  share-kept i k h e = own-share (final step (fresh m) es) always-sound i k h e
+  pub share-kept : (i : ℕ) (k : Kind) (h : i < lines) → answered ((step (final step (fresh began) es) (came i k)) .0) ≡ 31 → Overfull (final step (fresh began) es) i k
+  share-kept i k h e = own-share (final step (fresh began) es) always-sound i k h e

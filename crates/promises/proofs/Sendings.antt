@@ -2,7 +2,7 @@
 -- Assumes nothing.
 use mathlib.Core.Path.{_≡_, refl, sym, ap, ap₂, subst, _∙_}
 use mathlib.Core.Logic.{_≢_}
-use mathlib.Core.Bool.{true}
+use mathlib.Core.Bool.{true, false}
 use mathlib.Core.List.{List, [], _∷_, _++_, append-assoc, append-nil}
 use Prim.Native.Nat.{ℕ, zero, suc, _+_, _≤_, _<_}
 use native.Mathlib.Decide.{decLt}
@@ -18,7 +18,11 @@ use Rattle.frame.specs.Piece.{Piece}
 use Rattle.framing.specs.Frames.{framesFrom}
 use Rattle.pieces.specs.Pieces.{piecesOf}
 use Rattle.answers.specs.Paper.{ack, numberOf}
-use Rattle.line.specs.Line.{freshLine}
+use Rattle.memory.proofs.Tests.{and-both}
+use Rattle.settings.specs.Settings.{byDialogue}
+use Rattle.settings.specs.declared.Dialogue.{Dialogue}
+use Rattle.settings.specs.declared.Dialogue.the-variants.{Frames}
+use Rattle.line.specs.Line.{startedLine, freshLine}
 use Rattle.line.specs.declared.State.the-variants.{Neutral, Out}
 use Rattle.line.specs.declared.Sending.{Sending}
 use Rattle.line.specs.declared.Sending.the-variants.{Asking, Offering}
@@ -29,10 +33,10 @@ use Rattle.sending.specs.declared.Onward.the-variants.{Goes, Ends}
 use Rattle.sending.proofs.Pieces.{piece-first, pieces-past, offered-cut}
 use Rattle.looking.specs.declared.Kind.{Kind}
 use Rattle.looking.specs.declared.Kind.the-variants.{Byte}
-use Rattle.orders.specs.Starts.{isNeutral, startAnswer}
+use Rattle.orders.specs.Starts.{isNeutral, canStart, startAnswer}
 use Rattle.orders.specs.declared.Start.{Start}
 use Rattle.orders.specs.declared.Start.the-variants.{Asks}
-use Rattle.gateway.specs.Events.{lineAt}
+use Rattle.gateway.specs.Events.{lineAt, dialogueAt}
 use Rattle.gateway.specs.Out.{sends}
 use Rattle.serial.specs.Serial.{event, annotate, final, Every}
 use Rattle.promises.specs.Machine.{State, Response, Coming, happens, starts, GatewayItem, came, starting, step, Parts, partsOf, told, storeOf}
@@ -44,8 +48,10 @@ use Rattle.promises.specs.Orders.{acks, outOn, orderedOn, SendsWhole}
 use Rattle.promises.proofs.Sound.{event-others, shaped-intact}
 use Rattle.promises.proofs.Starts.{start, message-starts, start-answer, start-others, start-store, start-shaped, asks-own, asks-text}
 use Rattle.promises.proofs.Transfers.{transferred}
-use Rattle.promises.proofs.Onward.{onwardBy, answerOn, partsOn, out-answer, out-own, out-store, out-intact}
+use Rattle.promises.proofs.Onward.{onwardBy, answerOn, partsOn, saidOn, out-answer, out-own, out-store, out-intact}
 use Rattle.promises.proofs.Items.{stateOf}
+use Rattle.promises.proofs.Parts.{told-frames}
+use Rattle.promises.proofs.Dialogues.{item-settings, still-frames}
 
 -- ---- what an ACK makes of a sending
 
@@ -62,15 +68,15 @@ module _ (p : Parts) where
 
   -- with it the frame goes out
   frame-out : (at number : ℕ) → at < p .line .joined
-      → told (answerOn (Goes (Offering 1 at) number)) (partsOn (Goes (Offering 1 at) number) p) .buffer ≡ frameAt frameLimit number at (unfinishedIn p)
+      → saidOn (Goes (Offering 1 at) number) p .buffer ≡ frameAt frameLimit number at (unfinishedIn p)
   frame-out at number there = rw (lt-ltb at (p .line .joined) there)
 
 module _ (i : ℕ) (h : i < lines) where
-  -- every item of the run es is answered 9, bs go out on line i, the line is then as fresh, and nothing else has changed but its memory
+  -- every item of the run es is answered 9, bs go out on line i, the line is then as started, and nothing else has changed but its memory
   record Sends (s : State) (es : List GatewayItem) (bs : List ℕ) : Type 0 where
     answers : Every (λ x. answered (x .1) ≡ sends) (annotate step s es)
     out : outOn (λ (r : Response). r .buffer) i (annotate step s es) ≡ bs
-    line : partsOf (final step s es) i .line ≡ freshLine
+    line : partsOf (final step s es) i .line ≡ startedLine (partsOf s i .line .settings)
     others : (l : ℕ) → l ≢ i → partsOf (final step s es) l ≡ partsOf s l
     store : storeOf (final step s es) ≡ storeOf s
 
@@ -81,7 +87,7 @@ module _ (i : ℕ) (h : i < lines) where
   sends-onto s k es b bs nine goes others store x = record {
     answers = (nine, x .answers);
     out = rw (eq-eqb i i refl) (ap₂ _++_ goes (x .out));
-    line = x .line;
+    line = x .line ∙ ap startedLine (item-settings s (event i k) i);
     others = λ l n. x .others l n ∙ others l n;
     store = x .store ∙ store;
   }
@@ -90,24 +96,25 @@ module _ (i : ℕ) (h : i < lines) where
     -- line i sends m, and has come so far
     record At (s : State) (t : Sending) (number : ℕ) : Type 0 where
       intact : Intact s
+      speaks : dialogueAt (s .gateway) i ≡ Frames
       out : stateOf s i ≡ Out t
       text : unfinishedIn (partsOf s i) ≡ m
       joined : partsOf s i .line .joined ≡ length m
       next : partsOf s i .line .next ≡ number
 
     module _ (s : State) (t : Sending) (number : ℕ) (x : At s t number) (k : Kind) (o : Onward) (is : onwardBy (partsOf s i) t k ≡ o) where
-      buffer-is : (step s (came i k)) .0 .buffer ≡ told (answerOn o) (partsOn o (partsOf s i)) .buffer
-      buffer-is = ap (λ (r : Response). r .buffer) (out-answer s (x .intact) i h t (x .out) k) ∙ ap (λ (y : Onward). told (answerOn y) (partsOn y (partsOf s i)) .buffer) is
+      buffer-is : (step s (came i k)) .0 .buffer ≡ saidOn o (partsOf s i) .buffer
+      buffer-is = ap (λ (r : Response). r .buffer) (out-answer s (x .intact) i h (x .speaks) t (x .out) k) ∙ ap (λ (y : Onward). saidOn y (partsOf s i) .buffer) is
 
       number-is : answered ((step s (came i k)) .0) ≡ numberOf (answerOn o)
-      number-is = ap answered (out-answer s (x .intact) i h t (x .out) k) ∙ ap (λ (y : Onward). numberOf (answerOn y)) is
+      number-is = ap answered (out-answer s (x .intact) i h (x .speaks) t (x .out) k) ∙ ap (λ (y : Onward). numberOf (answerOn y)) is
 
       own-is : partsOf ((step s (came i k)) .1) i ≡ partsOn o (partsOf s i)
-      own-is = out-own s (x .intact) i h t (x .out) k ∙ ap (λ (y : Onward). partsOn y (partsOf s i)) is
+      own-is = out-own s (x .intact) i h (x .speaks) t (x .out) k ∙ ap (λ (y : Onward). partsOn y (partsOf s i)) is
 
-      onto : (es : List GatewayItem) (b bs : List ℕ) → numberOf (answerOn o) ≡ sends → told (answerOn o) (partsOn o (partsOf s i)) .buffer ≡ b → Sends ((step s (came i k)) .1) es bs
+      onto : (es : List GatewayItem) (b bs : List ℕ) → numberOf (answerOn o) ≡ sends → saidOn o (partsOf s i) .buffer ≡ b → Sends ((step s (came i k)) .1) es bs
           → Sends s (came i k ∷ es) (b ++ bs)
-      onto es b bs nine goes = sends-onto s (happens k) es b bs (number-is ∙ nine) (buffer-is ∙ goes) (event-others s (x .intact) i k h) (out-store s (x .intact) i h t (x .out) k)
+      onto es b bs nine goes = sends-onto s (happens k) es b bs (number-is ∙ nine) (buffer-is ∙ goes) (event-others s (x .intact) i k h) (out-store s (x .intact) i h (x .speaks) t (x .out) k)
 
     -- ACK, where the text has a byte at the place that is to be offered: its frame goes out
     module _ (s : State) (t : Sending) (number : ℕ) (x : At s t number) (at then : ℕ) (there : at < length m)
@@ -122,7 +129,8 @@ module _ (i : ℕ) (h : i < lines) where
       offers =
           let own = own-is s t number x (Byte ack) (Goes (Offering 1 at) then) goes-is in
           record {
-            intact = out-intact s (x .intact) i h t (x .out) (Byte ack);
+            intact = out-intact s (x .intact) i h (x .speaks) t (x .out) (Byte ack);
+            speaks = still-frames s (came i (Byte ack)) i (x .speaks);
             out = ap (λ (p : Parts). p .line .state) own;
             text = ap unfinishedIn own ∙ x .text;
             joined = ap (λ (p : Parts). p .line .joined) own ∙ x .joined;
@@ -138,7 +146,7 @@ module _ (i : ℕ) (h : i < lines) where
         → Sends s (came i (Byte ack) ∷ []) (eot ∷ [])
     sends-end s t number x at then past is =
         let ended : onwardBy (partsOf s i) t (Byte ack) ≡ Ends = is ∙ rw (le-ltb at (partsOf s i .line .joined) (omega (arith, x .joined))) in
-        let fresh = ap (λ (p : Parts). p .line) (own-is s t number x (Byte ack) Ends ended) in
+        let fresh = ap (λ (p : Parts). p .line) (own-is s t number x (Byte ack) Ends ended) ∙ ap startedLine (sym (item-settings s (came i (Byte ack)) i)) in
         onto s t number x (Byte ack) Ends ended [] (eot ∷ []) [] refl refl (record { answers = tt; out = refl; line = fresh; others = λ l n. refl; store = refl })
 
     -- ---- the frames, one behind the other
@@ -175,12 +183,15 @@ module _ (i : ℕ) (h : i < lines) where
 
 -- ---- from the start on
 
-module _ (s : State) (w : Intact s) (i : ℕ) (h : i < lines) (neutral : lineAt (s .gateway) i .state ≡ Neutral) (m : List ℕ) (message : isMessage m ≡ true) where
+module _ (s : State) (w : Intact s) (i : ℕ) (h : i < lines) (speaks : dialogueAt (s .gateway) i ≡ Frames) (neutral : lineAt (s .gateway) i .state ≡ Neutral) (m : List ℕ) (message : isMessage m ≡ true) where
   abbrev begun : State
   begun = (step s (starting i m)) .1
 
+  can : canStart (lineAt (s .gateway) i) ≡ true
+  can = and-both _ _ (ap isNeutral neutral) (ap (λ (d : Dialogue). byDialogue d true (λ p. false)) speaks)
+
   asks : start s w i m h ≡ Asks
-  asks = message-starts s w i m h (ap isNeutral neutral) message
+  asks = message-starts s w i m h can message
 
   -- our ENQ awaits its reply
   asking : At i h m begun (Asking 0) firstNumber
@@ -188,6 +199,7 @@ module _ (s : State) (w : Intact s) (i : ℕ) (h : i < lines) (neutral : lineAt 
       let own = asks-own s w i m h asks in
       record {
         intact = shaped-intact s begun w (start-shaped s w i m h) (start-store s w i m h);
+        speaks = still-frames s (starting i m) i speaks;
         out = ap (λ (p : Parts). p .line .state) own;
         text = ap unfinishedIn own ∙ asks-text s w i m h asks;
         joined = ap (λ (p : Parts). p .line .joined) own;
@@ -198,7 +210,9 @@ module _ (s : State) (w : Intact s) (i : ℕ) (h : i < lines) (neutral : lineAt 
   enq-answered = ap answered (start-answer s w i m h) ∙ ap (λ (x : Start). numberOf (startAnswer x)) asks
 
   enq-out : (step s (starting i m)) .0 .buffer ≡ enq ∷ []
-  enq-out = ap (λ (r : Response). r .buffer) (start-answer s w i m h) ∙ ap (λ (x : Start). told (startAnswer x) (partsStarted x (partsOf s i) m) .buffer) asks
+  enq-out =
+      ap (λ (r : Response). r .buffer) (start-answer s w i m h) ∙ ap (λ (x : Start). told (startAnswer x) (partsStarted x (partsOf s i) m) .buffer) asks
+      ∙ ap (λ (r : Response). r .buffer) (told-frames (partsStarted Asks (partsOf s i) m) (startAnswer Asks) speaks)
 
   -- the first frame, and those behind it
   frames-out : Sends i h begun (came i (Byte ack) ∷ acks i (length (piecesOf frameLimit m))) (framesFrom firstNumber (piecesOf frameLimit m) ++ (eot ∷ []))
@@ -222,14 +236,14 @@ module _ (s : State) (w : Intact s) (i : ℕ) (h : i < lines) (neutral : lineAt 
         store = x .store;
       }
 
--- a message that is started on a neutral line, and an ACK to each that goes out
-pub sends-whole : (s : State) → Intact s → (i : ℕ) → i < lines → lineAt (s .gateway) i .state ≡ Neutral → (m : List ℕ) → isMessage m ≡ true → SendsWhole s i m
-sends-whole s w i h neutral m message = all-out s w i h neutral m message
+-- a message that is started on a neutral line of frames, and an ACK to each that goes out
+pub sends-whole : (s : State) → Intact s → (i : ℕ) → i < lines → dialogueAt (s .gateway) i ≡ Frames → lineAt (s .gateway) i .state ≡ Neutral → (m : List ℕ) → isMessage m ≡ true → SendsWhole s i m
+sends-whole s w i h speaks neutral m message = all-out s w i h speaks neutral m message
 
 -- what goes out, on a fresh line of a gateway of ours that has the room: 1, 2 to each frame but the last, 4 and 5, and the message is stored, byte for byte and once
-pub order-delivered : (s : State) → Intact s → (i : ℕ) → i < lines → lineAt (s .gateway) i .state ≡ Neutral → (m : List ℕ) → isMessage m ≡ true
+pub order-delivered : (s : State) → Intact s → (i : ℕ) → i < lines → dialogueAt (s .gateway) i ≡ Frames → lineAt (s .gateway) i .state ≡ Neutral → (m : List ℕ) → isMessage m ≡ true
     → (t : State) (a : Intact t) (l : ℕ) → l < lines → lineAt (t .gateway) l ≡ freshLine → HasRoom t l (m ∷ [])
     → Delivers t l (outOn (λ (r : Response). r .buffer) i (annotate step s (orderedOn i m))) (transferReplies frameLimit (m ∷ [])) (m ∷ []) (a .entries)
-order-delivered s w i h neutral m message t a l line fresh room =
-    subst (λ (bs : List ℕ). Delivers t l bs (transferReplies frameLimit (m ∷ [])) (m ∷ []) (a .entries)) (sym (sends-whole s w i h neutral m message .out))
+order-delivered s w i h speaks neutral m message t a l line fresh room =
+    subst (λ (bs : List ℕ). Delivers t l bs (transferReplies frameLimit (m ∷ [])) (m ∷ []) (a .entries)) (sym (sends-whole s w i h speaks neutral m message .out))
     (transferred l line t a fresh (m ∷ []) (message, tt) room)

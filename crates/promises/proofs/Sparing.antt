@@ -16,6 +16,8 @@ use Rattle.characters.specs.Control.{enq, stx}
 use Rattle.answers.specs.Paper.{numberOf, firstOut}
 use Rattle.answers.specs.InNumbers.{replyByte}
 use Rattle.line.specs.Line.{mostTries, sendingWithin, stateWithin}
+use Rattle.settings.specs.declared.Dialogue.the-variants.{Frames}
+use Rattle.gateway.specs.Events.{dialogueAt}
 use Rattle.line.specs.declared.State.{State as LineState}
 use Rattle.line.specs.declared.State.the-variants.{Neutral, Waiting, Inside, Out}
 use Rattle.line.specs.declared.Sending.{Sending}
@@ -25,14 +27,16 @@ use Rattle.sending.specs.declared.Onward.{Onward}
 use Rattle.looking.specs.declared.Kind.{Kind}
 use Rattle.gateway.specs.Out.{sends}
 use Rattle.serial.specs.Serial.{Every}
-use Rattle.promises.specs.Machine.{State, Response, GatewayItem, came, starting, step, Parts, partsOf, told, Sound, May}
+use Rattle.promises.specs.Machine.{State, Response, GatewayItem, came, starting, step, Parts, partsOf, Sound, May}
 use Rattle.promises.specs.Runs.{answered}
 use Rattle.promises.specs.Clean.{unfinishedIn}
 use Rattle.promises.specs.Orders.{isSent, sendsOn, offersAt, countUntil, begins, firstOf, enquiries, framesAt, SendsSparingly}
 use Rattle.promises.proofs.Sound.{sound-intact}
-use Rattle.promises.proofs.Starts.{start-sends, asks-own}
+use Rattle.promises.proofs.Starts.{start-sends, asks-own, starts-frames}
+use Rattle.promises.proofs.Parts.{frames-within}
+use Rattle.promises.proofs.Dialogues.{still-frames}
 use Rattle.promises.proofs.Kept.{keeps}
-use Rattle.promises.proofs.Onward.{answerOn, partsOn, stateOn, onward, out-answer, out-state}
+use Rattle.promises.proofs.Onward.{answerOn, stateOn, onward, out-answer, out-state, saidOn}
 use Rattle.promises.proofs.Moves.{placeBehind, Moves, offers-first, pauses, ignores, asks-again, offers-next, offers-again, waits, ends-whole, ends-short, ends-past, gives-up, place-grows, moves}
 use Rattle.promises.proofs.Items.{isOut, stateOf, text-long, ItemOn, idle, begun, received, sending, item-on}
 
@@ -64,25 +68,25 @@ at-most false now rest before after p q = omega (arith, p refl, q)
 module _ (i : ℕ) (h : i < lines) (test : GatewayItem → Response → State → Bool) (left : LineState → ℕ)
     (receiving : (x : LineState) → isOut x ≡ false → left x ≡ 0)
     (only-9 : (e : GatewayItem) (r : Response) (t : State) → isSent i e (answered r) ≡ false → test e r t ≡ false)
-    (falls : (s : State) → Sound s → (k : Kind) (t : Sending) → stateOf s i ≡ Out t
+    (falls : (s : State) → Sound s → dialogueAt (s .gateway) i ≡ Frames → (k : Kind) (t : Sending) → stateOf s i ≡ Out t
     → cond (test (came i k) ((step s (came i k)) .0) ((step s (came i k)) .1)) 1 0 + left (stateOf ((step s (came i k)) .1) i) ≤ left (Out t)) where
-  item-falls : (s : State) (w : Sound s) (e : GatewayItem) → ItemOn i s e → begins i e ((step s e) .0) ≡ false
+  item-falls : (s : State) (w : Sound s) → dialogueAt (s .gateway) i ≡ Frames → (e : GatewayItem) → ItemOn i s e → begins i e ((step s e) .0) ≡ false
       → cond (test e ((step s e) .0) ((step s e) .1)) 1 0 + left (stateOf ((step s e) .1) i) ≤ left (stateOf s i)
-  item-falls s w e (idle quiet still same) n =
+  item-falls s w speaks e (idle quiet still same) n =
       let after : left (stateOf ((step s e) .1) i) ≡ left (stateOf s i) = ap (λ (p : Parts). left (p .line .state)) same in
       rw (only-9 e ((step s e) .0) ((step s e) .1) quiet) (omega (arith, after))
-  item-falls s w e (begun now neutral) n = never-both (begins i e ((step s e) .0)) now n
-  item-falls s w e (received k quiet before after) n =
+  item-falls s w speaks e (begun now neutral) n = never-both (begins i e ((step s e) .0)) now n
+  item-falls s w speaks e (received k quiet before after) n =
       let none : left (stateOf ((step s e) .1) i) ≡ 0 = receiving (stateOf ((step s e) .1) i) after in
       rw (only-9 e ((step s e) .0) ((step s e) .1) (rw (eq-eqb i i refl) quiet)) (omega (arith, none))
-  item-falls s w e (sending k t out) n = subst (λ (x : LineState). cond (test e ((step s e) .0) ((step s e) .1)) 1 0 + left (stateOf ((step s e) .1) i) ≤ left x) (sym out) (falls s w k t out)
+  item-falls s w speaks e (sending k t out) n = subst (λ (x : LineState). cond (test e ((step s e) .0) ((step s e) .1)) 1 0 + left (stateOf ((step s e) .1) i) ≤ left x) (sym out) (falls s w speaks k t out)
 
-  count-left : (s : State) (es : List GatewayItem) → Sound s → Every May es → countUntil step (begins i) test s es ≤ left (stateOf s i)
-  count-left s [] w may = omega arith
-  count-left s (e ∷ es) w may =
+  count-left : (s : State) (es : List GatewayItem) → Sound s → dialogueAt (s .gateway) i ≡ Frames → Every May es → countUntil step (begins i) test s es ≤ left (stateOf s i)
+  count-left s [] w speaks may = omega arith
+  count-left s (e ∷ es) w speaks may =
       let t = (step s e) .1 in
       at-most (begins i e ((step s e) .0)) (cond (test e ((step s e) .0) t) 1 0) (countUntil step (begins i) test t es) (left (stateOf s i)) (left (stateOf t i))
-      (item-falls s w e (item-on s w i h e (may .0))) (count-left t es (keeps s e w (may .0)) (may .1))
+      (item-falls s w speaks e (item-on s w i h speaks e (may .0))) (count-left t es (keeps s e w (may .0)) (still-frames s e i speaks) (may .1))
 
 -- ---- row by row
 
@@ -161,23 +165,23 @@ receiving-frames at Inside e = refl
 receiving-frames at (Out t) e = clash cc
 
 module _ (i : ℕ) (h : i < lines) where
-  module _ (s : State) (w : Sound s) (k : Kind) (t : Sending) (out : stateOf s i ≡ Out t) where
+  module _ (s : State) (w : Sound s) (speaks : dialogueAt (s .gateway) i ≡ Frames) (k : Kind) (t : Sending) (out : stateOf s i ≡ Out t) where
     abbrev o : Onward
-    o = onward s (sound-intact s w) i h t out k
+    o = onward s (sound-intact s w) i h speaks t out k
 
     abbrev own : Parts
     own = partsOf s i
 
     in-limits : sendingWithin t ≡ true
-    in-limits = subst (λ (x : LineState). stateWithin x ≡ true) out (within-facts (own .line) (w .within i h) .state)
+    in-limits = subst (λ (x : LineState). stateWithin x ≡ true) out (within-facts (own .line) (frames-within (own .line) speaks (w .within i h)) .state)
 
     -- what falls by the row falls by the step
-    by-row : (test : Response → LineState → Bool) (left : LineState → ℕ) → cond (test (told (answerOn o) (partsOn o own)) (stateOn o t)) 1 0 + left (stateOn o t) ≤ left (Out t)
+    by-row : (test : Response → LineState → Bool) (left : LineState → ℕ) → cond (test (saidOn o own) (stateOn o t)) 1 0 + left (stateOn o t) ≤ left (Out t)
         → cond (test ((step s (came i k)) .0) (stateOf ((step s (came i k)) .1) i)) 1 0 + left (stateOf ((step s (came i k)) .1) i) ≤ left (Out t)
     by-row test left row =
         let v = sound-intact s w in
-        subst (λ (r : Response). cond (test r (stateOf ((step s (came i k)) .1) i)) 1 0 + left (stateOf ((step s (came i k)) .1) i) ≤ left (Out t)) (sym (out-answer s v i h t out k))
-        (subst (λ (x : LineState). cond (test (told (answerOn o) (partsOn o own)) x) 1 0 + left x ≤ left (Out t)) (sym (out-state s v i h t out k)) row)
+        subst (λ (r : Response). cond (test r (stateOf ((step s (came i k)) .1) i)) 1 0 + left (stateOf ((step s (came i k)) .1) i) ≤ left (Out t)) (sym (out-answer s v i h speaks t out k))
+        (subst (λ (x : LineState). cond (test (saidOn o own) x) 1 0 + left x ≤ left (Out t)) (sym (out-state s v i h speaks t out k)) row)
 
     asks-step : cond (sendsOn enq i (came i k) (answered ((step s (came i k)) .0)) (firstOf ((step s (came i k)) .0))) 1 0 + asksLeft (stateOf ((step s (came i k)) .1) i) ≤ asksLeft (Out t)
     asks-step = by-row (λ r x. sendsOn enq i (came i k) (answered r) (firstOf r)) asksLeft (rw (eq-eqb i i refl) (asks-fall own k t o in-limits (moves own k t)))
@@ -185,7 +189,7 @@ module _ (i : ℕ) (h : i < lines) where
     frames-step : (at : ℕ) → cond (sendsOn stx i (came i k) (answered ((step s (came i k)) .0)) (firstOf ((step s (came i k)) .0)) && offersAt at (stateOf ((step s (came i k)) .1) i)) 1 0 + framesLeft at (stateOf ((step s (came i k)) .1) i) ≤ framesLeft at (Out t)
     frames-step at =
         by-row (λ r x. sendsOn stx i (came i k) (answered r) (firstOf r) && offersAt at x) (framesLeft at)
-        (rw (eq-eqb i i refl) (frames-fall own at (text-long s (sound-intact s w) i h) k t o (moves own k t)))
+        (rw (eq-eqb i i refl) (frames-fall own at (text-long s (sound-intact s w) i h speaks) k t o (moves own k t)))
 
 -- a sending begins with our ENQ, which has then gone out once
 pub six-sends : (s : State) → Sound s → (i : ℕ) → i < lines → (m : List ℕ) → answered ((step s (starting i m)) .0) ≡ 9 → (es : List GatewayItem) → Every May es
@@ -193,12 +197,14 @@ pub six-sends : (s : State) → Sound s → (i : ℕ) → i < lines → (m : Lis
 six-sends s w i h m e es may =
     let v = sound-intact s w in
     let t = (step s (starting i m)) .1 in
-    let asking : stateOf t i ≡ Out (Asking 0) = ap (λ (p : Parts). p .line .state) (asks-own s v i m h (start-sends s v i m h e)) in
+    let asks = start-sends s v i m h e in
+    let speaks = still-frames s (starting i m) i (starts-frames s v i m h asks) in
+    let asking : stateOf t i ≡ Out (Asking 0) = ap (λ (p : Parts). p .line .state) (asks-own s v i m h asks) in
     let sound = keeps s (starting i m) w h in
-    let asked = count-left i h (λ e r t. sendsOn enq i e (answered r) (firstOf r)) asksLeft receiving-asks (λ e r t n. rw n) (asks-step i h) t es sound may in
+    let asked = count-left i h (λ e r t. sendsOn enq i e (answered r) (firstOf r)) asksLeft receiving-asks (λ e r t n. rw n) (asks-step i h) t es sound speaks may in
     record {
       asked = subst (λ (x : LineState). 1 + enquiries i t es ≤ 1 + asksLeft x) asking (omega (arith, asked));
       offered = λ at.
           subst (λ (x : LineState). framesAt i at t es ≤ framesLeft at x) asking
-          (count-left i h (λ e r t. sendsOn stx i e (answered r) (firstOf r) && offersAt at (stateOf t i)) (framesLeft at) (receiving-frames at) (λ e r t n. rw n) (λ s w k t out. frames-step i h s w k t out at) t es sound may);
+          (count-left i h (λ e r t. sendsOn stx i e (answered r) (firstOf r) && offersAt at (stateOf t i)) (framesLeft at) (receiving-frames at) (λ e r t n. rw n) (λ s w f k t out. frames-step i h s w f k t out at) t es sound speaks may);
     }

@@ -9,7 +9,7 @@ use lib.Seq.{ext-getD}
 use Rattle.memory.specs.Sizes.{lines, messageLimit, framePart}
 use Rattle.memory.proofs.Lines.{equal-parts}
 use Rattle.memory.proofs.Tests.{never-both}
-use Rattle.receiving.specs.Steps.{Memory}
+use Rattle.strips.specs.Readers.{freshMemo}
 use Rattle.gateway.specs.Events.{noRecord, takeOf}
 use Rattle.looking.specs.declared.Kind.{Kind}
 use Rattle.serial.specs.Serial.{event, taking, annotate, serialize, count, Every, OrderOf, GoesAlike}
@@ -18,7 +18,7 @@ use Rattle.serial.specs.Kept.{Rearranged}
 use Rattle.serial.proofs.Demand as serial
 use Rattle.promises.specs.Machine.{State, Response, Coming, happens, starts, GatewayItem, came, step, decides, Parts, partsOf, storeOf, Sound, May}
 use Rattle.promises.specs.Inner.ByParts.{onEvent, onComing, onTaking}
-use Rattle.promises.specs.Runs.{RightSizes, fresh}
+use Rattle.promises.specs.Runs.{Beginning, Right, fresh}
 use Rattle.promises.specs.Sending.{Intact}
 use Rattle.promises.specs.Inner.Came.{Came, quiet as passing, stored, crowded, against}
 use Rattle.promises.proofs.Sound.{sound-intact, event-answer, event-own, event-others, event-journal}
@@ -92,29 +92,30 @@ lined = record {
   quiet = λ s i k w m e u wu. coming-quiet s u w i m k e;
 }
 
--- records, ledger and every byte of the three memories: a sound state has nothing else
+-- records, what is kept of readers, ledger and every byte of the three memories: a sound state has nothing else
 pub nothing-else : NothingElse partsOf storeOf Sound
 nothing-else s t w v same =
     let records = ext-getD noRecord (s .gateway .lines) (t .gateway .lines) (w .as-many ∙ sym (v .as-many)) (λ i h. ap (λ (p : Parts). p .line) (same .each i)) in
+    let memos = ext-getD freshMemo (s .gateway .memos) (t .gateway .memos) (w .as-many-memos ∙ sym (v .as-many-memos)) (λ i h. ap (λ (p : Parts). p .memo) (same .each i)) in
     let texts = equal-parts messageLimit lines (s .memory .unfinished) (t .memory .unfinished) (w .texts) (v .texts) (λ i h. ap (λ (p : Parts). p .texts) (same .each i)) in
     let frames = equal-parts framePart lines (s .memory .frames) (t .memory .frames) (w .frames) (v .frames) (λ i h. ap (λ (p : Parts). p .frames) (same .each i)) in
     λ z. record {
-      gateway = record { lines = records z; ledger = same .journal z .ledger };
+      gateway = record { lines = records z; memos = memos z; ledger = same .journal z .ledger };
       memory = record { journal = same .journal z .journal; unfinished = texts z; frames = frames z };
     }
 
 -- Demand 3. Memory of the right sizes with any bytes, a fresh gateway, any events on lines 0 to 7 and any takings.
-module _ (m : Memory) (sizes : RightSizes m) (es : List GatewayItem) (may : Every May es) (order : List ℕ) (each : OrderOf lines order) where
+module _ (began : Beginning) (right : Right began) (es : List GatewayItem) (may : Every May es) (order : List ℕ) (each : OrderOf lines order) where
   abbrev run : List (GatewayItem × Response)
-  run = annotate step (fresh m) es
+  run = annotate step (fresh began) es
 
   -- every history that the demand's words allow has the run's answers and its final state
-  pub stretches : (zs : List (GatewayItem × Response)) → Rearranged decides lines order run zs → GoesAlike step (fresh m) es zs
-  stretches = serial.demand _ _ _ _ _ _ _ _ _ lined order each (fresh m) es (fresh-sound m sizes) may nothing-else
+  pub stretches : (zs : List (GatewayItem × Response)) → Rearranged decides lines order run zs → GoesAlike step (fresh began) es zs
+  stretches = serial.demand _ _ _ _ _ _ _ _ _ lined order each (fresh began) es (fresh-sound began right) may nothing-else
 
   -- there is one, and every item with its answer stands in it as often as in the run
   pub stretches-met : Rearranged decides lines order run (serialize decides order run)
-  stretches-met = serial.demand-met _ _ _ _ _ _ _ _ _ lined order each (fresh m) es (fresh-sound m sizes) may
+  stretches-met = serial.demand-met _ _ _ _ _ _ _ _ _ lined order each (fresh began) es (fresh-sound began right) may
 
   pub stretches-all : (zs : List (GatewayItem × Response)) → Rearranged decides lines order run zs → (p : GatewayItem × Response → Bool) → count p zs ≡ count p run
-  stretches-all = serial.nothing-lost _ _ _ _ _ _ _ _ _ lined order each (fresh m) es (fresh-sound m sizes) may
+  stretches-all = serial.nothing-lost _ _ _ _ _ _ _ _ _ lined order each (fresh began) es (fresh-sound began right) may

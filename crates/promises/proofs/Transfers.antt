@@ -17,11 +17,15 @@ use Rattle.frame.specs.Piece.{Piece}
 use Rattle.pieces.specs.Pieces.{piecesOf}
 use Rattle.framing.specs.Frames.{framesFrom}
 use Rattle.cutting.specs.Frames.{cutOf}
-use Rattle.line.specs.Line.{freshLine, openedLine, closedLine}
+use Rattle.settings.specs.Settings.{standardSettings}
+use Rattle.settings.specs.declared.Settings.{Settings}
+use Rattle.settings.specs.declared.Dialogue.the-variants.{Frames}
+use Rattle.strips.specs.Readers.{Memo}
+use Rattle.line.specs.Line.{startedLine, freshLine, openedLine, closedLine}
 use Rattle.characters.specs.Control.{enq, eot}
 use Rattle.line.specs.declared.Line.{Line}
 use Rattle.answers.specs.declared.Answer.the-variants.{Opened, Ended}
-use Rattle.line.proofs.Closed.{closed-fresh}
+use Rattle.line.proofs.Closed.{closed-started}
 use Rattle.header.specs.Header.{entrySize}
 use Rattle.header.specs.Entry.{Entry}
 use Rattle.room.specs.Room.{todaysShares, fits, raised}
@@ -29,7 +33,7 @@ use Rattle.journal_laws.specs.Held.{Held}
 use Rattle.journal_laws.specs.Runs.{State as Store}
 use Rattle.journal_laws.proofs.Cases.{held-judged}
 use Rattle.looking.specs.Inner.Ready.{Own}
-use Rattle.gateway.specs.Events.{lineAt}
+use Rattle.gateway.specs.Events.{lineAt, dialogueAt}
 use Rattle.looking.specs.Looks.{byteLook, neutralLook, waitingLook}
 use Rattle.receiving.specs.Verdicts.{ownWork}
 use Rattle.looking.specs.declared.Kind.{Kind}
@@ -37,9 +41,11 @@ use Rattle.looking.specs.declared.Kind.the-variants.{Byte}
 use Rattle.looking.proofs.Views.{own-parts}
 use Rattle.serial.specs.Serial.{final, Every}
 use Rattle.promises.specs.Machine.{State, Response, response, step, Parts, partsOf, storeOf, Sound, May, came}
-use Rattle.promises.specs.Inner.ByParts.{onEvent}
+use Rattle.promises.specs.Inner.ByParts.{onFrames}
 use Rattle.promises.specs.Sending.{bytesOn, answersBy, replies, sending, sendingReplies, piecesOfAll, transfer, repliesToAll, transferReplies, newEntries, Messages, sizesOf, HasRoom, Intact, Delivers, Demand2, Usable}
-use Rattle.promises.proofs.Sound.{sound-intact, ready as is-ready, event-answer, event-own, event-others, event-journal}
+use Rattle.promises.proofs.Framed.{ready as is-ready, framed-answer, framed-own, framed-others, framed-journal}
+use Rattle.promises.proofs.Sound.{sound-intact}
+use Rattle.promises.proofs.Dialogues.{still-frames}
 use Rattle.promises.proofs.Kept.{keeps}
 use Rattle.promises.proofs.Runs.{stays-sound}
 use Rattle.promises.proofs.Feeding.{feed, ready}
@@ -57,19 +63,19 @@ record Fed (s : State) (i : ℕ) (bs : List ℕ) : Type 0 where
   store : storeOf (final step s (bytesOn i bs)) ≡ feed i (partsOf s i) (storeOf s) bs .2
   others : (l : ℕ) → l ≢ i → partsOf (final step s (bytesOn i bs)) l ≡ partsOf s l
 
-fed : (s : State) (i : ℕ) (bs : List ℕ) → Sound s → i < lines → Fed s i bs
-fed s i [] w h = record { answers = refl; own = refl; store = refl; others = λ l n. refl }
-fed s i (b ∷ bs) w h =
+fed : (s : State) (i : ℕ) (bs : List ℕ) → Sound s → i < lines → dialogueAt (s .gateway) i ≡ Frames → Fed s i bs
+fed s i [] w h speaks = record { answers = refl; own = refl; store = refl; others = λ l n. refl }
+fed s i (b ∷ bs) w h speaks =
     let k : Kind = Byte b in
-    let r = fed ((step s (came i k)) .1) i bs (keeps s (came i k) w h) h in
+    let r = fed ((step s (came i k)) .1) i bs (keeps s (came i k) w h) h (still-frames s (came i k) i speaks) in
     let v = sound-intact s w in
-    let parts = event-own s v i k h in
-    let store = event-journal s v i k h in
+    let parts = framed-own s v i k h speaks in
+    let store = framed-journal s v i k h speaks in
     record {
-      answers = ap₂ (λ (t : Response) (ts : List Response). t ∷ ts) (event-answer s v i k h) (r .answers ∙ ap₂ (λ (p : Parts) (j : Store). feed i p j bs .0) parts store);
+      answers = ap₂ (λ (t : Response) (ts : List Response). t ∷ ts) (framed-answer s v i k h speaks) (r .answers ∙ ap₂ (λ (p : Parts) (j : Store). feed i p j bs .0) parts store);
       own = r .own ∙ ap₂ (λ (p : Parts) (j : Store). feed i p j bs .1) parts store;
       store = r .store ∙ ap₂ (λ (p : Parts) (j : Store). feed i p j bs .2) parts store;
-      others = λ l n. r .others l n ∙ event-others s v i k h l n;
+      others = λ l n. r .others l n ∙ framed-others s v i k h speaks l n;
     }
 
 pub bytes-may : (i : ℕ) → i < lines → (bs : List ℕ) → Every May (bytesOn i bs)
@@ -110,26 +116,27 @@ went-on s i bs cs ts us ms ns P Q x y =
 
 -- ---- ENQ, the frames of a message, EOT
 
-opens : (i : ℕ) (texts frames : List ℕ) (j : Store)
-    → onEvent i (record { line = freshLine; texts = texts; frames = frames }) (Byte enq) j ≡ (response Opened [], record { line = openedLine freshLine; texts = texts; frames = frames }, j)
+opens : (i : ℕ) (texts frames : List ℕ) (memo : Memo) (j : Store)
+    → onFrames i (record { line = freshLine; texts = texts; frames = frames; memo = memo }) (Byte enq) j
+    ≡ (response Opened [], record { line = openedLine freshLine; texts = texts; frames = frames; memo = memo }, j)
 unfolding ownWork byteLook neutralLook
-opens i texts frames j = refl
+opens i texts frames memo j = refl
 
-closes : (i : ℕ) (l : Line) (texts frames : List ℕ) (j : Store) → l .joined ≡ 0
-    → onEvent i (ready i j l texts frames) (Byte eot) j ≡ (response Ended [], record { line = closedLine (ready i j l texts frames .line); texts = texts; frames = frames }, j)
+closes : (i : ℕ) (l : Line) (texts frames : List ℕ) (memo : Memo) (j : Store) → l .joined ≡ 0
+    → onFrames i (ready i j memo l texts frames) (Byte eot) j ≡ (response Ended [], record { line = closedLine (ready i j memo l texts frames .line); texts = texts; frames = frames; memo = memo }, j)
 unfolding ownWork byteLook waitingLook
-closes i l texts frames j h = rw h
+closes i l texts frames memo j h = rw h
 
 -- where a line opens a transfer, it is open for frame 1
-opened-open : (l : Line) → Open firstNumber (openedLine l)
-opened-open l = record { waits = refl; joined = refl; refusing = refl; new = refl; next = refl; low = omega arith }
+opened-open : (l : Line) → l .settings ≡ standardSettings → Open firstNumber (openedLine l)
+opened-open l speaks = record { waits = refl; speaks = speaks; joined = refl; refusing = refl; new = refl; next = refl; low = omega arith }
 
 module _ (limit : ℕ) (usable : Usable limit) (i : ℕ) (h : i < lines) where
   -- one byte, by the line's parts
-  one-byte : (s : State) (b : ℕ) (t : Response) (p : Parts) (Line-then : Line → Type 0) → Sound s → onEvent i (partsOf s i) (Byte b) (storeOf s) ≡ (t, p, storeOf s) → Line-then (p .line)
+  one-byte : (s : State) (b : ℕ) (t : Response) (p : Parts) (Line-then : Line → Type 0) → Sound s → dialogueAt (s .gateway) i ≡ Frames → onFrames i (partsOf s i) (Byte b) (storeOf s) ≡ (t, p, storeOf s) → Line-then (p .line)
       → Went s i (b ∷ []) (t ∷ []) [] Line-then
-  one-byte s b t p Line-then w is l =
-      let f = fed s i (b ∷ []) w h in
+  one-byte s b t p Line-then w speaks is l =
+      let f = fed s i (b ∷ []) w h speaks in
       record {
         answers = f .answers ∙ ap (λ (r : Response × Parts × Store). r .0 ∷ []) is;
         store = f .store ∙ ap (λ (r : Response × Parts × Store). r .2) is;
@@ -142,18 +149,22 @@ module _ (limit : ℕ) (usable : Usable limit) (i : ℕ) (h : i < lines) where
   opening s w fresh =
       let texts = partsOf s i .texts in
       let frames = partsOf s i .frames in
-      let is = ap (λ (l : Line). onEvent i (record { line = l; texts = texts; frames = frames }) (Byte enq) (storeOf s)) fresh ∙ opens i texts frames (storeOf s) in
-      one-byte s enq (response Opened []) (record { line = openedLine freshLine; texts = texts; frames = frames }) (Open firstNumber) w is (opened-open freshLine)
+      let memo = partsOf s i .memo in
+      let is = ap (λ (l : Line). onFrames i (record { line = l; texts = texts; frames = frames; memo = memo }) (Byte enq) (storeOf s)) fresh ∙ opens i texts frames memo (storeOf s) in
+      one-byte s enq (response Opened []) (record { line = openedLine freshLine; texts = texts; frames = frames; memo = memo }) (Open firstNumber) w
+      (ap (λ (l : Line). l .settings .dialogue) fresh) is (opened-open freshLine refl)
 
   closing : (s : State) (number : ℕ) → Sound s → Open number (lineAt (s .gateway) i) → Went s i (eot ∷ []) (response Ended [] ∷ []) [] (λ (l : Line). l ≡ freshLine)
   closing s number w o =
       let texts = partsOf s i .texts in
       let frames = partsOf s i .frames in
+      let memo = partsOf s i .memo in
       let is =
-      ap (λ (l : Line). onEvent i (record { line = l; texts = texts; frames = frames }) (Byte eot) (storeOf s)) (o .waits)
-      ∙ closes i (lineAt (s .gateway) i) texts frames (storeOf s) (o .joined) in
-      let old = ready i (storeOf s) (lineAt (s .gateway) i) texts frames .line in
-      one-byte s eot (response Ended []) (record { line = closedLine old; texts = texts; frames = frames }) (λ (l : Line). l ≡ freshLine) w is (closed-fresh old)
+      ap (λ (l : Line). onFrames i (record { line = l; texts = texts; frames = frames; memo = memo }) (Byte eot) (storeOf s)) (o .waits)
+      ∙ closes i (lineAt (s .gateway) i) texts frames memo (storeOf s) (o .joined) in
+      let old = ready i (storeOf s) memo (lineAt (s .gateway) i) texts frames .line in
+      one-byte s eot (response Ended []) (record { line = closedLine old; texts = texts; frames = frames; memo = memo }) (λ (l : Line). l ≡ freshLine) w
+      (ap (λ (t : Settings). t .dialogue) (o .speaks)) is (closed-started old ∙ ap startedLine (o .speaks))
 
   module _ (s : State) (w : Sound s) (number : ℕ) (o : Open number (lineAt (s .gateway) i)) (m : List ℕ) (message : isMessage m ≡ true)
       (room : fits todaysShares (raised (s .gateway .ledger .used) i (entrySize (length m))) ≡ true) where
@@ -166,11 +177,15 @@ module _ (limit : ℕ) (usable : Usable limit) (i : ℕ) (h : i < lines) where
     abbrev frames : List ℕ
     frames = partsOf s i .frames
 
+    speaks : dialogueAt (s .gateway) i ≡ Frames
+    speaks = ap (λ (t : Settings). t .dialogue) (o .speaks)
+
     parts : Own own texts frames
-    parts = own-parts own i (s .memory .unfinished) (s .memory .frames) (is-ready s (sound-intact s w) i (Byte enq) h)
+    parts = own-parts own i (s .memory .unfinished) (s .memory .frames) (is-ready s (sound-intact s w) i (Byte enq) h speaks)
 
     going : Going [] m number own texts frames
     going = record {
+      speaks = o .speaks;
       message = message;
       refusing = o .refusing;
       new = o .new;
@@ -190,12 +205,12 @@ module _ (limit : ℕ) (usable : Usable limit) (i : ℕ) (h : i < lines) where
         let judged = sym (held-judged todaysShares (s .gateway .ledger) i m (s .memory .journal) (w .entries) (w .held) h some most true room) in
         subst
         (λ (l : Line). Delivered i (storeOf s) m (piecesOf limit m) (numberAfter number (piecesOf limit m))
-        (feed i (record { line = l; texts = texts; frames = frames }) (storeOf s) (framesFrom number (piecesOf limit m))))
-        (sym (o .waits)) (walk limit usable i (storeOf s) (length m) [] m number own texts frames (omega arith) some going judged)
+        (feed i (record { line = l; texts = texts; frames = frames; memo = partsOf s i .memo }) (storeOf s) (framesFrom number (piecesOf limit m))))
+        (sym (o .waits)) (walk limit usable i (storeOf s) (partsOf s i .memo) (length m) [] m number own texts frames (omega arith) some going judged)
 
     one-message : Went s i (framesFrom number (piecesOf limit m)) (replies (piecesOf limit m)) (m ∷ []) (Open (numberAfter number (piecesOf limit m)))
     one-message =
-        let f = fed s i (framesFrom number (piecesOf limit m)) w h in
+        let f = fed s i (framesFrom number (piecesOf limit m)) w h speaks in
         record {
           answers = f .answers ∙ walked .answers;
           store = f .store ∙ walked .store;

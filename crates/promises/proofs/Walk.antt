@@ -24,6 +24,7 @@ use Rattle.records.proofs.Scans.{tailAt, rest-part}
 use Rattle.line.specs.declared.Line.{Line}
 use Rattle.answers.specs.declared.Answer.{Answer}
 use Rattle.answers.specs.declared.Answer.the-variants.{Nothing, Accepted, Stored}
+use Rattle.strips.specs.Readers.{Memo}
 use Rattle.room.specs.Room.{todaysShares}
 use Rattle.journal.specs.Verdicts.{judgeOf}
 use Rattle.journal_laws.specs.Runs.{State as Store}
@@ -59,7 +60,7 @@ pub record Delivered (i : ℕ) (j : Store) (m : List ℕ) (ps : List Piece) (num
   pub store : r .2 ≡ storedIn i m j
   pub line : Open number (r .1 .line)
 
-module _ (limit : ℕ) (usable : Usable limit) (i : ℕ) (j : Store) where
+module _ (limit : ℕ) (usable : Usable limit) (i : ℕ) (j : Store) (memo : Memo) where
   module _ (x t : List ℕ) (number : ℕ) (l : Line) (texts frames : List ℕ) (some : 0 < length t) (room : length t + aroundText ≤ limit) where
     quiet-frame : map unanswered (stx ∷ early number (endAfter (getD t (length t - 1) 0)) t) ≡ replicate (length t + 6) (response Nothing [])
     quiet-frame =
@@ -72,15 +73,15 @@ module _ (limit : ℕ) (usable : Usable limit) (i : ℕ) (j : Store) where
       end = endAfter (getD t (length t - 1) 0)
 
       abbrev at-lf : Look → Response × Parts × Store
-      at-lf look = last i j l texts limit usable number end t frames room (g .low) (clean limit usable i j x t [] number end l texts frames g room) (g .frames-long) look
+      at-lf look = last i j memo l texts limit usable number end t frames room (g .low) (clean limit usable i j memo x t [] number end l texts frames g room) (g .frames-long) look
 
       abbrev inner : Parts
-      inner = inside i j l texts (length (early number end t)) (splice frames 0 (early number end t))
+      inner = inside i j memo l texts (length (early number end t)) (splice frames 0 (early number end t))
 
       joined-is : joinedText (inner .line) (length t) texts (inner .frames) ≡ x ++ t
       joined-is =
           ap₂ _++_ (ap (part texts 0) (g .joined) ∙ g .held)
-          (own-text i j l texts limit usable number end t frames room (g .low) (clean limit usable i j x t [] number end l texts frames g room) (g .frames-long))
+          (own-text i j memo l texts limit usable number end t frames room (g .low) (clean limit usable i j memo x t [] number end l texts frames g room) (g .frames-long))
 
       message : isMessage (x ++ t) ≡ true
       message = ap (λ (u : List ℕ). isMessage (x ++ u)) (sym (append-nil t)) ∙ g .message
@@ -92,19 +93,19 @@ module _ (limit : ℕ) (usable : Usable limit) (i : ℕ) (j : Store) where
       stored-is : decided (Decides (length t)) todaysShares (inner .line) (j .ledger) i (j .journal) texts (inner .frames) ≡ Stores (length t)
       stored-is = ap (λ (u : List ℕ). decisionOf todaysShares (j .ledger) i (length t) u (j .journal)) joined-is ∙ decided-is
 
-      last-sent : feed i (ready i j l texts frames) j (frameOf number end t) ≡ ended (replicate (length t + 6) (response Nothing [])) (left (Stores (length t)) i inner (Byte lf) j)
+      last-sent : feed i (ready i j memo l texts frames) j (frameOf number end t) ≡ ended (replicate (length t + 6) (response Nothing [])) (left (Stores (length t)) i inner (Byte lf) j)
       last-sent =
-          one-sent limit usable i j x t [] number end l texts frames g room
+          one-sent limit usable i j memo x t [] number end l texts frames g room
           ∙ ap (λ (look : Look). ended (map unanswered (stx ∷ early number end t)) (at-lf look)) (look-last x t some message)
           ∙ ap₂ (λ (ts : List Response) (v : Verdict). ended ts (left v i inner (Byte lf) j)) quiet-frame stored-is
 
-      last-delivered : (p : Piece) → p .bytes ≡ t → Delivered i j (x ++ t) (p ∷ []) (nextNumber number) (feed i (ready i j l texts frames) j (frameOf number end t))
+      last-delivered : (p : Piece) → p .bytes ≡ t → Delivered i j (x ++ t) (p ∷ []) (nextNumber number) (feed i (ready i j memo l texts frames) j (frameOf number end t))
       last-delivered p q =
           subst (Delivered i j (x ++ t) (p ∷ []) (nextNumber number)) (sym last-sent)
           (record {
             answers = ap (λ (u : List ℕ). replicate (length u + 6) (response Nothing []) ++ (response Stored [] ∷ [])) (sym q);
             store = ap (λ (u : List ℕ). storedIn i u j) joined-is;
-            line = accepted-open (inner .line) number (g .refusing) (g .next) (g .low);
+            line = accepted-open (inner .line) number (g .speaks) (g .refusing) (g .next) (g .low);
           })
 
     -- any other frame is joined
@@ -114,22 +115,22 @@ module _ (limit : ℕ) (usable : Usable limit) (i : ℕ) (j : Store) where
 
       abbrev ready-then : Parts
       ready-then =
-          ready i j (line-then limit usable i j x t (b ∷ y) number end-on l texts frames g room) (texts-then limit usable i j x t (b ∷ y) number end-on l texts frames g room)
-          (frames-then limit usable i j x t (b ∷ y) number end-on l texts frames g room)
+          ready i j memo (line-then limit usable i j memo x t (b ∷ y) number end-on l texts frames g room) (texts-then limit usable i j memo x t (b ∷ y) number end-on l texts frames g room)
+          (frames-then limit usable i j memo x t (b ∷ y) number end-on l texts frames g room)
 
-      joined-sent : feed i (ready i j l texts frames) j (frameOf number end-on t) ≡ ended (replicate (length t + 6) (response Nothing [])) (response Accepted [], ready-then, j)
+      joined-sent : feed i (ready i j memo l texts frames) j (frameOf number end-on t) ≡ ended (replicate (length t + 6) (response Nothing [])) (response Accepted [], ready-then, j)
       joined-sent =
-          one-sent limit usable i j x t (b ∷ y) number end-on l texts frames g room
+          one-sent limit usable i j memo x t (b ∷ y) number end-on l texts frames g room
           ∙ ap
-          (λ (look : Look). ended (map unanswered (stx ∷ early number end-on t)) (last i j l texts limit usable number end-on t frames room (g .low) (clean limit usable i j x t (b ∷ y) number end-on l texts frames g room) (g .frames-long) look))
+          (λ (look : Look). ended (map unanswered (stx ∷ early number end-on t)) (last i j memo l texts limit usable number end-on t frames room (g .low) (clean limit usable i j memo x t (b ∷ y) number end-on l texts frames g room) (g .frames-long) look))
           (look-on x t some b y (rw (append-assoc x t (b ∷ y)) (g .message)))
-          ∙ ap₂ ended quiet-frame (accepted limit usable i j x t (b ∷ y) number end-on l texts frames g room)
+          ∙ ap₂ ended quiet-frame (accepted limit usable i j memo x t (b ∷ y) number end-on l texts frames g room)
 
       on-delivered : (m bs : List ℕ) (p : Piece) (ps : List Piece) (then : ℕ) → p .bytes ≡ t → lastAnswer ps ≡ Accepted → Delivered i j m ps then (feed i ready-then j bs)
-          → Delivered i j m (p ∷ ps) then (feed i (ready i j l texts frames) j (frameOf number end-on t ++ bs))
+          → Delivered i j m (p ∷ ps) then (feed i (ready i j memo l texts frames) j (frameOf number end-on t ++ bs))
       on-delivered m bs p ps then q a d =
           subst (Delivered i j m (p ∷ ps) then)
-          (sym (feed-append i (frameOf number end-on t) bs (ready i j l texts frames) j ∙ ap behind joined-sent))
+          (sym (feed-append i (frameOf number end-on t) bs (ready i j memo l texts frames) j ∙ ap behind joined-sent))
           (record {
             answers =
                 append-assoc (replicate (length t + 6) (response Nothing [])) (response Accepted [] ∷ []) (feed i ready-then j bs .0)
@@ -171,28 +172,28 @@ module _ (limit : ℕ) (usable : Usable limit) (i : ℕ) (j : Store) where
   Walks k =
       (x y : List ℕ) (number : ℕ) (l : Line) (texts frames : List ℕ) → length y ≤ k → 0 < length y → Going x y number l texts frames
       → judgeOf (j .ledger) todaysShares i (length (x ++ y)) (j .journal) ≡ Fits
-      → Delivered i j (x ++ y) (piecesOf limit y) (numberAfter number (piecesOf limit y)) (feed i (ready i j l texts frames) j (framesFrom number (piecesOf limit y)))
+      → Delivered i j (x ++ y) (piecesOf limit y) (numberAfter number (piecesOf limit y)) (feed i (ready i j memo l texts frames) j (framesFrom number (piecesOf limit y)))
 
   module _ (k : ℕ) (behind : Walks k) (x t : List ℕ) (number : ℕ) (l : Line) (texts frames : List ℕ) (some : 0 < length t) (room : length t + aroundText ≤ limit) where
     by-rest : (z : List ℕ) → length z ≤ k → Going x (t ++ z) number l texts frames → judgeOf (j .ledger) todaysShares i (length (x ++ (t ++ z))) (j .journal) ≡ Fits
         → Delivered i j (x ++ (t ++ z)) (piece (endAfter (getD t (length t - 1) 0)) t ∷ piecesOf limit z) (numberAfter (nextNumber number) (piecesOf limit z))
-        (feed i (ready i j l texts frames) j (frameOf number (endAfter (getD t (length t - 1) 0)) t ++ framesFrom (nextNumber number) (piecesOf limit z)))
+        (feed i (ready i j memo l texts frames) j (frameOf number (endAfter (getD t (length t - 1) 0)) t ++ framesFrom (nextNumber number) (piecesOf limit z)))
     by-rest [] low g fits =
         let p = piece (endAfter (getD t (length t - 1) 0)) t in
         let f = frameOf number (endAfter (getD t (length t - 1) 0)) t in
         let fits-now = ap (λ (u : List ℕ). judgeOf (j .ledger) todaysShares i (length (x ++ u)) (j .journal)) (sym (append-nil t)) ∙ fits in
         let now = last-delivered x t number l texts frames some room g fits-now p refl in
-        let whole = subst (λ (u : List ℕ). Delivered i j (x ++ u) (p ∷ []) (nextNumber number) (feed i (ready i j l texts frames) j f)) (sym (append-nil t)) now in
-        let sent = subst (λ (bs : List ℕ). Delivered i j (x ++ (t ++ [])) (p ∷ []) (nextNumber number) (feed i (ready i j l texts frames) j bs)) (sym (append-nil f)) whole in
-        subst (λ (ps : List Piece). Delivered i j (x ++ (t ++ [])) (p ∷ ps) (numberAfter (nextNumber number) ps) (feed i (ready i j l texts frames) j (f ++ framesFrom (nextNumber number) ps))) (sym (no-pieces limit)) sent
+        let whole = subst (λ (u : List ℕ). Delivered i j (x ++ u) (p ∷ []) (nextNumber number) (feed i (ready i j memo l texts frames) j f)) (sym (append-nil t)) now in
+        let sent = subst (λ (bs : List ℕ). Delivered i j (x ++ (t ++ [])) (p ∷ []) (nextNumber number) (feed i (ready i j memo l texts frames) j bs)) (sym (append-nil f)) whole in
+        subst (λ (ps : List Piece). Delivered i j (x ++ (t ++ [])) (p ∷ ps) (numberAfter (nextNumber number) ps) (feed i (ready i j memo l texts frames) j (f ++ framesFrom (nextNumber number) ps))) (sym (no-pieces limit)) sent
     by-rest (b ∷ z) low g fits =
         let p = piece (endAfter (getD t (length t - 1) 0)) t in
         let ps = piecesOf limit (b ∷ z) in
         let fits-then = ap (λ (u : List ℕ). judgeOf (j .ledger) todaysShares i (length u) (j .journal)) (append-assoc x t (b ∷ z)) ∙ fits in
         let e = endAfter (getD t (length t - 1) 0) in
         let rest =
-        behind (x ++ t) (b ∷ z) (nextNumber number) (line-then limit usable i j x t (b ∷ z) number e l texts frames g room) (texts-then limit usable i j x t (b ∷ z) number e l texts frames g room)
-        (frames-then limit usable i j x t (b ∷ z) number e l texts frames g room) low (omega arith) (going-on limit usable i j x t (b ∷ z) number e l texts frames g room) fits-then in
+        behind (x ++ t) (b ∷ z) (nextNumber number) (line-then limit usable i j memo x t (b ∷ z) number e l texts frames g room) (texts-then limit usable i j memo x t (b ∷ z) number e l texts frames g room)
+        (frames-then limit usable i j memo x t (b ∷ z) number e l texts frames g room) low (omega arith) (going-on limit usable i j memo x t (b ∷ z) number e l texts frames g room) fits-then in
         let all-of-it = subst (λ (m : List ℕ). Delivered i j m ps (numberAfter (nextNumber number) ps) (feed i (ready-then x t number l texts frames some room b z g) j (framesFrom (nextNumber number) ps))) (append-assoc x t (b ∷ z)) rest in
         on-delivered x t number l texts frames some room b z g (x ++ (t ++ b ∷ z)) (framesFrom (nextNumber number) ps) p ps (numberAfter (nextNumber number) ps) refl (goes-on (b ∷ z) (omega arith)) all-of-it
 
@@ -209,8 +210,8 @@ module _ (limit : ℕ) (usable : Usable limit) (i : ℕ) (j : Store) where
       let parted = subst (λ (w : List ℕ). Going x w number l texts frames) (sym is) g in
       let fits-so = ap (λ (w : List ℕ). judgeOf (j .ledger) todaysShares i (length (x ++ w)) (j .journal)) is ∙ fits in
       let rest = by-rest k (walk k) x (take n y) number l texts frames (omega (arith, size, c .some)) (omega (arith, size, c .short)) (drop n y) (omega (arith, length-drop n y, c .some, c .within)) parted fits-so in
-      subst (λ (ps : List Piece). Delivered i j (x ++ y) ps (numberAfter number ps) (feed i (ready i j l texts frames) j (framesFrom number ps))) (sym cut-is)
+      subst (λ (ps : List Piece). Delivered i j (x ++ y) ps (numberAfter number ps) (feed i (ready i j memo l texts frames) j (framesFrom number ps))) (sym cut-is)
       (subst
       (λ (w : List ℕ). Delivered i j (x ++ w) (piece (endAfter (getD (take n y) (length (take n y) - 1) 0)) (take n y) ∷ piecesOf limit (drop n y)) (numberAfter (nextNumber number) (piecesOf limit (drop n y)))
-      (feed i (ready i j l texts frames) j (frameOf number (endAfter (getD (take n y) (length (take n y) - 1) 0)) (take n y) ++ framesFrom (nextNumber number) (piecesOf limit (drop n y)))))
+      (feed i (ready i j memo l texts frames) j (frameOf number (endAfter (getD (take n y) (length (take n y) - 1) 0)) (take n y) ++ framesFrom (nextNumber number) (piecesOf limit (drop n y)))))
       is rest)

@@ -14,7 +14,7 @@ use Rattle.characters.specs.Control.{enq, eot, stx}
 use Rattle.pieces.specs.Pieces.{piecesOf}
 use Rattle.answers.specs.Paper.{ack, firstOut}
 use Rattle.answers.specs.InNumbers.{replyByte}
-use Rattle.line.specs.Line.{freshLine, mostTries}
+use Rattle.line.specs.Line.{startedLine, mostTries}
 use Rattle.line.specs.declared.State.{State as LineState}
 use Rattle.line.specs.declared.State.the-variants.{Neutral, Waiting, Inside, Out}
 use Rattle.line.specs.declared.Sending.the-variants.{Asking, Pausing, Offering}
@@ -45,12 +45,12 @@ outOn buffer i (x ∷ xs) = cond (isOf i (x .0)) (buffer (x .1)) [] ++ outOn buf
 abbrev pub orderedOn : ℕ → List ℕ → List GatewayItem
 orderedOn i m = starting i m ∷ came i (Byte ack) ∷ acks i (length (piecesOf frameLimit m))
 
--- each is answered 9, and what goes out is the transfer of the message, byte for byte, as demand 2 has it; the line is then as fresh, and nothing else has changed but its part
+-- each is answered 9, and what goes out is the transfer of the message, byte for byte, as demand 2 has it; the line is then as started, and nothing else has changed but its part
 -- of the unfinished texts [S11]
 pub record SendsWhole (s : State) (i : ℕ) (m : List ℕ) : Type 0 where
   pub answers : Every (λ x. answered (x .1) ≡ sends) (annotate step s (orderedOn i m))
   pub out : outOn (λ (r : Response). r .buffer) i (annotate step s (orderedOn i m)) ≡ transfer frameLimit (m ∷ [])
-  pub line : partsOf (final step s (orderedOn i m)) i .line ≡ freshLine
+  pub line : partsOf (final step s (orderedOn i m)) i .line ≡ startedLine (partsOf s i .line .settings)
   pub others : (l : ℕ) → l ≢ i → partsOf (final step s (orderedOn i m)) l ≡ partsOf s l
   pub store : storeOf (final step s (orderedOn i m)) ≡ storeOf s
 

@@ -178,7 +178,8 @@ fn marked(reader: Reader) -> Reader
     }
 }
 
-fn filed() -> Reader
+// What is kept of a reader whose finding was stored.
+pub fn filed() -> Reader
     ensures { λ r. ⌜ r ≡ filedReader ⌝ }
 {
     Reader {

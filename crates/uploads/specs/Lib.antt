@@ -1,1 +1,4 @@
 pub mod Uploads
+pub mod Host
+pub mod Calls
+pub mod Inner

@@ -1,7 +1,7 @@
 //! Both sides after an operation: every answer, every number, every byte.
 
 use crate::boundary::{Answered, Made};
-use crate::layout::{FIELDS, IN_USE};
+use crate::layout::{BLOCKS, BLOCK_LIMIT, FIELDS, IN_USE};
 use crate::library::Library;
 use ngachodui_model::world::{Op, World};
 use ngachodui_model::{Answer, LINES};
@@ -18,12 +18,12 @@ const NAMES: [&str; FIELDS] = [
     "serial",
     "tries",
     "place",
+    "speaks",
+    "reply",
+    "since",
+    "kept",
     "spare 0",
     "spare 1",
-    "spare 2",
-    "spare 3",
-    "spare 4",
-    "spare 5",
 ];
 
 /// Both sides of something that differs, in words.
@@ -64,7 +64,7 @@ pub fn answer_difference(model: Option<Answer>, library: Option<Answered>) -> Op
     Some(differs("answer", expected, library))
 }
 
-/// What differs in a frame that was fetched: its outcome, or a byte of the whole output.
+/// What differs in what was fetched: its outcome, or a byte of the whole output.
 fn fetched_difference(world: &World, library: &Library) -> Option<String> {
     let model = &world.fetched;
     let expected = Made {
@@ -91,6 +91,16 @@ pub fn state_difference(world: &World, library: &Library, op: &Op) -> Option<Str
                 let what = format!("line {}, {}", line, name);
                 return Some(differs(&what, expected[field], found));
             }
+        }
+    }
+    for line in 0..LINES {
+        let expected = &world.model.readers[line].block;
+        let found = &library.book.numbers[BLOCKS + BLOCK_LIMIT * line..][..BLOCK_LIMIT];
+        if expected != found {
+            let mut both = expected.iter().zip(found);
+            let place = both.position(|(m, l)| m != l).expect("as many numbers");
+            let what = format!("line {}, number {} of its block", line, place);
+            return Some(differs(&what, expected[place], found[place]));
         }
     }
     let ledger = &world.model.ledger;

@@ -8,7 +8,7 @@ use std::collections::BTreeMap;
 #[derive(Default)]
 pub struct Counts {
     pub runs: u64,
-    /// Bytes, seconds, starts and takings.
+    /// Bytes, seconds, starts, beginnings and takings.
     pub events: u64,
     kinds: BTreeMap<&'static str, u64>,
     answers: BTreeMap<u8, u64>,
@@ -17,14 +17,16 @@ pub struct Counts {
 }
 
 impl Counts {
-    pub fn operation(&mut self, op: &Op, answer: Option<Answered>) {
+    /// `is_reader`: the line of an event has a strip reader.
+    pub fn operation(&mut self, op: &Op, answer: Option<Answered>, is_reader: bool) {
         let kind = match op {
             Op::Event { kind, .. } => match kind {
                 Kind::Byte(_) => "bytes",
                 Kind::Seconds(_) => "seconds",
             },
             Op::Start { .. } => "starts",
-            Op::Outgoing { .. } => "frames fetched",
+            Op::Begin { .. } => "beginnings",
+            Op::Outgoing { .. } => "frames and replies",
             Op::Take { .. } => "takings",
             Op::Fresh => "fresh starts",
             Op::Poke { .. } => "memory bytes set",
@@ -39,6 +41,8 @@ impl Counts {
             | Op::Refusing { .. }
             | Op::Tries { .. }
             | Op::Place { .. }
+            | Op::Reader { .. }
+            | Op::Block { .. }
             | Op::Spare { .. } => "record counts set",
         };
         *self.kinds.entry(kind).or_default() += 1;
@@ -47,16 +51,24 @@ impl Counts {
             *self.answers.entry(answer.number).or_default() += 1;
             match (op, answer.number) {
                 (Op::Start { .. }, number) => self.text("start", number),
+                (Op::Begin { .. }, number) => self.text("begin", number),
+                (Op::Event { .. }, 11) => self.text("heard", answer.reply),
+                (Op::Event { .. }, number) if is_reader => self.text("reader", number),
                 (_, 9) => self.text("sending", answer.reply),
                 _ => {}
             }
         }
     }
 
-    /// A frame that was fetched, told from one that there is not.
-    pub fn fetched(&mut self, made: Made) {
+    /// A frame or a reply that was fetched, told from one that there is not.
+    pub fn fetched(&mut self, made: Made, is_reader: bool) {
         let is_none = made.number == 0 && made.length == 0;
-        let function = if is_none { "no frame" } else { "outgoing" };
+        let function = match (is_none, is_reader) {
+            (true, false) => "no frame",
+            (false, false) => "outgoing",
+            (true, true) => "no reply",
+            (false, true) => "reply",
+        };
         self.text(function, made.number);
     }
 
@@ -91,7 +103,7 @@ impl Counts {
             .chain(20..=31)
             .chain(40..=46)
             .chain(50..=55)
-            .chain([60, 61])
+            .chain([11, 60, 61, 70, 71, 72])
         {
             if !self.answers.contains_key(&number) {
                 missing.push(format!("answer {}", number));
@@ -107,6 +119,11 @@ impl Counts {
             ("sending", &[0, 2, 4, 5]),
             ("outgoing", &[0, 40, 41, 42, 47]),
             ("no frame", &[0]),
+            ("begin", &[0, 42]),
+            ("reader", &[0, 4, 31, 41, 42, 43, 70, 71, 72]),
+            ("heard", &[0, 2]),
+            ("reply", &[0, 41, 42, 47]),
+            ("no reply", &[0]),
         ];
         for (function, numbers) in outcomes {
             for number in numbers {

@@ -3,11 +3,12 @@
 use crate::boundary::{self, Answered, Counts, Made, Numbers};
 use crate::fenced::Fenced;
 use crate::layout::{
-    COLLECTED, COUNTS, FIELDS, IN_USE, JOINED, LAST, NEXT, NUMBERS, PLACE, REFUSING, SECONDS,
-    SERIAL, SPARE as SPARE_NUMBER, STATE, TRIES,
+    BLOCKS, BLOCK_LIMIT, COLLECTED, COUNTS, FIELDS, IN_USE, JOINED, KEPT, LAST, LINES, NEXT,
+    NUMBERS, PLACE, REFUSING, REPLY, SECONDS, SERIAL, SINCE, SPARE as SPARE_NUMBER, SPEAKS, STATE,
+    TRIES,
 };
 use ngachodui_model::lines::Kind;
-use ngachodui_model::world::{Memory, Op, BLANK, SPARE};
+use ngachodui_model::world::{Memory, Number, Op, BLANK, SPARE};
 
 const FENCE: u8 = 0x5A;
 
@@ -42,6 +43,16 @@ pub struct Library {
 pub struct Fetched {
     pub made: Made,
     pub out: Fenced<u8>,
+}
+
+/// Where the library keeps a number of a line's reader.
+fn field_of(number: Number) -> usize {
+    match number {
+        Number::Speaks => SPEAKS,
+        Number::Reply => REPLY,
+        Number::Since => SINCE,
+        Number::Kept => KEPT,
+    }
 }
 
 /// The last accepted number as the library keeps it: 0 for none, else one more.
@@ -84,7 +95,7 @@ impl Library {
         library
     }
 
-    /// Does one operation; events, starts and takings give their answer.
+    /// Does one operation; events, starts, beginnings and takings give their answer.
     pub fn apply(&mut self, op: &Op) -> Option<Answered> {
         match *op {
             Op::Event { line, kind } => return Some(self.event(line, kind)),
@@ -99,6 +110,7 @@ impl Library {
                     Memory::Frames.size(),
                 ];
             }
+            Op::Begin { ref settings } => return Some(self.begin(settings)),
             Op::State { line, state } => *self.number(line, STATE) = state as u16,
             Op::Collected { line, count } => *self.number(line, COLLECTED) = count,
             Op::Joined { line, count } => *self.number(line, JOINED) = count,
@@ -108,6 +120,14 @@ impl Library {
             Op::Refusing { line, refusing } => *self.number(line, REFUSING) = u16::from(refusing),
             Op::Tries { line, count } => *self.number(line, TRIES) = count,
             Op::Place { line, place } => *self.number(line, PLACE) = place,
+            Op::Reader {
+                line,
+                number,
+                value,
+            } => *self.number(line, field_of(number)) = value,
+            Op::Block { line, place, value } => {
+                self.book.numbers[BLOCKS + BLOCK_LIMIT * usize::from(line) + place] = value
+            }
             Op::Spare { line, which, value } => *self.number(line, SPARE_NUMBER + which) = value,
             Op::InUse { count } => self.book.counts[IN_USE] = count,
             Op::Used { line, count } => self.book.counts[usize::from(line)] = count,
@@ -120,6 +140,23 @@ impl Library {
             Op::Lend { memory, length } => self.lent[memory as usize] = length,
         }
         None
+    }
+
+    /// The settings stand between others, and are only read; the answer is a number alone.
+    fn begin(&mut self, settings: &[u16; LINES]) -> Answered {
+        let mut lent = [0xF00D; LINES + 2];
+        lent[1..=LINES].copy_from_slice(settings);
+        let copy: &[u16; LINES] = lent[1..=LINES].try_into().expect("eight of them");
+        let number = boundary::start(copy, &mut self.book.numbers, &mut self.book.counts);
+        assert!(lent[1..=LINES] == settings[..] && lent[0] == lent[LINES + 1]);
+        Answered {
+            number,
+            reply: 0,
+            serial: 0,
+            place: 0,
+            digits: 0,
+            length: 0,
+        }
     }
 
     fn event(&mut self, line: u8, kind: Kind) -> Answered {

@@ -1,11 +1,11 @@
 //! Compares the library with the model, operation by operation.
 //!
-//!     diff 10000000 SEED     so many events: bytes, seconds, starts and takings
+//!     diff 10000000 SEED     so many events: bytes, seconds, starts, beginnings and takings
 //!     diff 5s SEED           so many seconds
 //!     diff --faults SEED     sees that faults put into what the library did are found
 //!
-//! After each operation everything is compared: the answer, its reply byte and its values, a frame that was
-//! fetched, the eight records, the ledger, and every byte of every memory, those that are not lent and a
+//! After each operation everything is compared: the answer, its reply byte and its values, a frame or a reply that
+//! was fetched, the eight records and the blocks kept beside them, the ledger, and every byte of every memory, those that are not lent and a
 //! fence around each included.
 //! The same seed gives the same operations. Status 1: a difference, or an answer or an outcome that never
 //! came up, told on standard output. For what has not come up a run goes on, at most ten times as long.
@@ -21,6 +21,7 @@ mod headers;
 #[path = "../../rust/src/layout.rs"]
 mod layout;
 mod library;
+mod reading_faults;
 mod sending_faults;
 mod texts;
 
@@ -54,7 +55,7 @@ const PATIENCE: u32 = 10;
 /// How many of the operations before a difference are told.
 const TOLD: usize = 12;
 
-const MIXES: [Mix; 17] = [
+const MIXES: [Mix; 19] = [
     Mix::Noise,
     Mix::Polite,
     Mix::Damaged,
@@ -65,9 +66,11 @@ const MIXES: [Mix; 17] = [
     Mix::Flood,
     Mix::Takings,
     Mix::Sending,
+    Mix::Upload,
     Mix::BrokenJournal,
     Mix::BeyondLimits,
     Mix::OddSending,
+    Mix::OddReader,
     Mix::WrongSizes,
     Mix::WrongLines,
     Mix::FullJournal,
@@ -76,6 +79,17 @@ const MIXES: [Mix; 17] = [
 
 /// Lines that send, and now and then receive in between.
 const SENDINGS: [Mix; 4] = [Mix::Sending, Mix::Sending, Mix::Polite, Mix::OddSending];
+
+/// Lines with strip readers, and what such a line needs besides.
+const READINGS: [Mix; 7] = [
+    Mix::Upload,
+    Mix::Upload,
+    Mix::Takings,
+    Mix::Polite,
+    Mix::OddReader,
+    Mix::FullJournal,
+    Mix::BrokenJournal,
+];
 
 /// When to stop.
 #[derive(Clone, Copy)]
@@ -122,6 +136,7 @@ impl Pair {
     /// One operation on both sides.
     fn step(&mut self, op: Op, counts: &mut Counts) -> Result<(), String> {
         self.past.push(op.clone());
+        let is_reader = self.is_reader(&op);
         let before = self.fault.map(|_| self.library.book.clone());
         let expected = self.world.apply(&op);
         let mut found = self.library.apply(&op);
@@ -131,9 +146,9 @@ impl Pair {
                 None => fault.spoil_fetched(&op, &mut self.library),
             }
         }
-        counts.operation(&op, found);
+        counts.operation(&op, found, is_reader);
         if let Op::Outgoing { .. } = op {
-            counts.fetched(self.library.fetched.made);
+            counts.fetched(self.library.fetched.made, is_reader);
         }
         if let Some(difference) = answer_difference(expected, found) {
             return Err(difference);
@@ -142,6 +157,16 @@ impl Pair {
             Some(difference) => Err(difference),
             None => Ok(()),
         }
+    }
+
+    /// Whether an event or what is fetched is of a line with a strip reader.
+    fn is_reader(&self, op: &Op) -> bool {
+        let line = match *op {
+            Op::Event { line, .. } | Op::Outgoing { line, .. } => usize::from(line),
+            _ => return false,
+        };
+        let reader = self.world.model.readers.get(line);
+        reader.map_or(false, |reader| reader.patient().is_some())
     }
 
     /// A difference, with where it was met and what came before it.
@@ -227,11 +252,13 @@ impl Pair {
     }
 }
 
-/// The traffic of a run: all mixes, or of four runs those of sendings in one and up to three mixes in another.
+/// The traffic of a run: all mixes, or of four runs those of sendings in one, those of readers in another and up
+/// to three mixes in a third.
 fn traffic(run: u64, random: &mut Random) -> Traffic {
     let seed = random.number();
     match run % 4 {
         1 => Traffic::of(seed, &SENDINGS),
+        2 => Traffic::of(seed, &READINGS),
         3 => {
             let mixes: Vec<Mix> = (0..random.between(1, 3))
                 .map(|_| random.pick(&MIXES))

@@ -135,6 +135,7 @@ impl Fault {
             Op::Outgoing { line, .. } => usize::from(line) % LINES,
             _ => return,
         };
+        self.spoil_reader_reply(line, library);
         let made = &mut library.fetched.made;
         let out = library.fetched.out.inside_mut();
         match (self, made.number, made.length) {

@@ -9,6 +9,10 @@ pub(crate) const EOT: u8 = 0x04;
 pub(crate) const ACK: u8 = 0x06;
 const NAK: u8 = 0x15;
 
+/// Our replies to a strip reader, from STX to CR.
+const MOR: &[u8] = b"\x02>\x033?\r";
+const REP: &[u8] = b"\x02?\x033>\r";
+
 /// What an event, a start or a taking was answered: each answer with its number, which is that of its rule in
 /// `docs/RULES.md`.
 ///
@@ -51,6 +55,14 @@ pub enum Answer {
         /// did not reply in 15 seconds, it may have the message even so: a reply may have been lost.
         acknowledged: bool,
     },
+    /// 4: a finding of a strip reader, whose message is in the journal. MOR goes back.
+    Filed,
+    /// 11: a right block of a strip reader that is not to be stored, with our reply to it: MOR where it asks
+    /// to begin, tells colours or repeats what is stored; where it asks for our last reply, that one.
+    Heard(Reply),
+    /// 11: the same, and nothing goes back: the reader has ended, or it asks for our last reply and there is
+    /// none yet.
+    Noted,
     /// 20: ENQ while a transfer is open.
     Busy,
     /// 21: a frame of 246 bytes, and the last is no LF.
@@ -76,6 +88,9 @@ pub enum Answer {
     NoMessage,
     /// 31: the message has no room in the journal.
     NoRoom,
+    /// 31: the message of a strip reader's finding has no room in the journal. Nothing goes back, and nothing
+    /// later is refused for it.
+    Crowded,
     /// 40: the line is not 0 to 7.
     NoLine,
     /// 41: a memory of another size; a [`Gateway`](crate::Gateway) never gets it.
@@ -97,11 +112,46 @@ pub enum Answer {
     },
     /// 46, 50 to 55: the text to send is not a message, so no sending is started.
     NotSent(Refusal),
-    /// 60: a line that receives or sends cannot start to send.
+    /// 60: a line that receives or sends, or that has a strip reader, cannot start to send.
     NotNeutral,
     /// 61: a sending is over, and nothing is to be sent: our ENQ was answered by ENQ, or refused for the sixth
     /// time. The line is neutral.
     GivenUp,
+    /// 70: a block of a strip reader, and no block of its line has so many bytes. REP goes back.
+    OddLength,
+    /// 71: its test bytes are not those of its bytes. REP goes back.
+    OddTest,
+    /// 72: a byte is not what such a block has there. REP goes back.
+    OddByte,
+}
+
+/// What we reply to a strip reader: a block of six bytes.
+#[derive(Clone, Copy, PartialEq, Eq, Debug)]
+pub enum Reply {
+    /// MOR: it may go on.
+    More,
+    /// REP: it is to send the block again.
+    Again,
+}
+
+impl Reply {
+    /// The block, from STX to CR.
+    pub fn bytes(self) -> &'static [u8] {
+        match self {
+            Reply::More => MOR,
+            Reply::Again => REP,
+        }
+    }
+
+    /// The reply that the library wrote.
+    pub(crate) fn of(bytes: &[u8]) -> Reply {
+        let reply = match bytes {
+            [_, b'>', ..] => Reply::More,
+            _ => Reply::Again,
+        };
+        assert_eq!(reply.bytes(), bytes);
+        reply
+    }
 }
 
 impl Answer {
@@ -112,12 +162,13 @@ impl Answer {
             Answer::Opened => 1,
             Answer::Accepted => 2,
             Answer::Repeated => 3,
-            Answer::Stored => 4,
+            Answer::Stored | Answer::Filed => 4,
             Answer::Ended => 5,
             Answer::Dropped => 6,
             Answer::TimedOut => 7,
             Answer::Taken { .. } => 8,
             Answer::Sending { .. } | Answer::SendingEnded { .. } => 9,
+            Answer::Heard(_) | Answer::Noted => 11,
             Answer::Busy => 20,
             Answer::Unended => 21,
             Answer::Torn => 22,
@@ -129,7 +180,7 @@ impl Answer {
             Answer::TooLong => 28,
             Answer::NoCr => 29,
             Answer::NoMessage => 30,
-            Answer::NoRoom => 31,
+            Answer::NoRoom | Answer::Crowded => 31,
             Answer::NoLine => 40,
             Answer::WrongSize => 41,
             Answer::BeyondLimits => 42,
@@ -140,12 +191,15 @@ impl Answer {
             Answer::NotSent(refusal) => refusal.number(),
             Answer::NotNeutral => 60,
             Answer::GivenUp => 61,
+            Answer::OddLength => 70,
+            Answer::OddTest => 71,
+            Answer::OddByte => 72,
         }
     }
 
     /// All that goes to the analyzer with this answer, from its first byte to its last: ACK (06) with 1 to
     /// 4, NAK (15) with 20 to 31 and with [`Answer::Faulty`], our ENQ (05), our EOT (04) or a whole frame
-    /// with 9. It is empty where nothing is to be sent.
+    /// with 9; to a strip reader MOR or REP, whole. It is empty where nothing is to be sent.
     ///
     /// ```
     /// let mut gateway = ngachodui::Gateway::fresh();
@@ -157,7 +211,10 @@ impl Answer {
         match self {
             Answer::Sending { outgoing } => outgoing,
             Answer::SendingEnded { .. } => &[EOT],
-            Answer::NotSent(_) => &[],
+            Answer::NotSent(_) | Answer::Crowded => &[],
+            Answer::Filed => MOR,
+            Answer::Heard(reply) => reply.bytes(),
+            Answer::OddLength | Answer::OddTest | Answer::OddByte => REP,
             answer => match answer.number() {
                 1..=4 => &[ACK],
                 20..=31 | 50..=55 => &[NAK],
@@ -166,7 +223,8 @@ impl Answer {
         }
     }
 
-    /// The answer that the library gave to an event that is none of a sending, or to a taking.
+    /// The answer that the library gave to an event that is none of a sending and no block of a reader, or to a
+    /// taking.
     pub(crate) fn of(answered: Answered) -> Answer {
         let answer = match answered.number {
             0 => Answer::Nothing,
@@ -211,6 +269,22 @@ impl Answer {
         };
         debug_assert_eq!(answer.number(), answered.number);
         debug_assert_eq!(answer.first(), answered.reply);
+        answer
+    }
+
+    /// The answer that the library gave to a block of a strip reader, and what it had fetched as a reply.
+    pub(crate) fn to_block(number: u8, reply: Option<Reply>) -> Answer {
+        let answer = match (number, reply) {
+            (4, _) => Answer::Filed,
+            (11, Some(reply)) => Answer::Heard(reply),
+            (11, None) => Answer::Noted,
+            (31, _) => Answer::Crowded,
+            (70, _) => Answer::OddLength,
+            (71, _) => Answer::OddTest,
+            (72, _) => Answer::OddByte,
+            _ => unreachable!("no answer {} to a block", number),
+        };
+        debug_assert_eq!(answer.outgoing(), reply.map_or(&[][..], Reply::bytes));
         answer
     }
 
@@ -405,6 +479,29 @@ mod tests {
         for acknowledged in [false, true] {
             let answer = Answer::SendingEnded { acknowledged };
             assert_eq!((answer.number(), answer.outgoing()), (9, &[0x04][..]));
+        }
+    }
+
+    #[test]
+    fn a_block_is_answered_with_a_block() {
+        let (more, again) = (Some(Reply::More), Some(Reply::Again));
+        let cases = [
+            (4, more, Answer::Filed),
+            (11, more, Answer::Heard(Reply::More)),
+            (11, again, Answer::Heard(Reply::Again)),
+            (11, None, Answer::Noted),
+            (31, None, Answer::Crowded),
+            (70, again, Answer::OddLength),
+            (71, again, Answer::OddTest),
+            (72, again, Answer::OddByte),
+        ];
+        for (number, reply, expected) in cases {
+            let answer = Answer::to_block(number, reply);
+            assert_eq!((&answer, answer.number()), (&expected, number));
+            assert_eq!(answer.outgoing(), reply.map_or(&[][..], Reply::bytes));
+        }
+        for reply in [Reply::More, Reply::Again] {
+            assert_eq!(Reply::of(reply.bytes()), reply);
         }
     }
 

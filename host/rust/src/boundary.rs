@@ -3,10 +3,13 @@
 //! What the header asks of a host in C holds by the types here: references are never null, are
 //! valid for their lengths, and two `&mut` never overlap. All `unsafe` of the crate is in this file.
 
-use crate::layout::{self, COUNTS, DELIMITERS, NUMBERS};
+use crate::layout::{self, COUNTS, DELIMITERS, LINES, NUMBERS};
 
-/// Each line's numbers, in the order of [`layout`].
+/// Each line's numbers, in the order of [`layout`], and behind them each line's block.
 pub type Numbers = [u16; NUMBERS];
+
+/// What each line is to speak, by number: the only one of its settings.
+pub type Settings = [u16; LINES];
 
 /// Each line's used count, then the bytes of the journal in use.
 pub type Counts = [u32; COUNTS];
@@ -54,6 +57,8 @@ extern "C" {
     fn ngachodui_sizes() -> Layout;
     #[link_name = concat!("ngachodui_fresh_", layout::version!())]
     fn ngachodui_fresh(numbers: *mut u16, counts: *mut u32);
+    #[link_name = concat!("ngachodui_start_", layout::version!())]
+    fn ngachodui_start(settings: *const u16, numbers: *mut u16, counts: *mut u32) -> u8;
     fn ngachodui_byte(
         line: u8,
         byte: u8,
@@ -159,6 +164,10 @@ pub fn own_sizes() -> Layout {
 
 pub fn fresh(numbers: &mut Numbers, counts: &mut Counts) {
     unsafe { ngachodui_fresh(numbers.as_mut_ptr(), counts.as_mut_ptr()) }
+}
+
+pub fn start(settings: &Settings, numbers: &mut Numbers, counts: &mut Counts) -> u8 {
+    unsafe { ngachodui_start(settings.as_ptr(), numbers.as_mut_ptr(), counts.as_mut_ptr()) }
 }
 
 pub fn byte(

@@ -1,13 +1,47 @@
 //! A gateway that owns its memories.
 
-use crate::answers::{Answer, ACK, EOT, STX};
+use crate::answers::{Answer, Reply, ACK, EOT, STX};
 use crate::boundary::{self, Answered, Counts, Numbers};
 use crate::layout::{
     COUNTS, FRAMES_SIZE, FRAME_LIMIT, JOURNAL_SIZE, LINES, NUMBERS, UNFINISHED_SIZE,
 };
 
-/// The number of what answers a sending.
+/// The number of what answers a sending, and of those that answer a block of a strip reader: of these two also
+/// answer a frame, but then not with this reply.
 const SENDING: u8 = 9;
+const STORED: u8 = 4;
+const HEARD: u8 = 11;
+const NO_ROOM: u8 = 31;
+
+/// What a line speaks.
+#[derive(Clone, Copy, PartialEq, Eq, Debug, Default)]
+pub enum Speaks {
+    /// Frames, as E1381 has them.
+    #[default]
+    Frames,
+    /// Blocks of a urine strip reader (Miditron Junior II) that is set up for patient numbers of 10 characters.
+    Strips10,
+    /// The same with 13.
+    Strips13,
+}
+
+impl Speaks {
+    /// By the number that the library has for it.
+    fn number(self) -> u16 {
+        match self {
+            Speaks::Frames => 0,
+            Speaks::Strips10 => 10,
+            Speaks::Strips13 => 13,
+        }
+    }
+}
+
+/// What a line is to be from the start. By default it speaks frames.
+#[derive(Clone, Copy, PartialEq, Eq, Debug, Default)]
+pub struct Settings {
+    /// What the line speaks.
+    pub speaks: Speaks,
+}
 
 /// Eight serial lines and one journal, with all the memory that they need.
 ///
@@ -49,22 +83,70 @@ struct Memory {
     frames: [u8; FRAMES_SIZE],
 }
 
-impl Gateway {
-    /// Every line neutral, the journal empty, all serials 0.
-    ///
-    /// # Panics
-    ///
-    /// If the library was compiled for another layout than this crate.
-    pub fn fresh() -> Gateway {
+impl Memory {
+    /// Nothing in it yet.
+    fn new() -> Box<Memory> {
         assert_eq!(boundary::sizes(), boundary::own_sizes());
-        let mut memory = Box::new(Memory {
+        Box::new(Memory {
             numbers: [0; NUMBERS],
             counts: [0; COUNTS],
             journal: [0; JOURNAL_SIZE],
             unfinished: [0; UNFINISHED_SIZE],
             frames: [0; FRAMES_SIZE],
-        });
+        })
+    }
+}
+
+impl Gateway {
+    /// Every line neutral, the journal empty, all serials 0. Every line speaks frames.
+    ///
+    /// # Panics
+    ///
+    /// If the library was compiled for another layout than this crate.
+    pub fn fresh() -> Gateway {
+        let mut memory = Memory::new();
         boundary::fresh(&mut memory.numbers, &mut memory.counts);
+        Gateway { memory }
+    }
+
+    /// The same where some lines have strip readers. What a line speaks never changes.
+    ///
+    /// A reader's blocks are answered like frames; what goes back to it is a block too. Each finding becomes one
+    /// message, to be taken like any other:
+    ///
+    /// ```
+    /// use ngachodui::{Answer, Gateway, Reply, Settings, Speaks};
+    ///
+    /// let mut settings = [Settings::default(); 8];
+    /// settings[3].speaks = Speaks::Strips10;
+    /// let mut gateway = Gateway::start(settings);
+    ///
+    /// let mut answer = Answer::Nothing;
+    /// for byte in b"\x02<\x033=\r" {
+    ///     answer = gateway.byte(3, *byte); // SPM: the reader asks whether it may begin
+    /// }
+    /// assert_eq!(answer, Answer::Heard(Reply::More));
+    /// assert_eq!(answer.outgoing(), b"\x02>\x033?\r"); // MOR
+    /// for byte in b"\x02;E 4711       00012 15.03.01 09:30 SG1.030      PH  7      LEU     500/ul ++++ \
+    ///     NITpos pos  PRO   0.75 g/l ++++ GLU  56 mmol/l ++++ KET 0.5 mmol/l   ++ UBG  68 umol/l ++++ \
+    ///     BIL  50 umol/l ++++ ERY      25/ul ++++ NAG                 \x0330\r" {
+    ///     answer = gateway.byte(3, *byte);
+    /// }
+    /// assert_eq!(answer, Answer::Filed);
+    ///
+    /// let mut buffer = [0; ngachodui::TEXT_LIMIT];
+    /// gateway.take(3, &mut buffer);
+    /// assert!(buffer.starts_with(b"H|\\^&\rP|1|4711\rO|1|00012\rR|1|SG|1.030\rR|2|PH|7\r"));
+    /// ```
+    ///
+    /// # Panics
+    ///
+    /// If the library was compiled for another layout than this crate.
+    pub fn start(settings: [Settings; LINES]) -> Gateway {
+        let mut memory = Memory::new();
+        let speaks = settings.map(|line| line.speaks.number());
+        let number = boundary::start(&speaks, &mut memory.numbers, &mut memory.counts);
+        assert_eq!(number, 0, "the library knows what a line may speak");
         Gateway { memory }
     }
 
@@ -100,9 +182,10 @@ impl Gateway {
             &mut memory.unfinished,
             &mut memory.frames,
         );
-        match answered.number {
+        match (answered.number, answered.reply) {
             // Our EOT behind one of these two says that there was no frame left to acknowledge.
-            SENDING => self.sending(line, answered, matches!(byte, ACK | EOT)),
+            (SENDING, _) => self.sending(line, answered, matches!(byte, ACK | EOT)),
+            (STORED, STX) | (HEARD, _) | (NO_ROOM, 0) | (70..=72, _) => self.block(line, answered),
             _ => Answer::of(answered),
         }
     }
@@ -188,6 +271,15 @@ impl Gateway {
         }
     }
 
+    /// The answer to a block of a strip reader, with our reply.
+    fn block(&self, line: u8, answered: Answered) -> Answer {
+        let reply = match answered.reply {
+            STX => Some(Reply::of(&self.frame(line))),
+            _ => None,
+        };
+        Answer::to_block(answered.number, reply)
+    }
+
     /// Answer 9, with all that is to be sent.
     fn sending(&self, line: u8, answered: Answered, acknowledged: bool) -> Answer {
         let outgoing: Box<[u8]> = match answered.reply {
@@ -199,7 +291,7 @@ impl Gateway {
         Answer::Sending { outgoing }
     }
 
-    /// The frame that a line offers.
+    /// The frame that a line offers, or our last reply to its reader.
     fn frame(&self, line: u8) -> Box<[u8]> {
         let mut frame = [0; FRAME_LIMIT];
         let memory = &*self.memory;
@@ -422,6 +514,102 @@ mod tests {
         gateway.send(4, TEXT);
         assert_eq!(gateway.byte(4, 0x05), Answer::GivenUp);
         assert_eq!(gateway.byte(4, 0x05), Answer::Opened);
+    }
+
+    /// A gateway whose lines 1 and 6 have strip readers.
+    fn with_readers() -> Gateway {
+        let mut settings = [Settings::default(); LINES];
+        settings[1].speaks = Speaks::Strips10;
+        settings[6].speaks = Speaks::Strips13;
+        Gateway::start(settings)
+    }
+
+    const SPM: &[u8] = b"\x02<\x033=\r";
+
+    /// A finding of patient 4711, for patient numbers of 10 or of 13 characters.
+    fn finding(patient: usize) -> Vec<u8> {
+        let mut block = format!("\x02;E {:<1$} 00012 15.03.01 09:30 ", "4711", patient);
+        for (name, length) in [("SG1.030", 13), ("PH  7", 11), ("LEU     500/ul ++++", 20)] {
+            block += &format!("{:<1$}", name, length);
+        }
+        block += &format!("{:<12}", "NITpos pos");
+        for name in ["PRO", "GLU", "KET", "UBG", "BIL", "ERY", "NAG"] {
+            block += &format!("{:<20}", name);
+        }
+        let mut block = block.into_bytes();
+        block.push(0x03);
+        let test = block.iter().fold(0, |test, byte| test ^ byte);
+        block.extend([0x30 | test >> 4, 0x30 | test & 15, b'\r']);
+        block
+    }
+
+    /// The answer to the last of these bytes, the others being collected.
+    fn last(gateway: &mut Gateway, line: u8, bytes: &[u8]) -> Answer {
+        let (last, before) = bytes.split_last().expect("a byte");
+        for byte in before {
+            assert_eq!(gateway.byte(line, *byte), Answer::Nothing);
+        }
+        gateway.byte(line, *last)
+    }
+
+    #[test]
+    fn readers_of_both_sorts() {
+        let mut gateway = with_readers();
+        for (line, patient) in [(1, 10), (6, 13)] {
+            let block = finding(patient);
+            assert_eq!(block.len(), 226 + patient);
+            let more = Answer::Heard(Reply::More);
+            assert_eq!(last(&mut gateway, line, SPM), more);
+            assert_eq!(last(&mut gateway, line, &block), Answer::Filed);
+            assert_eq!(last(&mut gateway, line, SPM), more);
+            // The same again, with SPM between: it is not stored.
+            assert_eq!(last(&mut gateway, line, &block), more);
+            assert_eq!(last(&mut gateway, line, b"\x02:\x033;\r"), Answer::Noted);
+            let mut buffer = [0; crate::TEXT_LIMIT];
+            let length = match gateway.take(line, &mut buffer) {
+                Answer::Taken { length, serial: 0 } => length,
+                answer => panic!("{:?}", answer),
+            };
+            assert!(crate::is_message(&buffer[..length]));
+            assert!(buffer.starts_with(b"H|\\^&\rP|1|4711\rO|1|00012\rR|1|SG|1.030\r"));
+            assert_eq!(gateway.take(line, &mut buffer), Answer::NothingWaiting);
+        }
+        assert_eq!(gateway.byte(0, 0x05), Answer::Opened);
+        assert_eq!(gateway.send(1, TEXT), Answer::NotNeutral);
+        assert_eq!(gateway.seconds(1, 255), Answer::Nothing);
+    }
+
+    #[test]
+    fn a_reader_is_asked_to_send_again() {
+        let mut gateway = with_readers();
+        let rep = b"\x02?\x033>\r";
+        assert_eq!(last(&mut gateway, 1, rep), Answer::Noted);
+        for (block, answer) in [
+            (&b"\x02\r"[..], Answer::OddLength),
+            (b"\x02<\x033C\r", Answer::OddTest),
+            (b"\x02>\x033?\r", Answer::OddByte),
+        ] {
+            assert_eq!(last(&mut gateway, 1, block), answer);
+            assert_eq!(answer.outgoing(), rep);
+        }
+        let again = Answer::Heard(Reply::Again);
+        assert_eq!(last(&mut gateway, 1, rep), again);
+        assert_eq!(again.outgoing(), rep);
+    }
+
+    #[test]
+    fn a_finding_without_room() {
+        let mut gateway = with_readers();
+        let block = finding(10);
+        let mut told = last(&mut gateway, 1, &block);
+        while told == Answer::Filed {
+            told = last(&mut gateway, 1, &block);
+        }
+        assert_eq!(told, Answer::Crowded);
+        assert_eq!(told.outgoing(), []);
+        let mut buffer = [0; crate::TEXT_LIMIT];
+        assert_eq!(gateway.take(1, &mut buffer).number(), 8);
+        assert_eq!(last(&mut gateway, 1, &block), Answer::Filed);
     }
 
     #[test]

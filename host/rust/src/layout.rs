@@ -2,11 +2,11 @@
 //! here once; `include/ngachodui.h` tells it for C.
 #![allow(dead_code)] // each program uses some of it
 
-/// The version of this layout, changed here alone: by it the library's function that makes a gateway
-/// fresh has its name, so that a program of another version does not link.
+/// The version of this layout, changed here alone: by it the library's functions that make a gateway
+/// fresh have their names, so that a program of another version does not link.
 macro_rules! version {
     () => {
-        2
+        3
     };
 }
 pub(crate) use version;
@@ -29,10 +29,19 @@ pub const REFUSING: usize = 6;
 pub const SERIAL: usize = 7;
 pub const TRIES: usize = 8;
 pub const PLACE: usize = 9;
-pub const SPARE: usize = 10;
+pub const SPEAKS: usize = 10;
+pub const REPLY: usize = 11;
+pub const SINCE: usize = 12;
+pub const KEPT: usize = 13;
+pub const SPARE: usize = 14;
+
+/// The longest block of a strip reader, in bytes: so many numbers each line has for the last one that was
+/// stored, behind those of all lines.
+pub const BLOCK_LIMIT: usize = 239;
+pub const BLOCKS: usize = LINES * FIELDS;
 
 /// How many numbers all lines have.
-pub const NUMBERS: usize = LINES * FIELDS;
+pub const NUMBERS: usize = BLOCKS + LINES * BLOCK_LIMIT;
 
 /// Where the bytes in use stand: behind each line's used count. How many counts that makes.
 pub const IN_USE: usize = LINES;

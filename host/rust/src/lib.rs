@@ -2,8 +2,10 @@
 //!
 //! Analyzers send frames (ASTM E1381) with records (E1394) down eight serial lines. A [`Gateway`]
 //! takes the bytes as they come, says what to send to the analyzer, and keeps each whole message until the
-//! host takes it. It also sends messages of the host's, work orders, down the same lines. [`cut`], [`read`], [`escape`], [`unescape`] and [`is_message`] work on texts alone; each
-//! message names its own [`Delimiters`].
+//! host takes it. It also sends messages of the host's, work orders, down the same lines. On lines that are
+//! set so at the start ([`Settings`]) it is urine strip readers that send, and each finding becomes a message.
+//! [`cut`], [`read`], [`escape`], [`unescape`] and [`is_message`] work on texts alone; each message names its
+//! own [`Delimiters`].
 //!
 //! The work is done by a library whose every function is proved to do what its contract says. This
 //! crate adds the memory and the names, and nothing of it is `unsafe` to use.
@@ -18,7 +20,7 @@ mod gateway;
 mod layout;
 mod texts;
 
-pub use answers::{Answer, Fault, Refusal};
-pub use gateway::Gateway;
+pub use answers::{Answer, Fault, Refusal, Reply};
+pub use gateway::{Gateway, Settings, Speaks};
 pub use layout::{CUT_LIMIT, LINES, SHARE, TEXT_LIMIT, VERSION};
 pub use texts::{cut, escape, is_message, read, unescape, Delimiters, Record};

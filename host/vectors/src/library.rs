@@ -1,7 +1,9 @@
 //! The library with the memory that a host lends it.
 
 use crate::boundary::{self, Answered, Counts, Made, Numbers};
-use crate::layout::{COUNTS, FIELDS, FRAME_LIMIT, IN_USE, LINES, NUMBERS, SERIAL};
+use crate::layout::{
+    BLOCKS, BLOCK_LIMIT, COUNTS, FIELDS, FRAME_LIMIT, IN_USE, LINES, NUMBERS, SERIAL,
+};
 
 /// What a buffer holds before a frame is fetched into it: no byte of a frame.
 pub const FILLER: u8 = 0x7F;
@@ -75,6 +77,11 @@ impl Gateway {
         boundary::fresh(&mut self.numbers, &mut self.counts);
     }
 
+    /// Fresh again, with what each line speaks; the number that the library answers.
+    pub fn start(&mut self, settings: &[u16; LINES]) -> u8 {
+        boundary::start(settings, &mut self.numbers, &mut self.counts)
+    }
+
     pub fn byte(&mut self, line: u8, byte: u8) -> Answered {
         boundary::byte(
             line,
@@ -114,8 +121,8 @@ impl Gateway {
         boundary::outgoing(line, &self.numbers, self.unfinished.show(), out)
     }
 
-    /// All that goes to the analyzer where an answer tells its first byte: nothing, that byte, or the frame that
-    /// is fetched for it.
+    /// All that goes to the analyzer where an answer tells its first byte: nothing, that byte, or the frame or
+    /// block that is fetched for it.
     pub fn sent(&self, line: u8, first: u8) -> Vec<u8> {
         match first {
             0 => Vec::new(),
@@ -141,6 +148,15 @@ impl Gateway {
     /// A line's numbers: its record, and its next serial among them.
     pub fn line(&self, line: usize) -> &[u16] {
         &self.numbers[FIELDS * line..][..FIELDS]
+    }
+
+    /// The last stored block of a line's reader, a byte to a number.
+    pub fn block(&self, line: usize) -> &[u16] {
+        &self.numbers[BLOCKS + BLOCK_LIMIT * line..][..BLOCK_LIMIT]
+    }
+
+    pub fn block_mut(&mut self, line: usize) -> &mut [u16] {
+        &mut self.numbers[BLOCKS + BLOCK_LIMIT * line..][..BLOCK_LIMIT]
     }
 
     pub fn number(&mut self, line: usize, field: usize) -> &mut u16 {

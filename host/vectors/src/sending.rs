@@ -13,7 +13,7 @@
 //!     u L TEXT               TEXT stands at the start of line L's unfinished text
 //!     a, c, j, s, n          line L's state, collected, joined and second count, next number
 //!     l, r, t, p             its last number and one more, refusing, tries, place
-//!     x, Z                   its six spare numbers, its next serial
+//!     x, Z                   its two spare numbers, its next serial
 
 use crate::boundary::Answered;
 use crate::layout::*;

@@ -526,6 +526,12 @@ impl Writer<'_> {
                 }
             }
         }
+        // Only of this one the size is asked where something is fetched.
+        if memory == Memory::Unfinished {
+            for line in World::lines() {
+                self.script.fetch(line, 247);
+            }
+        }
         if beyond {
             let count = world.model.lines[usize::from(line)].collected as u16;
             self.script.push(Op::Collected { line, count });

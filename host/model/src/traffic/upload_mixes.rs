@@ -199,8 +199,15 @@ impl Writer<'_> {
         let reader = &world.model.readers[usize::from(self.line)];
         let patient = reader.patient().unwrap_or(Patient::Ten);
         let mut back = Vec::new();
+        let mut is_beyond = false;
         for _ in 0..self.random.between(1, 3) {
-            self.odd_number(world, &mut back);
+            is_beyond |= self.odd_number(world, &mut back);
+        }
+        // All of it would be answered 42: a few events do.
+        if is_beyond {
+            self.short_calls();
+            self.script.ops.extend(back);
+            return;
         }
         // A block that is nearly whole, then its last bytes.
         if self.random.once_in(2) {
@@ -228,14 +235,23 @@ impl Writer<'_> {
         self.script.ops.extend(back);
     }
 
-    /// One number of the reader, or of the kept block, at its limit or beyond.
-    fn odd_number(&mut self, world: &World, back: &mut Vec<Op>) {
+    /// One of each that is done with a line.
+    fn short_calls(&mut self) {
+        self.noise();
+        self.script.seconds(self.line, 1);
+        self.script.fetch(self.line, 6);
+        let text = right(self.random, 30);
+        self.script.start(self.line, text);
+    }
+
+    /// One number of the reader, or of the kept block, at its limit or beyond; whether it is beyond.
+    fn odd_number(&mut self, world: &World, back: &mut Vec<Op>) -> bool {
         let line = self.line;
         if self.random.once_in(4) {
             let place = self.random.below(239);
             let value = self.random.pick(&[0, 2, 0x20, 255, 256, 0x120, 65_535]);
             self.script.push(Op::Block { line, place, value });
-            return;
+            return false;
         }
         let number = self.random.pick(&Number::ALL);
         let value = match number {
@@ -252,9 +268,11 @@ impl Writer<'_> {
             value,
         };
         self.script.push(op(value));
-        if number == Number::Speaks || !reader.is_within_limits() || self.random.once_in(2) {
+        let is_beyond = !reader.is_within_limits();
+        if number == Number::Speaks || is_beyond || self.random.once_in(2) {
             back.push(op(old));
         }
+        is_beyond
     }
 
     /// A block in the line's part of the frames; it may be the kept one.

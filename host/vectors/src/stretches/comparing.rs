@@ -47,6 +47,11 @@ pub fn states(was: &Gateway, is: &Gateway) -> bool {
             parts.push(format!("record differs of line {}", line));
         }
     }
+    for line in 0..LINES {
+        if was.block(line) != is.block(line) {
+            parts.push(format!("kept block differs of line {}", line));
+        }
+    }
     let serials = |gateway: &Gateway| {
         (0..LINES)
             .map(|line| gateway.line(line)[SERIAL])

@@ -10,6 +10,9 @@
 //!     O L N        a start of a sending on line L, a work order of N bytes; where no message has so few, it is
 //!                  refused
 //!     T L N        a taking from line L with a buffer of N bytes
+//!     Y L N        line L speaks N from the trace's start: 0, or 10 or 13 with a strip reader
+//!     K L WORD     a block of line L's reader: SPM, REP, END, EN or DN with the sequence number N, and with x behind
+//!                  it one that is spoilt
 //!     : STEP       a piece, with a dot for its line;   X L N   N pieces on line L, chosen by dice
 //!     D 0 N        the dice start from N
 //!     W K          what is queued goes on the trace: as it stands for K 0, else the eight lines and the
@@ -24,6 +27,7 @@ mod running;
 mod telling;
 mod weaving;
 
+use crate::layout::LINES;
 use crate::script::{each, nothing, piece, Said, Step};
 use items::Item;
 use queueing::{Queued, Queues};
@@ -35,6 +39,7 @@ const MOST: usize = 999_999;
 
 /// What stands for a trace so far.
 struct Bench {
+    settings: [u16; LINES],
     queues: Queues,
     trace: Vec<Item>,
     dice: Dice,
@@ -43,6 +48,7 @@ struct Bench {
 impl Bench {
     fn new() -> Bench {
         Bench {
+            settings: [0; LINES],
             queues: Queues::new(),
             trace: Vec::new(),
             dice: Dice(1),
@@ -52,6 +58,11 @@ impl Bench {
     fn step(&mut self, step: &Step, pieces: &[Queued]) -> Result<(), String> {
         match step.letter {
             'D' => self.dice = Dice(step.plain_number(MOST)? as u64),
+            'Y' => {
+                let speaks = step.number(13)? as u16;
+                self.settings[step.line()?] = speaks;
+                self.queues.speaks(step.line()?, speaks);
+            }
             'X' => {
                 let line = step.line()? as u8;
                 for _ in 0..step.number(MOST)? {
@@ -104,7 +115,8 @@ pub fn run(script: &str) -> Result<bool, String> {
                 if !bench.queues.is_empty() {
                     return Err("what is queued is not on the trace".to_string());
                 }
-                telling::tell(&bench.trace, Telling::read(step.digit)?, &mut totals);
+                let telling = Telling::read(step.digit)?;
+                telling::tell(&bench.trace, &bench.settings, telling, &mut totals);
             }
             Said::Step(step) => bench.step(&step, &pieces)?,
         }

@@ -2,6 +2,7 @@
 
 use super::items::Item;
 use super::MOST;
+use crate::blocks;
 use crate::boundary;
 use crate::frames::{frame, next_number, AROUND_TEXT, CR, ENQ, ETB, ETX};
 use crate::layout::{LINES, TEXT_LIMIT};
@@ -27,7 +28,21 @@ pub enum Queued {
     Message(usize),
     /// The start of a sending of such a message.
     Start(usize),
+    /// A block of the line's strip reader, and whether it is spoilt on its way.
+    Block {
+        kind: Kind,
+        spoilt: bool,
+    },
     Taking(usize),
+}
+
+/// What a block of a strip reader is.
+#[derive(Clone, Copy)]
+pub enum Kind {
+    Control(u8),
+    /// With this sequence number.
+    Finding(usize),
+    Colours(usize),
 }
 
 /// How a frame is numbered.
@@ -54,10 +69,28 @@ impl Queued {
             },
             'M' => Queued::Message(number(TEXT_LIMIT)?),
             'O' => Queued::Start(number(TEXT_LIMIT)?),
+            'K' => block(needed(rest)?)?,
             'T' => Queued::Taking(number(MOST_LENT)?),
             _ => return unknown(letter),
         })
     }
+}
+
+/// A block by its word.
+fn block(word: &str) -> Result<Queued, String> {
+    let (name, spoilt) = match word.strip_suffix('x') {
+        Some(name) => (name, true),
+        None => (word, false),
+    };
+    let kind = match (name, name.split_at(name.len().min(1))) {
+        ("SPM", _) => Kind::Control(b'<'),
+        ("REP", _) => Kind::Control(b'?'),
+        ("END", _) => Kind::Control(b':'),
+        (_, ("E", number)) => Kind::Finding(decimal(number, 99_999)?),
+        (_, ("D", number)) => Kind::Colours(decimal(number, 99_999)?),
+        _ => return Err(format!("'{}' is no block", word)),
+    };
+    Ok(Queued::Block { kind, spoilt })
 }
 
 /// A frame's number, its end, and its text.
@@ -85,10 +118,11 @@ fn framed(words: &str) -> Result<Queued, String> {
     })
 }
 
-/// What is queued, in the script's order, and the number of each line's next frame.
+/// What is queued, in the script's order, the number of each line's next frame, and what each line speaks.
 pub struct Queues {
     items: Vec<Item>,
     numbers: [u8; LINES],
+    speaks: [u16; LINES],
 }
 
 impl Queues {
@@ -96,7 +130,13 @@ impl Queues {
         Queues {
             items: Vec::new(),
             numbers: [1; LINES],
+            speaks: [0; LINES],
         }
+    }
+
+    /// What a line speaks.
+    pub fn speaks(&mut self, line: usize, speaks: u16) {
+        self.speaks[line] = speaks;
     }
 
     pub fn is_empty(&self) -> bool {
@@ -123,6 +163,7 @@ impl Queues {
                 length: *length,
                 salt: self.items.len(),
             }),
+            Queued::Block { kind, spoilt } => self.block(line, *kind, *spoilt),
             Queued::Taking(lends) => self.items.push(Item::Taking {
                 line,
                 lends: *lends,
@@ -134,6 +175,19 @@ impl Queues {
     fn bytes(&mut self, line: u8, bytes: &[u8]) {
         self.items
             .extend(bytes.iter().map(|&byte| Item::Byte { line, byte }));
+    }
+
+    fn block(&mut self, line: u8, kind: Kind, spoilt: bool) {
+        let characters = blocks::characters(self.speaks[usize::from(line)]);
+        let mut block = match kind {
+            Kind::Control(code) => blocks::control(code),
+            Kind::Finding(number) => blocks::finding(characters, number),
+            Kind::Colours(number) => blocks::colours(characters, number),
+        };
+        if spoilt {
+            block[1] ^= 0x40;
+        }
+        self.bytes(line, &block);
     }
 
     /// ENQ; the line's frames are numbered from 1 again.

@@ -4,7 +4,7 @@
 use super::items::Item;
 use super::queueing::message;
 use crate::boundary::Answered;
-use crate::layout::{FRAMES_SIZE, JOURNAL_SIZE, UNFINISHED_SIZE};
+use crate::layout::{FRAMES_SIZE, JOURNAL_SIZE, LINES, UNFINISHED_SIZE};
 use crate::library::Gateway;
 
 /// The answer to an item, and the buffer of a taking, whole, or all that goes out with the answer.
@@ -15,10 +15,14 @@ pub struct Outcome {
 }
 
 impl Outcome {
-    /// Whether a message is decided by it: stored or finally refused. A text that is not sent, whose fault has
-    /// no reply, decides nothing.
+    /// Whether a message is decided by it: stored or finally refused; of a strip reader stored or without room,
+    /// and then without a reply. A text that is not sent, whose fault has no reply, decides nothing.
     pub fn decides(&self) -> bool {
-        self.answer.reply != 0 && matches!(self.answer.number, 4 | 30 | 31 | 50..=53 | 55)
+        match self.answer.number {
+            4 | 30 | 31 => true,
+            50..=53 | 55 => self.answer.reply != 0,
+            _ => false,
+        }
     }
 }
 
@@ -27,14 +31,16 @@ fn filled(size: usize) -> Vec<u8> {
     (0..size).map(|i| (i % 251) as u8 + 1).collect()
 }
 
-/// The outcomes of the items that the order has, in its order, and what they leave.
-pub fn run(trace: &[Item], order: &[usize]) -> (Vec<Outcome>, Gateway) {
+/// The outcomes of the items that the order has, in its order, and what they leave; what each line speaks is
+/// set before.
+pub fn run(trace: &[Item], settings: &[u16; LINES], order: &[usize]) -> (Vec<Outcome>, Gateway) {
     let memory = |size| filled(size).into();
     let mut gateway = Gateway::fresh(
         memory(JOURNAL_SIZE),
         memory(UNFINISHED_SIZE),
         memory(FRAMES_SIZE),
     );
+    assert_eq!(gateway.start(settings), 0, "a line speaks what is nothing");
     let outcomes = order
         .iter()
         .map(|&k| step(&mut gateway, trace[k]))

@@ -73,8 +73,8 @@ fn stretches(trace: &[Item], outcomes: &[Outcome]) -> (Vec<Vec<usize>>, Vec<Vec<
     (whole, pending)
 }
 
-/// How often each answer came, by its number, of which 61 is the highest.
-const ANSWERS: usize = 62;
+/// How often each answer came, by its number, of which 72 is the highest.
+const ANSWERS: usize = 73;
 type Counts = [u64; ANSWERS];
 
 fn show_counts(counts: &Counts) {
@@ -122,15 +122,15 @@ impl Totals {
 }
 
 /// Runs a trace, tells it again and compares.
-pub fn tell(trace: &[Item], telling: Telling, totals: &mut Totals) {
+pub fn tell(trace: &[Item], settings: &[u16; LINES], telling: Telling, totals: &mut Totals) {
     let as_it_is: Vec<usize> = (0..trace.len()).collect();
-    let (outcomes, gateway) = run(trace, &as_it_is);
+    let (outcomes, gateway) = run(trace, settings, &as_it_is);
     let order = telling.order(trace, &outcomes);
     let counts = show_sizes(trace, telling, &outcomes, &order);
     let used: Vec<String> = gateway.counts[..LINES].iter().map(u32::to_string).collect();
     println!("  in use {}, used {}", gateway.in_use(), used.join(" "));
 
-    let (again, end) = run(trace, &order);
+    let (again, end) = run(trace, settings, &order);
     let same_answers = comparing::answers(&order, &outcomes, &again);
     let same_state = comparing::states(&gateway, &end);
     let same = same_answers && same_state;

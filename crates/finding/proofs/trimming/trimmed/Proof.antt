@@ -1,13 +1,10 @@
 -- `finding::trimming::trimmed` meets its contract.
 -- Assumes nothing.
-use mathlib.Core.Path.{_≡_, sym, ap, _∙_}
-use Prim.Native.Nat.{_≤_}
-use native.Mathlib.Omega.{arith}
+use mathlib.Core.Path.{sym, ap, _∙_}
 use borrow.Author.Needs.{needs}
-use lib.ListN.{length, take, drop}
 use lib.Seq.{length-take-le}
 use denote.Ref.{now}
-use Rattle.records.proofs.Scans.{tailAt, rest-part}
+use Rattle.records.proofs.Scans.{rest-part}
 use Rattle.finding.specs.Trimmed.{trimmedBack}
 use Rattle.finding.proofs.trimming.trimmed.Statement.{statement}
 use Rattle.finding.proofs.trimming.trimmed.Tie as tie
