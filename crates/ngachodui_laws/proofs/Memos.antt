@@ -7,10 +7,10 @@ use mathlib.Core.List.{List, [], _∷_}
 use Prim.Native.Nat.{ℕ, zero, suc, _+_, _≤_, _<_}
 use native.Mathlib.Decide.{decLt, ℕ-discrete}
 use native.Mathlib.Omega.{arith}
-use borrow.Author.Tests.{le-leb, eqb-true}
+use borrow.Author.Tests.{leb-true, le-leb}
 use lib.Dec.{eqb, leb, ltb}
 use lib.ListN.{length, getD, set, length-set}
-use lib.Seq.{sets, length-sets, set-comm, getD-set-same}
+use lib.Seq.{sets, length-sets, getD-set-same}
 use Rattle.memory.specs.Sizes.{lines}
 use Rattle.memory.proofs.Tests.{clash, and-left, and-right, and-both}
 use Rattle.settings.specs.Settings.{blockLimit, resultsLength}
@@ -22,7 +22,7 @@ use Rattle.journal.specs.declared.Ledger.{Ledger}
 use Rattle.line.specs.Line.{mostCollected, blockWithin}
 use Rattle.line.specs.declared.Line.{Line}
 use Rattle.layout.specs.Layout.{fields, speaksAt, keptAt, start, numberAt, blockStart, numbersSize}
-use Rattle.ledger.specs.Ledgers.{ledgerOf, withSerial}
+use Rattle.ledger.specs.Ledgers.{ledgerOf}
 use Rattle.strips.specs.Readers.{Memo}
 use Rattle.strips.specs.Replies.{repliedOf, replyNumber}
 use Rattle.strips.specs.declared.Reader.{Reader}
@@ -30,6 +30,8 @@ use Rattle.strips.specs.declared.Replied.{Replied}
 use Rattle.strips.specs.declared.Replied.the-variants.{NoneYet, More, Again}
 use Rattle.numbers.specs.Plain.{mostReply, readerFits, blockFits, speechFits, withinNumbers, dialogueOf, lineOf}
 use Rattle.keeping.specs.Keeping.{yes as flag, readerOf, numbersFrom, keptBlock, memoOf, withReader, withBlock, withMemo}
+use Rattle.ledger.proofs.Ledgers.{again}
+use Rattle.keeping.proofs.Blocks.{put-again}
 use Rattle.ngachodui_laws.proofs.Stores.{sets-before, sets-behind, sets-in, numbers-alike, stored, stored-length, number-other, spare-stays, collected-own, line-alike, within-alike, fits-alike, all-within-alike, line-other, line-own, within-other, readers-stay, counts-facts, within-by}
 
 -- what was put is read
@@ -154,18 +156,38 @@ module _ (ns : List ℕ) (i : ℕ) (w : Memo) where
         pub fits-own : readerFits kept i ≡ true
         fits-own = rw (reply-own, since-own, kept-own, le-leb _ _ (reply-low (w .reader .reply)), le-leb _ _ (flag-low (w .reader .since)), le-leb _ _ (flag-low (w .reader .kept)))
 
--- it makes no difference whether a serial is put before it or behind it
-set-past : (vs ns : List ℕ) (at p v : ℕ) → p < at → set (sets ns at vs) p v ≡ sets (set ns p v) at vs
-set-past [] ns at p v h = refl
-set-past (a ∷ vs) ns at p v h =
-    set-past vs (set ns at a) (suc at) p v (omega arith) ∙ ap (λ (x : List ℕ). sets x (suc at) vs) (set-comm ns at p a v (λ q. absurd (omega arith)))
+-- as they are
+reply-number : (n : ℕ) → n ≤ mostReply → replyNumber (repliedOf n) ≡ n
+reply-number zero h = refl
+reply-number (suc zero) h = refl
+reply-number (suc (suc zero)) h = refl
+reply-number (suc (suc (suc n))) h = absurd (omega arith)
 
-pub serial-first : (ns : List ℕ) (i : ℕ) (w : Memo) (d : Ledger) → i < lines → withSerial (withMemo ns i w) i d ≡ withMemo (withSerial ns i d) i w
-serial-first ns i w d h =
-    ap (λ (x : List ℕ). withSerial x i d) (as-rows ns i w)
-    ∙ set-past (w .block) (marked ns i w) (blockStart i) (start i + 7) (getD (d .serials) i 0) (omega arith)
-    ∙ ap (λ (x : List ℕ). sets x (blockStart i) (w .block)) (set-past (readerNumbers ns i w) ns (start i + 11) (start i + 7) (getD (d .serials) i 0) (omega arith))
-    ∙ sym (as-rows (withSerial ns i d) i w)
+flag-number : (n : ℕ) → n ≤ 1 → flag (eqb n 1) ≡ n
+flag-number zero h = refl
+flag-number (suc zero) h = refl
+flag-number (suc (suc n)) h = absurd (omega arith)
+
+pub record ReaderNumbers (ns : List ℕ) (i : ℕ) : Type 0 where
+  pub reply : replyNumber (readerOf ns i .reply) ≡ numberAt ns i 11
+  pub since : flag (readerOf ns i .since) ≡ numberAt ns i 12
+  pub kept : flag (readerOf ns i .kept) ≡ numberAt ns i 13
+
+pub reader-numbers : (ns : List ℕ) (i : ℕ) → readerFits ns i ≡ true → ReaderNumbers ns i
+reader-numbers ns i e =
+    let rest = and-right (leb (numberAt ns i 11) mostReply) _ e in
+    record {
+      reply = reply-number (numberAt ns i 11) (leb-true _ _ (and-left (leb (numberAt ns i 11) mostReply) _ e));
+      since = flag-number (numberAt ns i 12) (leb-true _ _ (and-left (leb (numberAt ns i 12) 1) _ rest));
+      kept = flag-number (numberAt ns i 13) (leb-true _ _ (and-right (leb (numberAt ns i 12) 1) _ rest));
+    }
+
+pub memo-back : (ns : List ℕ) (i : ℕ) → readerFits ns i ≡ true → withMemo ns i (memoOf ns i) ≡ ns
+unfolding withReader
+memo-back ns i e =
+    let r = reader-numbers ns i e in
+    rw (again ns (start i + 11) (replyNumber (readerOf ns i .reply)) (r .reply), again ns (start i + 12) (flag (readerOf ns i .since)) (r .since), again ns (start i + 13) (flag (readerOf ns i .kept)) (r .kept))
+    (put-again ns (blockStart i) blockLimit)
 
 -- no number of a record is among them: each line's record is read as before, and so are its serials
 module _ (ns : List ℕ) (i : ℕ) (w : Memo) (h : i < lines) where

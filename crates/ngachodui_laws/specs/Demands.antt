@@ -32,7 +32,7 @@ use Rattle.layout.specs.Layout.{Fresh, serialAt, numberAt}
 use Rattle.numbers.specs.Plain.{lineOf}
 use Rattle.calls.specs.Calls.{HostState}
 use Rattle.ngachodui_laws.specs.Hosting.{isRefusal}
-use Rattle.ngachodui_laws.specs.HostRuns.{gatewayState, freshHost, HostResponse, hostStep, numberTo, replyTo, after, decides, Run, historyOf, endOf}
+use Rattle.ngachodui_laws.specs.HostRuns.{gatewayState, startedHost, freshHost, beginOf, HostResponse, hostStep, numberTo, replyTo, after, decides, Run, historyOf, endOf}
 use Rattle.ngachodui_laws.specs.Sound.{Intact, Sound}
 use Rattle.ngachodui_laws.specs.Outcomes.{Allows, ignores, lineIn, LineKept, StoreKept}
 use Rattle.ngachodui_laws.specs.Deciding.{DecidedExactly}
@@ -108,7 +108,7 @@ pub record Demands : Type 0 where
   -- which the texts were decided, the takings among these where they were, and the lines' rests last, in any order of the lines. Every call then gets the same
   -- answer, a taking the same buffer, and the host ends with the same numbers and bytes.
   pub stretches : (r : Run) (order : List ℕ) → OrderOf lines order → (zs : List (GatewayItem × HostResponse)) → Rearranged decides lines order (historyOf r) zs
-      → GoesAlike hostStep (freshHost (r .memory)) (r .calls) zs
+      → GoesAlike hostStep (beginOf r) (r .calls) zs
   --
   -- There is such a telling, and `serialize` computes it.
   pub stretches-met : (r : Run) (order : List ℕ) → OrderOf lines order → Rearranged decides lines order (historyOf r) (serialize decides order (historyOf r))
