@@ -40,5 +40,6 @@ callOf s e =
     (putBack s (e .line) (stepOf todaysShares (lineOf (s .numbers) (e .line)) (ledgerOf (s .numbers) (s .counts)) e (s .memory)))
     (λ p. putUpload s (e .line) (uploadOf todaysShares p (lineOf (s .numbers) (e .line)) (memoOf (s .numbers) (e .line)) (ledgerOf (s .numbers) (s .counts)) e (s .memory))))))
 
+-- what an event says: its answer, and every number and byte that the host keeps then [P1]
 abbrev pub Calling : HostState → Event → Answered → HostState → Type 0
 Calling s e r t = Called (callOf s e) r t

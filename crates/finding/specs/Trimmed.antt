@@ -18,5 +18,6 @@ unfoldable pub trimmedBack : List ℕ → List ℕ
 trimmedBack [] = []
 trimmedBack (b ∷ bs) = cond (all isSpace (b ∷ bs)) [] (b ∷ trimmedBack bs)
 
+-- without either [B8]
 abbrev pub trimmed : List ℕ → List ℕ
 trimmed bs = trimmedBack (trimmedFront bs)

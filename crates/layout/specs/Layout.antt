@@ -105,7 +105,7 @@ startedLines ts i (suc n) = startedLine (getD ts i 0) ++ startedLines ts (suc i)
 abbrev pub startedNumbers : List ℕ → List ℕ
 startedNumbers ts = startedLines ts 0 lines ++ replicate (lines * blockLimit) 0
 
--- every line speaks frames
+-- every line speaks frames [H2]
 abbrev pub freshNumbers : List ℕ
 freshNumbers = startedNumbers (replicate lines frames)
 

@@ -127,7 +127,7 @@ fn can_start(speaks: &[u16; memory::LINES]) -> bool
 }
 
 // Whether a line can speak this.
-pub fn is_spoken(n: u16) -> bool
+fn is_spoken(n: u16) -> bool
     ensures { λ r. ⌜ r ≡ isSpoken n ⌝ }
 {
     if n == FRAMES {

@@ -28,7 +28,7 @@ mostSeconds = 29
 abbrev pub startedLine : Settings → Line
 startedLine t = record { state = Neutral; collected = 0; joined = 0; seconds = 0; next = 1; last = NoneYet; refusing = false; settings = t }
 
--- and frames, unless it is said otherwise [E3]
+-- and frames, unless it is said otherwise [E2, E3]
 abbrev pub freshLine : Line
 freshLine = startedLine standardSettings
 
@@ -65,7 +65,7 @@ stateWithin (Out s) = sendingWithin s
 abbrev pub countsWithin : Line → Bool
 countsWithin l = leb (l .joined) messageLimit && (leb (l .seconds) mostSeconds && (leb (l .next) mostNumber && (lastWithin (l .last) && stateWithin (l .state))))
 
--- a line of frames: besides, at most 245 collected [E11, A42]
+-- a line of frames: besides, at most 245 collected [E11, A42, S3]
 unfoldable pub withinLimits : Line → Bool
 withinLimits l = leb (l .collected) (mostCollected l) && (countsWithin l && speaksFrames (l .settings))
 

@@ -101,10 +101,10 @@ module _ (s : State) (w : Intact s) (i : ℕ) (k : Kind) (line : i < lines) (p :
 
   -- the answer and the store, once the ruling is known
   module _ (x : Ruling) (is : work s w i k line p speaks ≡ x) where
-    told-is : (step s (came i k)) .0 ≡ (leftOn x p i own k (storeOf s)) .0
+    pub told-is : (step s (came i k)) .0 ≡ (leftOn x p i own k (storeOf s)) .0
     told-is = uploaded-answer s w i k line p speaks ∙ ap (λ (y : Ruling). (leftOn y p i own k (storeOf s)) .0) is
 
-    store-is : storeOf ((step s (came i k)) .1) ≡ (leftOn x p i own k (storeOf s)) .2
+    pub store-is : storeOf ((step s (came i k)) .1) ≡ (leftOn x p i own k (storeOf s)) .2
     store-is = uploaded-journal s w i k line p speaks ∙ ap (λ (y : Ruling). (leftOn y p i own k (storeOf s)) .2) is
 
   -- ---- nothing is decided: the ruling is the same at any store
@@ -140,13 +140,13 @@ module _ (s : State) (w : Intact s) (i : ℕ) (b : ℕ) (line : i < lines) (p : 
   abbrev heard : Hearing
   heard = hearingOf (judgedOf p bs) (isAgain (had .memo) bs) (had .memo .reader)
 
-  by-sight : (x : Sight) → sightOf p (had .line) b ≡ x
+  pub by-sight : (x : Sight) → sightOf p (had .line) b ≡ x
       → (offered s i (Byte b) ≡ offeredAt p (had .memo) bs x) × ((j : Store) → rulingOf todaysShares p (had .line) (had .memo) (j .ledger) i (Byte b) (j .journal) (had .frames) ≡ seenAs x (whole j))
   unfolding rulingOf
   by-sight x e = (offered-block s i (Byte b) p speaks ∙ ap (offeredAt p (had .memo) bs) e, λ j. ap (λ (y : Sight). seenAs y (whole j)) e)
 
   module _ (ends : sightOf p (had .line) b ≡ Judges) where
-    ruled : (wanted : Bool) → isWanted p (had .memo) bs ≡ wanted → (j : Store)
+    pub ruled : (wanted : Bool) → isWanted p (had .memo) bs ≡ wanted → (j : Store)
         → rulingOf todaysShares p (had .line) (had .memo) (j .ledger) i (Byte b) (j .journal) (had .frames)
         ≡ unless wanted (ruling (settle (heard .reader)) (heard .answer)) (filing (judgeOf (j .ledger) todaysShares i (length (findingOf p bs)) (j .journal)) (had .memo .reader))
     ruled wanted e j =
@@ -154,7 +154,7 @@ module _ (s : State) (w : Intact s) (i : ℕ) (b : ℕ) (line : i < lines) (p : 
         ∙ ap (λ (c : Bool). unless c (ruling (settle (heard .reader)) (heard .answer)) (filing (judgeOf (j .ledger) todaysShares i (length (findingOf p bs)) (j .journal)) (had .memo .reader)))
         (stores-wanted (judgedOf p bs) (isAgain (had .memo) bs) (had .memo .reader) ∙ e)
 
-    offers : (wanted : Bool) → isWanted p (had .memo) bs ≡ wanted → offered s i (Byte b) ≡ cond wanted (some (findingOf p bs)) none
+    pub offers : (wanted : Bool) → isWanted p (had .memo) bs ≡ wanted → offered s i (Byte b) ≡ cond wanted (some (findingOf p bs)) none
     offers wanted e = by-sight Judges ends .0 ∙ ap (λ (c : Bool). cond c (some (findingOf p bs)) none) e
 
     -- the block is no finding, or a repeat
@@ -171,7 +171,7 @@ module _ (s : State) (w : Intact s) (i : ℕ) (b : ℕ) (line : i < lines) (p : 
       message : isMessage text ≡ true
       message = wanted-message p (had .memo) bs e
 
-      filed : (room : Bool) → hasSpace s i (length text) ≡ room → work s w i (Byte b) line p speaks ≡ filing (cond room Fits NoRoom) (had .memo .reader)
+      pub filed : (room : Bool) → hasSpace s i (length text) ≡ room → work s w i (Byte b) line p speaks ≡ filing (cond room Fits NoRoom) (had .memo .reader)
       filed room has =
           let d = s .gateway .ledger in
           ruled true e (storeOf s)

@@ -1,7 +1,7 @@
 -- What a line offers, by what it speaks; and what a reader's line offers is a message: the finding of a right block with results.
 -- Assumes nothing.
 use mathlib.Core.Path.{_≡_, refl, sym, ap, _∙_}
-use mathlib.Core.Bool.{Bool, true, false, cond, not}
+use mathlib.Core.Bool.{Bool, true, false, cond}
 use mathlib.Core.List.{List}
 use mathlib.Core.Option.{none, some}
 use Prim.Native.Nat.{ℕ}
@@ -14,10 +14,9 @@ use Rattle.faults.specs.Message.{isMessage}
 use Rattle.block.specs.Judged.{judgedOf}
 use Rattle.block.specs.declared.Judged.{Judged}
 use Rattle.block.specs.declared.Judged.the-variants.{OddLength, OddTest, OddByte, Multiple, Repeat, End, Colours, Results}
-use Rattle.block.proofs.Laws.{results-matches}
 use Rattle.finding.specs.Findings.{findingOf}
-use Rattle.finding_laws.proofs.Messages.{finding-message}
-use Rattle.strips.specs.Readers.{Memo, isAgain}
+use Rattle.finding_laws.proofs.Message.{finding-message}
+use Rattle.strips.specs.Readers.{Memo}
 use Rattle.strips.specs.Sights.{sightOf}
 use Rattle.strips.specs.declared.Sight.{Sight}
 use Rattle.strips.specs.declared.Sight.the-variants.{Ignores, Adds, Judges}
@@ -40,10 +39,10 @@ is-results Colours e = clash cc
 is-results Results e = refl
 
 pub wanted-results : (p : Patient) (w : Memo) (bs : List ℕ) → isWanted p w bs ≡ true → judgedOf p bs ≡ Results
-wanted-results p w bs e = is-results (judgedOf p bs) (and-left (isResults (judgedOf p bs)) (not (isAgain w bs)) e)
+wanted-results p w bs e = is-results (judgedOf p bs) (and-left (isResults (judgedOf p bs)) _ e)
 
 pub wanted-message : (p : Patient) (w : Memo) (bs : List ℕ) → isWanted p w bs ≡ true → isMessage (findingOf p bs) ≡ true
-wanted-message p w bs e = finding-message p bs (results-matches p bs (wanted-results p w bs e))
+wanted-message p w bs e = finding-message p bs (wanted-results p w bs e)
 
 -- what a line of frames offers is told by the look
 pub offered-look : (s : State) (i : ℕ) (k : Kind) → dialogueAt (s .gateway) i ≡ Frames → offered s i k ≡ offeredBy s i (lookOf (partsOf s i .line) k (partsOf s i .texts) (partsOf s i .frames))

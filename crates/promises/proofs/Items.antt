@@ -171,7 +171,7 @@ module _ (s : State) (w : Sound s) (i : ℕ) (h : i < lines) (speaks : dialogueA
   by-start : (text : List ℕ) (b : Bool) → eqb (answered ((step s (starting i text)) .0)) sends ≡ b → ItemOn i s (starting i text)
   by-start text true e =
       begun {e = starting i text} (rw (eq-eqb i i refl) e)
-      (and-left (isNeutral (stateOf s i)) (speaksFrames (partsOf s i .line .settings)) (start-passed s v i text h (start-sends s v i text h (eqb-true (answered ((step s (starting i text)) .0)) sends e)) .neutral))
+      (and-left (isNeutral (stateOf s i)) (speaksFrames (partsOf s i .line .settings)) (start-passed s v i text h (start-sends s v i text h (eqb-true (answered ((step s (starting i text)) .0)) sends e)) .free))
   by-start text false e =
       idle (and-not-right (eqb i i) (eqb (answered ((step s (starting i text)) .0)) sends) e) refl
       (ap (λ (x : State). partsOf x i) (start-refused s i text (eqb-false (answered ((step s (starting i text)) .0)) sends e)))

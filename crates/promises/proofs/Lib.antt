@@ -39,3 +39,5 @@ pub mod Alone
 pub mod Acknowledged
 pub mod Frauds
 pub mod Foreign
+pub mod Readers
+pub mod KeptBlocks

@@ -45,6 +45,9 @@ module _ (p : Parts) where
   pub told-frames : (a : Answer) → p .line .settings .dialogue ≡ Frames → told a p ≡ response a (framesOut a p)
   told-frames a e = ap (λ (d : Dialogue). response a (byDialogue d (framesOut a p) (λ q. blockOut (replyByte (firstOut a)) (p .memo .reader .reply)))) e
 
+  pub told-blocks : (a : Answer) (q : Patient) → p .line .settings .dialogue ≡ Blocks q → told a p ≡ response a (blockOut (replyByte (firstOut a)) (p .memo .reader .reply))
+  told-blocks a q e = ap (λ (d : Dialogue). response a (byDialogue d (framesOut a p) (λ q. blockOut (replyByte (firstOut a)) (p .memo .reader .reply)))) e
+
   pub on-frames : (i : ℕ) (k : Kind) (j : Store) → p .line .settings .dialogue ≡ Frames → onEvent i p k j ≡ onFrames i p k j
   on-frames i k j e = ap (λ (d : Dialogue). byDialogue d (onFrames i p k j) (λ q. onBlocks q i p k j)) e
 

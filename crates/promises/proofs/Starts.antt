@@ -109,7 +109,7 @@ module _ (s : State) (w : Intact s) (i : ℕ) (text : List ℕ) (h : i < lines) 
 
   -- and so the line speaks frames
   pub starts-frames : start ≡ Asks → own .line .settings .dialogue ≡ Frames
-  starts-frames e = speaks-frames (own .line .settings) (and-right (isNeutral (own .line .state)) (speaksFrames (own .line .settings)) (start-passed e .neutral))
+  starts-frames e = speaks-frames (own .line .settings) (and-right (isNeutral (own .line .state)) (speaksFrames (own .line .settings)) (start-passed e .free))
 
   -- ---- what is left
 
@@ -166,7 +166,7 @@ module _ (s : State) (w : Intact s) (i : ℕ) (text : List ℕ) (h : i < lines) 
   -- that is: where the line is neutral and speaks frames, and the text is a message
   pub start-exactly : Exactly (answered ((step s (starting i text)) .0) ≡ 9) ((canStart (own .line) ≡ true) × (isMessage text ≡ true))
   start-exactly = (
-    λ e. let x = start-passed (start-sends e) in (x .neutral, x .message),
+    λ e. let x = start-passed (start-sends e) in (x .free, x .message),
     λ e. ap answered start-answer ∙ ap (λ (x : Start). numberOf (startAnswer x)) (message-starts (e .0) (e .1)),
   )
 

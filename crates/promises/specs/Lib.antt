@@ -7,5 +7,6 @@ pub mod Clean
 pub mod Freed
 pub mod Sending
 pub mod Orders
+pub mod Readers
 pub mod Examples
 pub mod Inner

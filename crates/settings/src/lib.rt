@@ -1,6 +1,6 @@
 // What a line speaks. It is set when a gateway starts, and nothing changes it later.
 ghost use mathlib.Core.Path.{_≡_};
-ghost use Rattle.settings.specs.Settings.{patientLength, resultsLength, coloursLength, standardSettings, speaksFrames};
+ghost use Rattle.settings.specs.Settings.{resultsLength, coloursLength, speaksFrames};
 
 // The longest block of a strip reader, in bytes.
 pub const BLOCK_LIMIT: usize = 239;
@@ -21,15 +21,6 @@ pub struct Settings {
     pub dialogue: Dialogue,
 }
 
-// What a line speaks unless it is said otherwise: frames.
-pub fn standard() -> Settings
-    ensures { λ r. ⌜ r ≡ standardSettings ⌝ }
-{
-    Settings {
-        dialogue: Dialogue::Frames,
-    }
-}
-
 // Whether a line speaks frames.
 pub fn speaks_frames(settings: Settings) -> bool
     ensures { λ r. ⌜ r ≡ speaksFrames settings ⌝ }
@@ -42,16 +33,6 @@ pub fn speaks_frames(settings: Settings) -> bool
 }
 
 impl Patient {
-    // The length of a patient number.
-    pub fn length(self) -> usize
-        ensures { λ r. ⌜ r ≡ patientLength self ⌝ }
-    {
-        match self {
-            Patient::Ten => 10,
-            Patient::Thirteen => 13,
-        }
-    }
-
     // The length of a block with results, an E block: the longest of the line.
     pub fn results_length(self) -> usize
         ensures { λ r. ⌜ r ≡ resultsLength self ⌝ }
