@@ -6,14 +6,14 @@ use mathlib.Core.List.{List}
 use Prim.Native.Nat.{ℕ, _+_, _≤_, _<_}
 use native.Mathlib.Decide.{ℕ-discrete}
 use native.Mathlib.Omega.{arith}
-use borrow.Author.Tests.{lt-ltb, ltb-true}
-use lib.Dec.{ltb}
+use borrow.Author.Tests.{lt-ltb, ltb-true, eqb-true}
+use lib.Dec.{eqb, ltb}
 use lib.ListN.{length, length-append, length-take}
 use Rattle.memory.specs.Sizes.{lines}
 use Rattle.memory.specs.Parts.{part}
 use Rattle.memory.specs.Tests.{unless}
 use Rattle.memory.proofs.Parts.{length-splice}
-use Rattle.memory.proofs.Tests.{and-right}
+use Rattle.memory.proofs.Tests.{clash, and-right}
 use Rattle.settings.specs.Settings.{resultsLength, blockLimit, byDialogue}
 use Rattle.settings.specs.declared.Patient.{Patient}
 use Rattle.settings.specs.declared.Patient.the-variants.{Ten, Thirteen}
@@ -92,9 +92,34 @@ upload-put-unchanged s i h w f a =
     let q : withUsed (s .counts) i (ledgerOf (s .numbers) (s .counts)) ≡ s .counts = used-back (s .numbers) (s .counts) i h in
     λ z. record { answered = inNumbers a; state = record { numbers = p z; counts = q z; memory = s .memory } }
 
--- what is kept of a reader fits where its line speaks blocks
-pub reader-fits : (ns : List ℕ) (i longest : ℕ) → blockFits ns i longest ≡ true → readerFits ns i ≡ true
-reader-fits ns i longest e = and-right (ltb (numberAt ns i 1) longest) (readerFits ns i) e
+-- what a line speaks, by its numbers: frames, or a reader's blocks, and then what it has is within the limits of those
+pub frames-number : (n : ℕ) → dialogueOf n ≡ Frames → n ≡ 0
+frames-number n e = by (eqb n 0) refl (eqb n 10) refl
+  where
+    by : (a : Bool) → eqb n 0 ≡ a → (b : Bool) → eqb n 10 ≡ b → n ≡ 0
+    by true p b q = eqb-true n 0 p
+    by false p true q = let z : _≡_ {A = Dialogue} (Blocks Ten) Frames = rw (p, q) at e in clash cc
+    by false p false q = let z : _≡_ {A = Dialogue} (Blocks Thirteen) Frames = rw (p, q) at e in clash cc
+
+pub record InBlocks (ns : List ℕ) (i : ℕ) (p : Patient) : Type 0 where
+  pub within : blockWithin p (lineOf ns i) ≡ true
+  pub fits : readerFits ns i ≡ true
+
+pub blocks-facts : (ns : List ℕ) (i : ℕ) (p : Patient) → withinNumbers ns i ≡ true → lineOf ns i .settings .dialogue ≡ Blocks p → InBlocks ns i p
+blocks-facts ns i p w e = by-speech (speech-is ns i (facts .speech))
+  where
+    facts : WithinNumbers ns i
+    facts = numbers-facts ns i w
+
+    by-speech : Speech ns i → InBlocks ns i p
+    by-speech (Speech.in-frames q) = let z : _≡_ {A = Dialogue} Frames (Blocks p) = sym (ap dialogueOf q) ∙ e in clash cc
+    by-speech (Speech.in-blocks r t n f) =
+        let z : _≡_ {A = Dialogue} (Blocks r) (Blocks p) = sym (ap (λ (x : Settings). x .dialogue) t) ∙ e in
+        let same : r ≡ p = cc z in
+        record {
+          within = ap (λ (x : Patient). blockWithin x (lineOf ns i)) (sym same) ∙ block-within ns i r facts f;
+          fits = and-right (ltb (numberAt ns i 1) (resultsLength r)) (readerFits ns i) f;
+        }
 
 -- past 40 and 42 an event is the step of its line, where that speaks frames, and else its upload
 module _ (s : HostState) (e : Event) (h : e .line < lines) (w : withinNumbers (s .numbers) (e .line) ≡ true) where
@@ -120,14 +145,13 @@ module _ (s : HostState) (e : Event) (h : e .line < lines) (w : withinNumbers (s
   unfolding uploadOf rulingOn
   upload-left p z = rw (lt-ltb (e .line) lines h, z)
 
-  pub upload-is : (p : Patient) → lineOf (s .numbers) (e .line) .settings .dialogue ≡ Blocks p → readerFits (s .numbers) (e .line) ≡ true
-      → callOf s e ≡ putUpload s (e .line) (uploadFor s p e)
+  pub upload-is : (p : Patient) → lineOf (s .numbers) (e .line) .settings .dialogue ≡ Blocks p → callOf s e ≡ putUpload s (e .line) (uploadFor s p e)
   unfolding callOf
-  upload-is p f fits = rw (lt-ltb (e .line) lines h, w) (by-sizes right refl (lineOf (s .numbers) (e .line) .settings .dialogue) f)
+  upload-is p f = rw (lt-ltb (e .line) lines h, w) (by-sizes right refl (lineOf (s .numbers) (e .line) .settings .dialogue) f)
     where
       by-sizes : (b : Bool) → right ≡ b → (x : Dialogue) → x ≡ Blocks p → unless b (refused WrongSize s) (spoken x) ≡ putUpload s (e .line) (uploadFor s p e)
       by-sizes true z x q = ap spoken q
-      by-sizes false z x q = sym (ap (putUpload s (e .line)) (upload-left p z) ∙ upload-put-unchanged s (e .line) h w fits WrongSize)
+      by-sizes false z x q = sym (ap (putUpload s (e .line)) (upload-left p z) ∙ upload-put-unchanged s (e .line) h w (blocks-facts (s .numbers) (e .line) p w f .fits) WrongSize)
 
 -- no step changes what its line speaks
 step-settings : (s : HostState) (e : Event) → stepFor s e .stepped .line .settings ≡ lineOf (s .numbers) (e .line) .settings
@@ -151,7 +175,7 @@ memo-long add w bs h = refl
 memo-long (settle r) w bs h = refl
 memo-long file w bs h = length-splice (w .block) 0 bs (omega arith)
 
-upload-long : (s : HostState) (p : Patient) (e : Event) → blockWithin p (lineOf (s .numbers) (e .line)) ≡ true → length (uploadFor s p e .memo .block) ≡ blockLimit
+pub upload-long : (s : HostState) (p : Patient) (e : Event) → blockWithin p (lineOf (s .numbers) (e .line)) ≡ true → length (uploadFor s p e .memo .block) ≡ blockLimit
 unfolding uploadOf
 upload-long s p e w =
     let l = lineOf (s .numbers) (e .line) in
@@ -272,7 +296,7 @@ module _ (s : HostState) (o : InOrder s) (e : Event) where
 
       in-blocks : Hosts (callOf s e) after
       in-blocks = subst (λ (x : AfterEvent). Hosts (callOf s e) x) (sym upload-event)
-          (subst (λ (c : AfterCall). Hosts c (putMemo (gateway s) (e .line) upload)) (sym (upload-is s e h (o .within (e .line) h) p dialogue (o .readers (e .line) h))) by-upload)
+          (subst (λ (c : AfterCall). Hosts c (putMemo (gateway s) (e .line) upload)) (sym (upload-is s e h (o .within (e .line) h) p dialogue)) by-upload)
 
     there : Hosts (callOf s e) after
     there = by-speech (speech-is (s .numbers) (e .line) (numbers-facts (s .numbers) (e .line) (o .within (e .line) h) .speech))

@@ -2,20 +2,20 @@
 -- Assumes nothing.
 use mathlib.Core.Path.{_≡_, refl, sym, ap, subst, _∙_}
 use mathlib.Core.Logic.{_≢_}
-use mathlib.Core.Bool.{Bool, true, false}
+use mathlib.Core.Bool.{true, false}
 use mathlib.Core.List.{List}
 use Prim.Native.Nat.{ℕ, _+_, _≤_, _<_}
 use native.Mathlib.Decide.{decLt, ℕ-discrete}
 use native.Mathlib.Omega.{arith}
-use borrow.Author.Tests.{eqb-true}
-use lib.Dec.{eqb}
 use lib.ListN.{length, set}
 use lib.Seq.{set-getD}
 use Rattle.memory.specs.Sizes.{lines, messageLimit}
 use Rattle.memory.specs.Parts.{splice}
 use Rattle.memory.proofs.Lines.{part-elsewhere}
 use Rattle.memory.proofs.Tests.{clash, and-right}
-use Rattle.settings.specs.Settings.{speaksFrames}
+use Rattle.settings.specs.Settings.{byDialogue, speaksFrames}
+use Rattle.settings.specs.declared.Dialogue.{Dialogue}
+use Rattle.settings.specs.declared.Dialogue.the-variants.{Frames, Blocks}
 use Rattle.journal.specs.declared.Ledger.{Ledger}
 use Rattle.line.specs.Line.{withinLimits, recordWithin, askedLine}
 use Rattle.line.specs.declared.Line.{Line}
@@ -24,7 +24,7 @@ use Rattle.looking.specs.Views.{textStart, textsOf}
 use Rattle.layout.specs.Layout.{numberAt}
 use Rattle.ledger.specs.Ledgers.{ledgerOf}
 use Rattle.ledger.proofs.Ledgers.{used-back}
-use Rattle.numbers.specs.Plain.{settingsOf, lineOf, readerFits, withinNumbers, withLine}
+use Rattle.numbers.specs.Plain.{lineOf, readerFits, withinNumbers, withLine}
 use Rattle.numbers.proofs.Numbers.{line-within, record-within, serial-back}
 use Rattle.orders.specs.Starts.{isNeutral, canStart, startLook}
 use Rattle.orders.specs.declared.Start.{Start}
@@ -38,6 +38,7 @@ use Rattle.ngachodui_laws.specs.HostRuns.{InOrder, startFrom, startedBy}
 use Rattle.ngachodui_laws.specs.Inner.Hosting.{Hosts}
 use Rattle.ngachodui_laws.proofs.Stores.{stored, stored-length, within-other, within-own, readers-stay, spare-stays}
 use Rattle.ngachodui_laws.proofs.Touched.{Touched}
+use Rattle.ngachodui_laws.proofs.Hosts.{frames-number}
 use Rattle.ngachodui_laws.proofs.PutBack.{line-at, gateway-put}
 
 -- a ledger that is left is touched on any line
@@ -55,14 +56,14 @@ host-passed s i text e = asks-passed i _ (canStart (lineOf (s .numbers) i)) text
 pub host-short : (s : HostState) (i : ℕ) (text : List ℕ) → PassedHere s i text → length text ≤ messageLimit
 host-short s i text x = (passed-fits i _ (canStart (lineOf (s .numbers) i)) text _ _ _ x) .0
 
--- what speaks frames has the number of those
-pub frames-spoken : (n : ℕ) → speaksFrames (settingsOf n) ≡ true → n ≡ 0
-frames-spoken n e = by (eqb n 0) refl (eqb n 10) refl
-  where
-    by : (a : Bool) → eqb n 0 ≡ a → (b : Bool) → eqb n 10 ≡ b → n ≡ 0
-    by true p b q = eqb-true n 0 p
-    by false p true q = let z : false ≡ true = rw (p, q) at e in clash cc
-    by false p false q = let z : false ≡ true = rw (p, q) at e in clash cc
+-- a line that can start speaks frames
+speaks-frames : (x : Dialogue) → byDialogue x true (λ p. false) ≡ true → x ≡ Frames
+speaks-frames Frames e = refl
+speaks-frames (Blocks p) e = clash cc
+
+pub starts-frames : (ns : List ℕ) (i : ℕ) → canStart (lineOf ns i) ≡ true → numberAt ns i 10 ≡ 0
+starts-frames ns i e =
+    frames-number (numberAt ns i 10) (speaks-frames (lineOf ns i .settings .dialogue) (and-right (isNeutral (lineOf ns i .state)) (speaksFrames (lineOf ns i .settings)) e))
 
 -- a record put into the numbers alone: the serial is as it was
 pub put-line-is : (s : HostState) (i : ℕ) → i < lines → (l : Line) → withLine (s .numbers) i l ≡ stored (s .numbers) i l (ledgerOf (s .numbers) (s .counts))
@@ -105,7 +106,7 @@ module _ (s : HostState) (o : InOrder s) (i : ℕ) (text : List ℕ) where
 
     -- it speaks frames
     speaks : numberAt (s .numbers) i 10 ≡ 0
-    speaks = frames-spoken (numberAt (s .numbers) i 10) (and-right (isNeutral (lineOf (s .numbers) i .state)) (speaksFrames (lineOf (s .numbers) i .settings)) (x .free))
+    speaks = starts-frames (s .numbers) i (x .free)
 
     asked-limits : withinLimits asked ≡ true
     asked-limits =
