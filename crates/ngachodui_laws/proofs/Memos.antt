@@ -191,7 +191,7 @@ memo-back ns i e =
 
 -- no number of a record is among them: each line's record is read as before, and so are its serials
 module _ (ns : List ℕ) (i : ℕ) (w : Memo) (h : i < lines) where
-  record-kept : (k m : ℕ) → k < lines → m ≤ speaksAt → numberAt (kept ns i w) k m ≡ numberAt ns k m
+  pub record-kept : (k m : ℕ) → k < lines → m ≤ speaksAt → numberAt (kept ns i w) k m ≡ numberAt ns k m
   record-kept k m q r = elim (ℕ-discrete k i) [
     | yes e ↦ rw e (kept-low ns i w h m (omega arith))
     | no n ↦ kept-other ns i w h k m q n (omega arith)

@@ -16,6 +16,7 @@ use Rattle.line.specs.declared.Sending.the-variants.{Asking, Pausing, Offering}
 use Rattle.looking.specs.Views.{framesOf, textsOf}
 use Rattle.looking.specs.declared.Kind.{Kind}
 use Rattle.looking.specs.declared.Kind.the-variants.{Byte, Seconds}
+use Rattle.receiving.specs.Steps.{Memory}
 use Rattle.serial.specs.Serial.{event, taking}
 use Rattle.promises.specs.Machine.{GatewayItem, happens, starts, onLine}
 use Rattle.layout.specs.Layout.{fields, serialAt, numberAt}
@@ -24,7 +25,12 @@ use Rattle.keeping.specs.Keeping.{keptBlock}
 use Rattle.calls.specs.Calls.{HostState, Calling}
 use Rattle.orders.specs.Calls.{Sent}
 use Rattle.reader.specs.Takings.{Taken}
-use Rattle.ngachodui_laws.specs.HostRuns.{HostResponse, lentOf, sentBy}
+use Rattle.ngachodui_laws.specs.HostRuns.{startedHost, HostResponse, lentOf, sentBy}
+
+-- a start that is answered leaves every line as it is set, and the journal empty [B12]
+pub record StartedAs (speaks : List ℕ) (m : Memory) (r : ℕ) (ns us : List ℕ) : Type 0 where
+  pub answer : r ≡ 0
+  pub state : _≡_ {A = HostState} (record { numbers = ns; counts = us; memory = m }) (startedHost speaks m)
 
 -- what the contract of `ngachodui_take` allows: the lines' numbers are lent to it to read, and neither the unfinished texts nor the frames are lent at all
 pub record AllowsTaking (s : HostState) (i : ℕ) (b : List ℕ) (r : HostResponse) (t : HostState) : Type 0 where
