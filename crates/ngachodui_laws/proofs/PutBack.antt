@@ -53,7 +53,7 @@ lines-set ns ns′ i l h own others =
         ]
 
 -- what is kept of the readers
-memos-length : (ns : List ℕ) (i n : ℕ) → length (memosOf ns i n) ≡ n
+pub memos-length : (ns : List ℕ) (i n : ℕ) → length (memosOf ns i n) ≡ n
 memos-length ns i zero = refl
 memos-length ns i (suc n) = ap suc (memos-length ns (suc i) n)
 

@@ -81,7 +81,7 @@ module _ (ts : List ℕ) where
       number k m h q ∙ ap (λ (x : ℕ). getD (startedLine v) x 0) at
       ∙ getD-append-add (0 ∷ 0 ∷ 0 ∷ 0 ∷ 1 ∷ 0 ∷ 0 ∷ 0 ∷ 0 ∷ 0 ∷ v ∷ []) (replicate 5 0) (m - 11) 0 ∙ getD-replicate 5 (m - 11) 0 0 (omega arith)
 
-  line : (k : ℕ) → k < lines → lineOf ns k ≡ lineStarted (settingsOf (getD ts k 0))
+  pub line : (k : ℕ) → k < lines → lineOf ns k ≡ lineStarted (settingsOf (getD ts k 0))
   line k h = rw (
     first k h,
     number k 1 h (omega arith),
