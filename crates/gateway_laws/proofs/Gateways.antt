@@ -61,7 +61,7 @@ module _ (shares : List ℕ) (g : Gateway) (e : Event) (m : Memory) where
   uploaded p = uploadOf shares p (lineAt g (e .line)) (memoAt g (e .line)) (g .ledger) e m
 
   -- what an event comes to, by cases
-  event-cases : (P : AfterEvent → Type 0) → P (record { handled = record { gateway = g; answer = NoLine }; memory = m }) → P (putBack g (e .line) framed)
+  pub event-cases : (P : AfterEvent → Type 0) → P (record { handled = record { gateway = g; answer = NoLine }; memory = m }) → P (putBack g (e .line) framed)
       → ((p : Patient) → P (putUpload g (e .line) (uploaded p))) → P (eventOf shares g e m)
   unfolding eventOf
   event-cases P none step upload = by-line (ltb (e .line) lines) (dialogueAt g (e .line))

@@ -154,7 +154,8 @@ module _ (shares : List ℕ) (p : Patient) (l : Line) (w : Memo) (d : Ledger) (e
   unfolding uploadOf
   after-by x h = ap (λ (y : Deed). uploaded (ruling y (ruled .answer)) p l w d e m) h
 
-  goes : GoesWith (ruled .deed) (ruled .answer)
+  -- the answer goes with what is done
+  pub goes : GoesWith (ruled .deed) (ruled .answer)
   goes = by-found ruled (ruling-found shares p l w d e m)
     where
       by-found : (x : Ruling) → Found shares p l w d e m x → GoesWith (x .deed) (x .answer)

@@ -18,7 +18,7 @@ use Rattle.calls.specs.Calls.{HostState}
 use Rattle.ngachodui_laws.specs.HostRuns.{gatewayState, HostResponse, numberTo, placeTo, Run, endOf}
 use Rattle.ngachodui_laws.specs.Sound.{Intact}
 use Rattle.ngachodui_laws.specs.Deciding.{DecidedExactly}
-use Rattle.ngachodui_laws.proofs.HostRuns.{one-call, at-end}
+use Rattle.ngachodui_laws.proofs.HostRuns.{begun, begun-right, one-call, at-end}
 use Rattle.ngachodui_laws.proofs.Sound.{intact}
 
 -- of two numbers that are the same, one is n exactly where the other is
@@ -43,4 +43,4 @@ decided-exactly s w i h k text complete =
 
 -- after a run, what is no message is wrong at one of its records
 pub wrong-at : (r : Run) (i : ℕ) → i < lines → (k : Kind) (text : List ℕ) → offered (gatewayState (endOf r)) i k ≡ some text → isMessage text ≡ false → WrongAt text
-wrong-at r i h k text complete m = offered-faulty (gatewayState (endOf r)) i k text complete (at-end r Clean (always-clean (r .memory) (r .sizes) (r .calls) (r .may))) h m
+wrong-at r i h k text complete m = offered-faulty (gatewayState (endOf r)) i k text complete (at-end r Clean (always-clean (begun r) (begun-right r) (r .calls) (r .may))) h m

@@ -1,7 +1,9 @@
 pub mod Stores
+pub mod Memos
 pub mod Touched
 pub mod PutBack
 pub mod Hosts
+pub mod Started
 pub mod Starts
 pub mod Refusals
 pub mod HostRuns
@@ -16,6 +18,7 @@ pub mod Sending
 pub mod Orders
 pub mod Among
 pub mod FromFresh
+pub mod Readers
 pub mod Texts
 pub mod Escapes
 pub mod Rooms

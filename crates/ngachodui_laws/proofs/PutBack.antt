@@ -2,23 +2,28 @@
 -- Assumes nothing.
 use mathlib.Core.Path.{_≡_, refl, sym, ap, _∙_}
 use mathlib.Core.Logic.{_≢_}
-use mathlib.Core.List.{List}
-use Prim.Native.Nat.{ℕ, zero, suc, _+_, _*_, _≤_, _<_}
+use mathlib.Core.List.{List, _∷_}
+use Prim.Native.Nat.{ℕ, zero, suc, _+_, _<_}
 use native.Mathlib.Nat.{add-zero, zero-add, add-suc, suc-add}
-use native.Mathlib.Decide.{decLt, ℕ-discrete}
+use native.Mathlib.Decide.{ℕ-discrete}
 use native.Mathlib.Omega.{arith}
-use lib.ListN.{length, getD, set, length-set, List·getD-eq-default}
+use lib.ListN.{length, getD, set, length-set}
 use lib.Seq.{ext-getD, getD-set-same, getD-set-other}
 use Rattle.memory.specs.Sizes.{lines}
 use Rattle.journal.specs.declared.Ledger.{Ledger}
 use Rattle.line.specs.declared.Line.{Line}
+use Rattle.settings.specs.Settings.{blockLimit}
+use Rattle.strips.specs.Readers.{Memo, freshMemo}
 use Rattle.gateway.specs.Events.{noRecord}
-use Rattle.layout.specs.Layout.{fields, start, firstAt, numberAt}
+use Rattle.gateway.specs.Gateway.{Gateway}
+use Rattle.layout.specs.Layout.{numberAt, numbersSize}
 use Rattle.ledger.specs.Ledgers.{ledgerOf, withUsed}
 use Rattle.numbers.specs.Plain.{lineOf}
-use Rattle.ngachodui_laws.specs.Hosting.{linesOf, gatewayOf}
+use Rattle.keeping.specs.Keeping.{memoOf}
+use Rattle.ngachodui_laws.specs.Hosting.{linesOf, memosOf, gatewayOf}
 use Rattle.ledger.proofs.Ledgers.{used-at, serial-at}
-use Rattle.ngachodui_laws.proofs.Stores.{stored, number-other, serial-own, line-other, line-own}
+use Rattle.ngachodui_laws.proofs.Stores.{stored, stored-length, number-other, serial-own, memo-stays, line-other, line-own}
+use Rattle.ngachodui_laws.proofs.Memos.{memo-other, memo-own, kept-line, kept-ledger, heard}
 use Rattle.ngachodui_laws.proofs.Touched.{Touched, Lowered}
 
 -- the lines
@@ -34,24 +39,6 @@ line-in ns i (suc n) (suc k) h = line-in ns (suc i) n k (omega arith) ∙ ap (li
 pub line-at : (ns : List ℕ) (k : ℕ) → k < lines → getD (linesOf ns 0 lines) k noRecord ≡ lineOf ns k
 line-at ns k h = line-in ns 0 lines k h ∙ ap (lineOf ns) (zero-add k)
 
--- behind the last line nothing is read
-line-past : (ns : List ℕ) → length ns ≡ lines * fields → (k : ℕ) → lines ≤ k → lineOf ns k ≡ noRecord
-line-past ns long k h =
-    rw (none 0 (firstAt ns k) (ap (λ (p : ℕ). getD ns p 0) (sym (add-zero (start k)))), past 1, past 2, past 3, past 4, past 5, past 6)
-  where
-    past : (m : ℕ) → numberAt ns k m ≡ 0
-    past m = List·getD-eq-default ns 0 {n = start k + m} (omega (arith, long))
-
-    none : (m x : ℕ) → x ≡ numberAt ns k m → x ≡ 0
-    none m x e = e ∙ past m
-
--- each line's record, and none behind the last
-pub line-anywhere : (ns : List ℕ) → length ns ≡ lines * fields → (k : ℕ) → getD (linesOf ns 0 lines) k noRecord ≡ lineOf ns k
-line-anywhere ns long k = elim (decLt k lines) [
-  | yes h ↦ line-at ns k h
-  | no h ↦ List·getD-eq-default (linesOf ns 0 lines) noRecord {n = k} (omega (arith, lines-length ns 0 lines)) ∙ sym (line-past ns long k (omega arith))
-]
-
 lines-set : (ns ns′ : List ℕ) (i : ℕ) (l : Line) → i < lines → lineOf ns′ i ≡ l → ((k : ℕ) → k ≢ i → lineOf ns′ k ≡ lineOf ns k)
     → linesOf ns′ 0 lines ≡ set (linesOf ns 0 lines) i l
 lines-set ns ns′ i l h own others =
@@ -64,6 +51,41 @@ lines-set ns ns′ i l h own others =
           | yes e ↦ ap (lineOf ns′) e ∙ own ∙ sym (ap (λ (x : ℕ). getD (set (linesOf ns 0 lines) i l) x noRecord) e ∙ getD-set-same (linesOf ns 0 lines) i l noRecord (omega (arith, lines-length ns 0 lines)))
           | no n ↦ others k n ∙ sym (getD-set-other (linesOf ns 0 lines) i k l noRecord n ∙ line-at ns k q)
         ]
+
+-- what is kept of the readers
+pub memos-length : (ns : List ℕ) (i n : ℕ) → length (memosOf ns i n) ≡ n
+memos-length ns i zero = refl
+memos-length ns i (suc n) = ap suc (memos-length ns (suc i) n)
+
+memo-in : (ns : List ℕ) (i n k : ℕ) → k < n → getD (memosOf ns i n) k freshMemo ≡ memoOf ns (i + k)
+memo-in ns i zero k h = absurd (omega arith)
+memo-in ns i (suc n) zero h = rw add-zero
+memo-in ns i (suc n) (suc k) h = memo-in ns (suc i) n k (omega arith) ∙ ap (memoOf ns) (suc-add i k ∙ sym (add-suc i k))
+
+pub memo-at : (ns : List ℕ) (k : ℕ) → k < lines → getD (memosOf ns 0 lines) k freshMemo ≡ memoOf ns k
+memo-at ns k h = memo-in ns 0 lines k h ∙ ap (memoOf ns) (zero-add k)
+
+memos-alike : (ns ns′ : List ℕ) (i n : ℕ) → ((k : ℕ) → memoOf ns′ k ≡ memoOf ns k) → memosOf ns′ i n ≡ memosOf ns i n
+memos-alike ns ns′ i zero h = refl
+memos-alike ns ns′ i (suc n) h = let here = h i in let rest = memos-alike ns ns′ (suc i) n h in λ z. here z ∷ rest z
+
+memos-set : (ns ns′ : List ℕ) (i : ℕ) (w : Memo) → i < lines → memoOf ns′ i ≡ w → ((k : ℕ) → k < lines → k ≢ i → memoOf ns′ k ≡ memoOf ns k)
+    → memosOf ns′ 0 lines ≡ set (memosOf ns 0 lines) i w
+memos-set ns ns′ i w h own others =
+    ext-getD freshMemo (memosOf ns′ 0 lines) (set (memosOf ns 0 lines) i w) (memos-length ns′ 0 lines ∙ sym (length-set (memosOf ns 0 lines) i w ∙ memos-length ns 0 lines)) each
+  where
+    each : (k : ℕ) → k < length (memosOf ns′ 0 lines) → getD (memosOf ns′ 0 lines) k freshMemo ≡ getD (set (memosOf ns 0 lines) i w) k freshMemo
+    each k p =
+        let q : k < lines = omega (arith, memos-length ns′ 0 lines) in
+        memo-at ns′ k q ∙ elim (ℕ-discrete k i) [
+          | yes e ↦ ap (memoOf ns′) e ∙ own ∙ sym (ap (λ (x : ℕ). getD (set (memosOf ns 0 lines) i w) x freshMemo) e ∙ getD-set-same (memosOf ns 0 lines) i w freshMemo (omega (arith, memos-length ns 0 lines)))
+          | no n ↦ others k q n ∙ sym (getD-set-other (memosOf ns 0 lines) i k w freshMemo n ∙ memo-at ns k q)
+        ]
+
+lines-alike : (ns ns′ : List ℕ) → ((k : ℕ) → k < lines → lineOf ns′ k ≡ lineOf ns k) → linesOf ns′ 0 lines ≡ linesOf ns 0 lines
+lines-alike ns ns′ h =
+    ext-getD noRecord (linesOf ns′ 0 lines) (linesOf ns 0 lines) (lines-length ns′ 0 lines ∙ sym (lines-length ns 0 lines))
+    (λ k p. let q : k < lines = omega (arith, lines-length ns′ 0 lines) in line-at ns′ k q ∙ h k q ∙ sym (line-at ns k q))
 
 -- the ledger
 pub used-long : (ns us : List ℕ) → length (ledgerOf ns us .used) ≡ lines
@@ -107,7 +129,7 @@ module _ (ns ns′ us : List ℕ) (i : ℕ) (h : i < lines) (d′ : Ledger) (lon
           ]
 
 -- an event's record and ledger, put back
-module _ (ns us : List ℕ) (i : ℕ) (h : i < lines) (l : Line) (d′ : Ledger) (many : length ns ≡ lines * fields) (long : length us ≡ lines + 1) (t : Touched (ledgerOf ns us) i d′) where
+module _ (ns us : List ℕ) (i : ℕ) (h : i < lines) (l : Line) (d′ : Ledger) (many : length ns ≡ numbersSize) (long : length us ≡ lines + 1) (t : Touched (ledgerOf ns us) i d′) where
   serials-put : ledgerOf (stored ns i l d′) (withUsed us i d′) .serials ≡ d′ .serials
   serials-put =
       let ns′ = stored ns i l d′ in
@@ -124,12 +146,26 @@ module _ (ns us : List ℕ) (i : ℕ) (h : i < lines) (l : Line) (d′ : Ledger)
                 ∙ sym (ap (λ (x : List ℕ). getD x k 0) (t .serials) ∙ getD-set-other (ledgerOf ns us .serials) i k (getD (d′ .serials) i 0) 0 n ∙ serial-at ns us k q)
           ]
 
-  pub gateway-put : gatewayOf (stored ns i l d′) (withUsed us i d′) ≡ record { lines = set (linesOf ns 0 lines) i l; ledger = d′ }
-  gateway-put =
-      let ls : linesOf (stored ns i l d′) 0 lines ≡ set (linesOf ns 0 lines) i l = lines-set ns (stored ns i l d′) i l h (line-own ns i l d′ (omega arith)) (λ k n. line-other ns i l d′ k n) in
+  pub gateway-put : l .settings ≡ lineOf ns i .settings
+      → gatewayOf (stored ns i l d′) (withUsed us i d′) ≡ record { lines = set (linesOf ns 0 lines) i l; memos = memosOf ns 0 lines; ledger = d′ }
+  gateway-put speaks =
+      let ls : linesOf (stored ns i l d′) 0 lines ≡ set (linesOf ns 0 lines) i l = lines-set ns (stored ns i l d′) i l h (line-own ns i l d′ (omega arith) speaks) (λ k n. line-other ns i l d′ k n) in
+      let ms : memosOf (stored ns i l d′) 0 lines ≡ memosOf ns 0 lines = memos-alike ns (stored ns i l d′) 0 lines (memo-stays ns i l d′ h) in
       let a : ledgerOf (stored ns i l d′) (withUsed us i d′) .in_use ≡ d′ .in_use = in-use-put ns (stored ns i l d′) us i h d′ long in
       let b : ledgerOf (stored ns i l d′) (withUsed us i d′) .used ≡ d′ .used = used-put ns (stored ns i l d′) us i h d′ long (t .used) in
-      λ z. record { lines = ls z; ledger = record { in_use = a z; used = b z; serials = serials-put z } }
+      λ z. record { lines = ls z; memos = ms z; ledger = record { in_use = a z; used = b z; serials = serials-put z } }
+
+  -- and what is kept of the reader
+  pub heard-put : l .settings ≡ lineOf ns i .settings → (w : Memo) → length (w .block) ≡ blockLimit
+      → gatewayOf (heard ns i l d′ w) (withUsed us i d′) ≡ record { lines = set (linesOf ns 0 lines) i l; memos = set (memosOf ns 0 lines) i w; ledger = d′ }
+  heard-put speaks w full =
+      let before = gateway-put speaks in
+      let many′ = stored-length ns i l d′ ∙ many in
+      let ls = lines-alike (stored ns i l d′) (heard ns i l d′ w) (λ k q. kept-line (stored ns i l d′) i w h k q) ∙ ap (λ (g : Gateway). g .lines) before in
+      let ms = memos-set (stored ns i l d′) (heard ns i l d′ w) i w h (memo-own (stored ns i l d′) i w h full many′) (λ k q n. memo-other (stored ns i l d′) i w h full k q n)
+      ∙ ap (λ (g : Gateway). set (g .memos) i w) before in
+      let d = kept-ledger (stored ns i l d′) i w h (withUsed us i d′) ∙ ap (λ (g : Gateway). g .ledger) before in
+      λ z. record { lines = ls z; memos = ms z; ledger = d z }
 
 -- a taking's ledger, put back
 pub taking-put : (ns us : List ℕ) (i : ℕ) → i < lines → (d′ : Ledger) → length us ≡ lines + 1 → Lowered (ledgerOf ns us) i d′ → ledgerOf ns (withUsed us i d′) ≡ d′

@@ -21,10 +21,10 @@ use Rattle.promises.specs.Queue as there
 use Rattle.promises.proofs.Queue as gateway
 use Rattle.promises.proofs.OnlyMessages as messages
 use Rattle.calls.specs.Calls.{HostState}
-use Rattle.ngachodui_laws.specs.HostRuns.{gatewayState, InOrder, freshHost, HostResponse, hostStep, after, Run, historyOf}
+use Rattle.ngachodui_laws.specs.HostRuns.{gatewayState, InOrder, beginOf, HostResponse, hostStep, after, Run, historyOf}
 use Rattle.ngachodui_laws.specs.Queue.{given, allTaken, storedBy, allStored, NothingLost, OnlyMessages}
 use Rattle.ngachodui_laws.specs.Inner.Hosting.{inNumbersOf, seenOf}
-use Rattle.ngachodui_laws.proofs.HostRuns.{one-call, runs-alike, fresh-in-order, fresh-is, history-is, at-end}
+use Rattle.ngachodui_laws.proofs.HostRuns.{begun, begun-right, one-call, runs-alike, fresh-in-order, fresh-is, history-is, at-end}
 
 -- with 8 a host sees the answer's values
 abbrev one : Bool → ℕ → List ℕ → List Numbered
@@ -62,15 +62,15 @@ stored-alike l s o (e ∷ es) =
 
 -- and from a fresh start
 module _ (r : Run) where
-  pub taken-from-fresh : (l : ℕ) → allTaken l (historyOf r) ≡ there.allTaken l (fresh (r .memory)) (r .calls)
-  taken-from-fresh l = ap (allTaken l) (history-is r) ∙ taken-seen l (fresh (r .memory)) (r .calls)
+  pub taken-from-fresh : (l : ℕ) → allTaken l (historyOf r) ≡ there.allTaken l (fresh (begun r)) (r .calls)
+  taken-from-fresh l = ap (allTaken l) (history-is r) ∙ taken-seen l (fresh (begun r)) (r .calls)
 
-  pub stored-from-fresh : (l : ℕ) → allStored l (freshHost (r .memory)) (r .calls) ≡ there.allStored l (fresh (r .memory)) (r .calls)
-  stored-from-fresh l = stored-alike l (freshHost (r .memory)) (fresh-in-order r) (r .calls) ∙ ap (λ (x : State). there.allStored l x (r .calls)) (fresh-is r)
+  pub stored-from-fresh : (l : ℕ) → allStored l (beginOf r) (r .calls) ≡ there.allStored l (fresh (begun r)) (r .calls)
+  stored-from-fresh l = stored-alike l (beginOf r) (fresh-in-order r) (r .calls) ∙ ap (λ (x : State). there.allStored l x (r .calls)) (fresh-is r)
 
   pub nothing-lost : NothingLost r
   nothing-lost =
-      let lost = gateway.nothing-lost (r .memory) (r .sizes) (r .calls) (r .may) in
+      let lost = gateway.nothing-lost (begun r) (begun-right r) (r .calls) (r .may) in
       record {
         entries = lost .entries;
         holds = at-end r (λ x. Held todaysShares (x .gateway .ledger) (x .memory .journal) (lost .entries)) (lost .held);
@@ -81,7 +81,7 @@ module _ (r : Run) where
 
   pub only-messages : OnlyMessages r
   only-messages =
-      let all = messages.only-messages (r .memory) (r .sizes) (r .calls) (r .may) in
+      let all = messages.only-messages (begun r) (begun-right r) (r .calls) (r .may) in
       record {
         entries = all .entries;
         whole = at-end r (λ x. chain (x .gateway .ledger) (x .memory .journal) ≡ some (all .entries)) (all .whole);

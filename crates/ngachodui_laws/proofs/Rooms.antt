@@ -35,7 +35,7 @@ use Rattle.ngachodui_laws.specs.HostRuns.{gatewayState, InOrder, HostRes
 use Rattle.ngachodui_laws.specs.Outcomes.{StoreKept}
 use Rattle.ngachodui_laws.specs.Freed.{takenThen, Frees, Alone}
 use Rattle.ngachodui_laws.specs.Inner.Hosting.{takenValue, inNumbersOf}
-use Rattle.ngachodui_laws.proofs.HostRuns.{one-call, ends-alike, stays-in-order, end-in-order, end-is, at-end, host-always-sound}
+use Rattle.ngachodui_laws.proofs.HostRuns.{begun, begun-right, one-call, ends-alike, stays-in-order, end-in-order, end-is, at-end, host-always-sound}
 use Rattle.ngachodui_laws.proofs.Determined.{store-kept}
 use Rattle.ngachodui_laws.proofs.Queue.{stored-alike, stored-from-fresh}
 
@@ -69,14 +69,6 @@ eight-is a h =
 taken-value : (at : ℕ) (a : Answer) → numberOf a ≡ 8 → takenValue at a ≡ getD (valuesOf a) at 0
 taken-value at a h = rw (eq-eqb (numberOf a) 8 h)
 
--- ACK goes out by the answer's number alone
-ack-by-number : (a : Answer) → replyByte (firstOut a) ≡ ack → replyByte (replyOf (numberOf a)) ≡ ack
-unfolding replyOf
-ack-by-number a h =
-    let test : Answer → Bool = λ x. cond (eqb (replyByte (firstOut x)) ack) (eqb (replyByte (replyOf (numberOf x))) ack) true in
-    eqb-true (replyByte (replyOf (numberOf a))) ack
-    (if-so (eqb (replyByte (firstOut a)) ack) (eqb (replyByte (replyOf (numberOf a))) ack) (every-answer test (λ vs. refl) a) (eq-eqb (replyByte (firstOut a)) ack h))
-
 -- a reply byte of ACK is the reply ACK
 ack-is : (x : Reply) → replyByte x ≡ ack → x ≡ Byte ack
 ack-is Silence h = absurd (omega arith)
@@ -87,7 +79,7 @@ module _ (r : Run) where
   s = endOf r
 
   abbrev g : State
-  g = final step (fresh (r .memory)) (r .calls)
+  g = final step (fresh (begun r)) (r .calls)
 
   number-is : (e : GatewayItem) → answered ((step g e) .0) ≡ numberTo s e
   number-is e = number-at s (end-in-order r) g (end-is r) e
@@ -95,7 +87,7 @@ module _ (r : Run) where
   module _ (i : ℕ) (h : i < lines) where
     module _ (k : Kind) where
       pub share-kept : numberTo s (came i k) ≡ 31 → Overfull (gatewayState s) i k
-      share-kept e = at-end r (λ x. Overfull x i k) (runs.share-kept (r .memory) (r .sizes) (r .calls) (r .may) i k h (number-is (came i k) ∙ e))
+      share-kept e = at-end r (λ x. Overfull x i k) (runs.share-kept (begun r) (begun-right r) (r .calls) (r .may) i k h (number-is (came i k) ∙ e))
 
       pub no-space : numberTo s (came i k) ≡ 31 → NoSpace (gatewayState s) i k
       no-space e = runs.no-space (gatewayState s) (host-always-sound r) i k h (number-at s (end-in-order r) (gatewayState s) refl (came i k) ∙ e)
@@ -105,32 +97,31 @@ module _ (r : Run) where
 
     -- one line alone
     module _ (only : Alone r i) (k : Kind) where
-      alone-there : there.Alone (fresh (r .memory)) (r .calls) i
+      alone-there : there.Alone (fresh (begun r)) (r .calls) i
       alone-there l q n = sym (stored-from-fresh r l) ∙ only l q n
 
       pub alone-refused : numberTo s (came i k) ≡ 31 → Completes (gatewayState s) i k (λ n. mostAlone < usedWith (gatewayState s) i n)
       alone-refused e = at-end r (λ x. Completes x i k (λ n. mostAlone < usedWith x i n))
-          (alone.alone-refused (r .memory) (r .sizes) (r .calls) (r .may) i h alone-there k (number-is (came i k) ∙ e))
+          (alone.alone-refused (begun r) (begun-right r) (r .calls) (r .may) i h alone-there k (number-is (came i k) ∙ e))
 
       pub alone-stored : numberTo s (came i k) ≡ 4 → Completes (gatewayState s) i k (λ n. usedWith (gatewayState s) i n ≤ mostAlone)
       alone-stored e = at-end r (λ x. Completes x i k (λ n. usedWith x i n ≤ mostAlone))
-          (alone.alone-stored (r .memory) (r .sizes) (r .calls) (r .may) i h alone-there k (number-is (came i k) ∙ e))
+          (alone.alone-stored (begun r) (begun-right r) (r .calls) (r .may) i h alone-there k (number-is (came i k) ∙ e))
 
     -- acknowledged is stored
     module _ (k : Kind) where
       pub acknowledged-stored : Completes (gatewayState s) i k (λ n. Unit {0}) → replyTo s (came i k) ≡ ack → numberTo s (came i k) ≡ 4
       acknowledged-stored c e =
           let reply : replied ((step g (came i k)) .0) ≡ Byte ack =
-          ack-is (replied ((step g (came i k)) .0))
-          (ack-by-number ((step g (came i k)) .0 .answer) (ap (λ (x : HostResponse). x .answered .reply) (sym (response-at s (end-in-order r) g (end-is r) (came i k))) ∙ e)) in
+          ack-is (replied ((step g (came i k)) .0)) (ap (λ (x : HostResponse). x .answered .reply) (sym (response-at s (end-in-order r) g (end-is r) (came i k))) ∙ e) in
           let complete : Completes g i k (λ n. Unit {0}) = subst (λ (x : State). Completes x i k (λ n. Unit {0})) (end-is r) c in
-          sym (number-is (came i k)) ∙ acknowledged.acknowledged-stored (r .memory) (r .sizes) (r .calls) (r .may) i k h complete reply
+          sym (number-is (came i k)) ∙ acknowledged.acknowledged-stored (begun r) (begun-right r) (r .calls) (r .may) i k h complete reply
 
       pub only-4-stores : numberTo s (came i k) ≢ 4 → StoreKept s (after s (came i k))
       only-4-stores n =
           let t = after s (came i k) in
           let c = one-call s (end-in-order r) (came i k) in
-          let kept = acknowledged.only-4-stores (r .memory) (r .sizes) (r .calls) (r .may) i k h (λ e. n (sym (number-is (came i k)) ∙ e)) in
+          let kept = acknowledged.only-4-stores (begun r) (begun-right r) (r .calls) (r .may) i k h (λ e. n (sym (number-is (came i k)) ∙ e)) in
           let store : storeOf (gatewayState t) ≡ storeOf (gatewayState s) =
           ap storeOf (c .state) ∙ ap (λ (x : State). storeOf ((step x (came i k)) .1)) (end-is r) ∙ kept ∙ ap storeOf (sym (end-is r)) in
           store-kept s t (end-in-order r) (c .in-order) store
@@ -169,10 +160,10 @@ module _ (r : Run) where
 
     pub freed-own : (k : Kind) → numberTo then (came l k) ≡ 31 → Larger (gatewayState then) l k n
     freed-own k e = subst (λ (x : State). Larger x l k n) (sym then-is)
-        (freed.freed-own (r .memory) (r .sizes) (r .calls) (r .may) l h b n fs may frees-there k (number-at then then-in-order (there.takenThen g l b fs) then-is (came l k) ∙ e))
+        (freed.freed-own (begun r) (begun-right r) (r .calls) (r .may) l h b n fs may frees-there k (number-at then then-in-order (there.takenThen g l b fs) then-is (came l k) ∙ e))
 
     pub freed-others : share + entrySize n ≤ usedBy (gatewayState s) l → (i : ℕ) → i < lines → (k : Kind) → numberTo then (came i k) ≡ 31 → Larger (gatewayState then) i k n
     freed-others beyond i q k e =
         let beyond-there = subst (λ (x : State). share + entrySize n ≤ usedBy x l) (end-is r) beyond in
         subst (λ (x : State). Larger x i k n) (sym then-is)
-        (freed.freed-others (r .memory) (r .sizes) (r .calls) (r .may) l h b n fs may frees-there beyond-there i q k (number-at then then-in-order (there.takenThen g l b fs) then-is (came i k) ∙ e))
+        (freed.freed-others (begun r) (begun-right r) (r .calls) (r .may) l h b n fs may frees-there beyond-there i q k (number-at then then-in-order (there.takenThen g l b fs) then-is (came i k) ∙ e))

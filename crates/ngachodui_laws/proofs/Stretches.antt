@@ -20,9 +20,9 @@ use Rattle.promises.specs.Inner.ByParts.{onComing, onTaking}
 use Rattle.promises.proofs.Stretches.{lined, nothing-else}
 use Rattle.promises.proofs.Kept.{fresh-sound}
 use Rattle.calls.specs.Calls.{HostState}
-use Rattle.ngachodui_laws.specs.HostRuns.{gatewayState, InOrder, freshHost, HostResponse, hostStep, decides, Run, historyOf}
+use Rattle.ngachodui_laws.specs.HostRuns.{gatewayState, InOrder, beginOf, HostResponse, hostStep, decides, Run, historyOf}
 use Rattle.ngachodui_laws.specs.Inner.Hosting.{inNumbersOf}
-use Rattle.ngachodui_laws.proofs.HostRuns.{one-call, fresh-in-order, fresh-is}
+use Rattle.ngachodui_laws.proofs.HostRuns.{begun, begun-right, one-call, fresh-in-order, fresh-is}
 use Rattle.ngachodui_laws.proofs.Determined.{same-host}
 
 -- 4, 30, 31 and those of faults are the numbers of the answers that decide
@@ -82,16 +82,16 @@ host-nothing-else : NothingElse partsIn storeIn SoundHost
 host-nothing-else s t w v same =
     same-host s t (w .in-order) (v .in-order) (nothing-else (gatewayState s) (gatewayState t) (w .sound) (v .sound) (record { each = same .each; journal = same .journal }))
 
-fresh-sound-host : (r : Run) → SoundHost (freshHost (r .memory))
-fresh-sound-host r = record { in-order = fresh-in-order r; sound = subst Sound (sym (fresh-is r)) (fresh-sound (r .memory) (r .sizes)) }
+fresh-sound-host : (r : Run) → SoundHost (beginOf r)
+fresh-sound-host r = record { in-order = fresh-in-order r; sound = subst Sound (sym (fresh-is r)) (fresh-sound (begun r) (begun-right r)) }
 
 module _ (r : Run) (order : List ℕ) (each : OrderOf lines order) where
-  pub stretches : (zs : List (GatewayItem × HostResponse)) → Rearranged decides lines order (historyOf r) zs → GoesAlike hostStep (freshHost (r .memory)) (r .calls) zs
-  stretches = serial.demand _ _ _ _ _ _ _ _ _ host-lined order each (freshHost (r .memory)) (r .calls) (fresh-sound-host r) (r .may) host-nothing-else
+  pub stretches : (zs : List (GatewayItem × HostResponse)) → Rearranged decides lines order (historyOf r) zs → GoesAlike hostStep (beginOf r) (r .calls) zs
+  stretches = serial.demand _ _ _ _ _ _ _ _ _ host-lined order each (beginOf r) (r .calls) (fresh-sound-host r) (r .may) host-nothing-else
 
   pub stretches-met : Rearranged decides lines order (historyOf r) (serialize decides order (historyOf r))
-  stretches-met = serial.demand-met _ _ _ _ _ _ _ _ _ host-lined order each (freshHost (r .memory)) (r .calls) (fresh-sound-host r) (r .may)
+  stretches-met = serial.demand-met _ _ _ _ _ _ _ _ _ host-lined order each (beginOf r) (r .calls) (fresh-sound-host r) (r .may)
 
   pub stretches-all : (zs : List (GatewayItem × HostResponse)) → Rearranged decides lines order (historyOf r) zs → (p : GatewayItem × HostResponse → Bool)
       → count p zs ≡ count p (historyOf r)
-  stretches-all = serial.nothing-lost _ _ _ _ _ _ _ _ _ host-lined order each (freshHost (r .memory)) (r .calls) (fresh-sound-host r) (r .may)
+  stretches-all = serial.nothing-lost _ _ _ _ _ _ _ _ _ host-lined order each (beginOf r) (r .calls) (fresh-sound-host r) (r .may)

@@ -28,6 +28,7 @@ use Rattle.answers.specs.declared.Made.{Made}
 use Rattle.ngachodui_laws.specs.HostRuns.{Run, historyOf}
 use Rattle.ngachodui_laws.specs.Queue.{allTaken}
 use Rattle.ngachodui_laws.specs.Texts.{Cut, Readable}
+use Rattle.ngachodui_laws.proofs.HostRuns.{begun, begun-right}
 use Rattle.ngachodui_laws.proofs.Queue.{taken-from-fresh}
 
 pub cut-whole : (m : List ℕ) → isMessage m ≡ true → Cut m
@@ -72,6 +73,6 @@ readable text h = record {
 
 pub read-never-refused : (r : Run) (l : ℕ) → l < lines → Every (λ n. Readable (n .text)) (allTaken l (historyOf r))
 read-never-refused r l h =
-    let taken = queue.allTaken l (fresh (r .memory)) (r .calls) in
-    let there = messages.read-never-refused (r .memory) (r .sizes) (r .calls) (r .may) l h in
+    let taken = queue.allTaken l (fresh (begun r)) (r .calls) in
+    let there = messages.read-never-refused (begun r) (begun-right r) (r .calls) (r .may) l h in
     subst (Every (λ (n : Numbered). Readable (n .text))) (sym (taken-from-fresh r l)) (every-so _ (λ (n : Numbered). Readable (n .text)) (λ n. readable (n .text)) taken there)

@@ -24,6 +24,10 @@ use Rattle.receiving.specs.Verdicts.{verdictOf}
 use Rattle.receiving.specs.Steps.{Memory, stepOf}
 use Rattle.looking.specs.declared.Event.{Event}
 use Rattle.looking.specs.declared.Act.{Act}
+use Rattle.settings.specs.declared.Patient.{Patient}
+use Rattle.finding.specs.Findings.{findingOf}
+use Rattle.strips.specs.Readers.{Memo}
+use Rattle.uploads.specs.Uploads.{Deed, leave, add, settle, file, ledgerBy, blockOf, rulingOn, uploadOf}
 use Rattle.gateway_laws.proofs.Rows.{store-rows}
 
 -- one line's used count and serial are set, and nothing of another line
@@ -50,6 +54,12 @@ module _ (d : Ledger) (i : ℕ) (h : i < lines) (u : length (d .used) ≡ lines)
 
   by-act : (x : Act) (text : ℕ → List ℕ) → Touched d i (ledgerAfter x d i text)
   by-act x text = store-rows d i text [] (λ y ledger journal. Touched d i ledger) (λ y. as-it-was) (λ n. by-storing (length (text n))) x
+
+  by-deed : (x : Deed) (text : List ℕ) → Touched d i (ledgerBy x d i text)
+  by-deed leave text = as-it-was
+  by-deed add text = as-it-was
+  by-deed (settle r) text = as-it-was
+  by-deed file text = by-storing (length text)
 
 -- a taking: no serial moves
 module _ (d : Ledger) (i : ℕ) (h : i < lines) (u : length (d .used) ≡ lines) where
@@ -81,9 +91,16 @@ module _ (d : Ledger) (i : ℕ) (h : i < lines) (u : length (d .used) ≡ lines)
     unfolding takeOf
     taking-lowered = either (ltb i lines) _ _ kept (either (eqb (length j) journalSize) _ _ kept (from-lowered (chain d j)))
 
--- an event
+-- an event on a line of frames
 pub step-touched : (shares : List ℕ) (l : Line) (d : Ledger) (e : Event) (m : Memory) → e .line < lines → length (d .used) ≡ lines → length (d .serials) ≡ lines
     → Touched d (e .line) (stepOf shares l d e m .stepped .ledger)
 unfolding stepOf
 step-touched shares l d e m h u s =
     by-act d (e .line) h u s (verdictOf shares l d e (m .journal) (m .unfinished) (m .frames) .act) (λ n. joinedText l n (textsOf (e .line) (m .unfinished)) (framesOf (e .line) (m .frames)))
+
+-- and on a reader's line
+pub upload-touched : (shares : List ℕ) (p : Patient) (l : Line) (w : Memo) (d : Ledger) (e : Event) (m : Memory) → e .line < lines → length (d .used) ≡ lines → length (d .serials) ≡ lines
+    → Touched d (e .line) (uploadOf shares p l w d e m .step .stepped .ledger)
+unfolding uploadOf
+upload-touched shares p l w d e m h u s =
+    by-deed d (e .line) h u s (rulingOn shares p l w d e m .deed) (findingOf p (blockOf (e .kind) l (framesOf (e .line) (m .frames))))

@@ -1,6 +1,7 @@
 -- What is claimed, in one record, of the functions that hosts call. `kept` (proofs/Demands) is a value of it: every field is proved.
 -- `hostStep s e` is a call: the answer to an event or a taking e, and every number and byte that the host keeps then, where it kept s before (specs/HostRuns).
--- A `Run` is a fresh start, with memory of the right sizes whatever it holds, and then any calls, events and starts of sendings on lines 0 to 7 and takings from any line.
+-- A `Run` is a start, with what each line speaks and memory of the right sizes whatever it holds, and then any calls, events and starts of sendings on lines 0 to 7 and takings
+-- from any line. A line speaks frames, or the blocks of a strip reader: where a promise is about one of these it says so.
 -- Answers are a host's own numbers. What a text needs, and whether there is room, is asked of the gateway that these numbers stand for (`gatewayState`).
 -- Assumes nothing.
 use Prim.Native.Nat.{ℕ, _+_, _≤_, _<_}
@@ -9,7 +10,7 @@ use mathlib.Core.Logic.{_≢_}
 use mathlib.Core.Bool.{Bool, true, false}
 use mathlib.Core.List.{List, [], _∷_, _++_}
 use mathlib.Core.Option.{some}
-use lib.ListN.{length}
+use lib.ListN.{length, getD}
 use Rattle.memory.specs.Sizes.{lines, frameLimit}
 use Rattle.characters.specs.Control.{stx, eot}
 use Rattle.pieces.specs.Pieces.{piecesOf}
@@ -20,6 +21,15 @@ use Rattle.header.specs.Header.{entrySize}
 use Rattle.room.specs.Room.{share}
 use Rattle.journal_laws.specs.Runs.{waiting}
 use Rattle.answers.specs.Paper.{ack}
+use Rattle.settings.specs.declared.Patient.{Patient}
+use Rattle.block.specs.Layouts.{mor, rep}
+use Rattle.block.specs.Judged.{judgedOf}
+use Rattle.block.specs.Controls.{controlBytes}
+use Rattle.block.specs.declared.Judged.{Judged}
+use Rattle.block.specs.declared.Judged.the-variants.{Results}
+use Rattle.finding.specs.Findings.{findingOf}
+use Rattle.finding_laws.specs.Says.{Says}
+use Rattle.strips.specs.Readers.{isAgain}
 use Rattle.looking.specs.declared.Kind.{Kind}
 use Rattle.receiving.specs.Steps.{Memory}
 use Rattle.serial.specs.Serial.{event, taking, annotate, final, serialize, count, Every, OrderOf, GoesAlike}
@@ -27,18 +37,20 @@ use Rattle.serial.specs.Kept.{only, isOf, Rearranged}
 use Rattle.promises.specs.Machine.{Coming, GatewayItem, came, starting, May}
 use Rattle.promises.specs.Orders.{orderedOn, isAck, EotTells, longest, ticks}
 use Rattle.promises.specs.Clean.{WrongAt}
-use Rattle.promises.specs.Runs.{RightSizes, isDamage, offered, Completes, Overfull, NoSpace, Space, Larger, usedBy, usedWith, mostAlone}
-use Rattle.layout.specs.Layout.{Fresh, serialAt, numberAt}
+use Rattle.promises.specs.Readers.{numberFor, outFor, LastOf}
+use Rattle.promises.specs.Runs.{RightSizes, isDamage, isResults, offered, Completes, Overfull, NoSpace, Space, Larger, usedBy, usedWith, mostAlone}
+use Rattle.layout.specs.Layout.{frames, Fresh, canStart, Started, serialAt, speaksAt, numberAt}
 use Rattle.numbers.specs.Plain.{lineOf}
 use Rattle.calls.specs.Calls.{HostState}
 use Rattle.ngachodui_laws.specs.Hosting.{isRefusal}
-use Rattle.ngachodui_laws.specs.HostRuns.{gatewayState, freshHost, HostResponse, hostStep, numberTo, replyTo, after, decides, Run, historyOf, endOf}
+use Rattle.ngachodui_laws.specs.HostRuns.{gatewayState, startedHost, freshHost, beginOf, HostResponse, hostStep, numberTo, replyTo, after, decides, Run, historyOf, endOf}
 use Rattle.ngachodui_laws.specs.Sound.{Intact, Sound}
-use Rattle.ngachodui_laws.specs.Outcomes.{Allows, ignores, lineIn, LineKept, StoreKept}
+use Rattle.ngachodui_laws.specs.Outcomes.{StartedAs, Allows, ignores, lineIn, LineKept, StoreKept}
 use Rattle.ngachodui_laws.specs.Deciding.{DecidedExactly}
 use Rattle.ngachodui_laws.specs.Queue.{allTaken, NothingLost, OnlyMessages}
 use Rattle.ngachodui_laws.specs.Sending.{CanSend, sentTo, Delivered, GivesBack}
 use Rattle.ngachodui_laws.specs.Orders.{CanStart, sentOn, SentWhole, SentAmong, OrderTaken, SentSparingly, acknowledgements, neutralAlong, FetchedAs}
+use Rattle.ngachodui_laws.specs.Readers.{EndsBlock, endedBlock, memoOn, sentWith, NotStored, storedWith, ToReader, RightControl}
 use Rattle.ngachodui_laws.specs.Texts.{Cut, Readable, ComesBack, GoesBack}
 use Rattle.ngachodui_laws.specs.Freed.{takenThen, Frees, Alone}
 
@@ -54,6 +66,11 @@ pub record Demands : Type 0 where
   --
   -- What makes a gateway fresh leaves the numbers of `freshHost`, and no others.
   pub fresh-outcome : (m : Memory) (ns us : List ℕ) → Fresh ns us → _≡_ {A = HostState} (record { numbers = ns; counts = us; memory = m }) (freshHost m)
+  --
+  -- A start with what each line speaks is answered 0 and leaves the numbers of `startedHost`, and no others; where one of them is nothing that a line can speak it is answered 42
+  -- and changes nothing.
+  pub started-outcome : (speaks ns us : List ℕ) (r : ℕ) (ns′ us′ : List ℕ) → Started speaks ns us r ns′ us′ → canStart speaks ≡ true → (m : Memory) → StartedAs speaks m r ns′ us′
+  pub unstarted-leaves : (speaks ns us : List ℕ) (r : ℕ) (ns′ us′ : List ℕ) → Started speaks ns us r ns′ us′ → canStart speaks ≡ false → (r ≡ 42) × (ns′ ≡ ns) × (us′ ≡ us)
   --
   -- No call of a run finds memory of another size, a record beyond its limits or a broken journal: 41, 42 and 43 do not come. Nor does 30, as
   -- every frame's text is of allowed bytes; and to an event 54 comes from no state at all, as a text that is complete ends with CR.
@@ -71,10 +88,13 @@ pub record Demands : Type 0 where
   pub buffer-left : (s : HostState) (i : ℕ) (b : List ℕ) → isRefusal (numberTo s (taking i b)) ≡ true → (hostStep s (taking i b)) .0 .buffer ≡ b
   --
   -- Nor does an event that its line ignores.
-  pub ignored-leaves : (s : HostState) (i : ℕ) (k : Kind) → ignores (lineOf (s .numbers) i .state) k ≡ true → after s (came i k) ≡ s
+  pub ignored-leaves : (s : HostState) (i : ℕ) (k : Kind) → ignores (lineOf (s .numbers) i) k ≡ true → after s (came i k) ≡ s
   --
-  -- A call on one line leaves every other line its numbers, its used count and its parts of the memory, from any state at all.
+  -- A call on one line leaves every other line its numbers, its last stored block, its used count and its parts of the memory, from any state at all.
   pub others-kept : (s : HostState) (e : GatewayItem) (l : ℕ) → l < lines → l ≢ lineIn e → LineKept l s (after s e)
+  --
+  -- No call changes what any line speaks, from any state at all.
+  pub speaks-kept : (s : HostState) (e : GatewayItem) (l : ℕ) → l < lines → numberAt (after s e .numbers) l speaksAt ≡ numberAt (s .numbers) l speaksAt
   --
   -- An event that completes a text is answered 4 exactly if the text is a message and there is room for it, 31 exactly if it is one and there is none, and the number
   -- of a fault with a place exactly if that is the first thing wrong with it, at the record of that place: after every run, and wherever numbers, memory and journal
@@ -99,8 +119,9 @@ pub record Demands : Type 0 where
       → length (allTaken i (annotate hostStep (sentTo s i m) es)) ≡ length (waiting i (c .intact .entries)) → (b : List ℕ) → length m ≤ length b
       → GivesBack (final hostStep (sentTo s i m) es) i b (numberAt (s .numbers) i serialAt) m
   --
-  -- On a fresh start every line can be sent every message.
-  pub can-send : (m : Memory) → RightSizes m → (i : ℕ) → i < lines → (t : List ℕ) → isMessage t ≡ true → CanSend (freshHost m) i t
+  -- On a start every line that speaks frames can be sent every message.
+  pub can-send : (speaks : List ℕ) → length speaks ≡ lines → canStart speaks ≡ true → (m : Memory) → RightSizes m → (i : ℕ) → i < lines → getD speaks i 0 ≡ frames
+      → (t : List ℕ) → isMessage t ≡ true → CanSend (startedHost speaks m) i t
   --
   -- ---- 3. How the lines' calls are mixed makes no difference
 
@@ -108,7 +129,7 @@ pub record Demands : Type 0 where
   -- which the texts were decided, the takings among these where they were, and the lines' rests last, in any order of the lines. Every call then gets the same
   -- answer, a taking the same buffer, and the host ends with the same numbers and bytes.
   pub stretches : (r : Run) (order : List ℕ) → OrderOf lines order → (zs : List (GatewayItem × HostResponse)) → Rearranged decides lines order (historyOf r) zs
-      → GoesAlike hostStep (freshHost (r .memory)) (r .calls) zs
+      → GoesAlike hostStep (beginOf r) (r .calls) zs
   --
   -- There is such a telling, and `serialize` computes it.
   pub stretches-met : (r : Run) (order : List ℕ) → OrderOf lines order → Rearranged decides lines order (historyOf r) (serialize decides order (historyOf r))
@@ -162,7 +183,7 @@ pub record Demands : Type 0 where
   --
   -- ---- Work orders
 
-  -- A message that is started on a neutral line, with an ACK to our ENQ and to each frame, goes out as the very bytes of its transfer: ENQ, the frames that cutting makes,
+  -- A message that is started on a neutral line of frames, with an ACK to our ENQ and to each frame, goes out as the very bytes of its transfer: ENQ, the frames that cutting makes,
   -- EOT. The line is then as fresh, and nothing else has changed.
   pub sent-whole : (s : HostState) (i : ℕ) (m : List ℕ) → CanStart s i m → SentWhole s i m
   --
@@ -191,6 +212,35 @@ pub record Demands : Type 0 where
   -- And it ends: once its line was told that a second or more has passed so often, 140 times and 90 times more for each frame, whatever came between, it has been neutral.
   pub sending-ends : (r : Run) (i : ℕ) → i < lines → (m : List ℕ) → numberTo (endOf r) (starting i m) ≡ sends → (es : List GatewayItem) → Every May es
       → longest (length (piecesOf frameLimit m)) ≤ ticks i es → neutralAlong i (after (endOf r) (starting i m)) es ≡ true
+  --
+  -- ---- Strip readers
+
+  -- A block with results that is right makes a message, and the message says what the block does: read by field and unescaped, its P has the patient number, its O the sequence
+  -- number and each R the name and the rest of a result, all trimmed.
+  pub block-message : (p : Patient) (block : List ℕ) → judgedOf p block ≡ Results → isMessage (findingOf p block) ≡ true
+  pub block-says : (p : Patient) (block : List ℕ) → judgedOf p block ≡ Results → Says p block (findingOf p block)
+  --
+  -- A block that is not one with results is answered by what it is: 70, 71 or 72 with REP; 11 with MOR to SPM and to colours, with our last reply, if any, to REP, with nothing to
+  -- END. It is not stored.
+  pub block-answered : (r : Run) (i : ℕ) → i < lines → (b : ℕ) (p : Patient) → EndsBlock (endOf r) i b p → (x : Judged) → judgedOf p (endedBlock (endOf r) i b) ≡ x
+      → isResults x ≡ false → NotStored (endOf r) i b (numberFor x) (outFor x (memoOn (endOf r) i .reader .reply))
+  --
+  -- A block with results that is the last stored one, with an SPM or REP of the reader since, is answered 11 with MOR, and is not stored again.
+  pub repeat-not-stored : (r : Run) (i : ℕ) → i < lines → (b : ℕ) (p : Patient) → EndsBlock (endOf r) i b p → judgedOf p (endedBlock (endOf r) i b) ≡ Results
+      → isAgain (memoOn (endOf r) i) (endedBlock (endOf r) i b) ≡ true → NotStored (endOf r) i b 11 (controlBytes mor)
+  --
+  -- A block with results to which anything is sent is stored: its message is the last that was stored on its line, this event counted.
+  pub more-stored : (r : Run) (i : ℕ) → i < lines → (b : ℕ) (p : Patient) → EndsBlock (endOf r) i b p → judgedOf p (endedBlock (endOf r) i b) ≡ Results
+      → sentWith (endOf r) i b ≢ [] → LastOf (storedWith r i b) (findingOf p (endedBlock (endOf r) i b))
+  --
+  -- Where STX is answered on a reader's line, what goes out is MOR or REP, as the numbers have our last reply; and both are right by our own tests.
+  pub to-reader : (r : Run) (i : ℕ) → i < lines → numberAt (endOf r .numbers) i speaksAt ≢ frames → (k : Kind) → replyTo (endOf r) (came i k) ≡ stx
+      → ToReader (after (endOf r) (came i k)) i ((hostStep (endOf r) (came i k)) .0 .buffer)
+  pub replies-right : RightControl mor × RightControl rep
+  --
+  -- On a reader's line, from any state at all, no event writes a byte of the unfinished texts, and no sending is started: what asks for one changes nothing.
+  pub texts-kept : (s : HostState) (i : ℕ) (k : Kind) → numberAt (s .numbers) i speaksAt ≢ frames → after s (came i k) .memory .unfinished ≡ s .memory .unfinished
+  pub no-order : (s : HostState) (i : ℕ) (text : List ℕ) → numberAt (s .numbers) i speaksAt ≢ frames → (numberTo s (starting i text) ≢ sends) × (after s (starting i text) ≡ s)
   --
   -- ---- Every message has its own delimiters
 

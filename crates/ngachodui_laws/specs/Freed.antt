@@ -8,7 +8,7 @@ use Rattle.memory.specs.Sizes.{lines}
 use Rattle.serial.specs.Serial.{taking, final}
 use Rattle.promises.specs.Machine.{GatewayItem}
 use Rattle.calls.specs.Calls.{HostState}
-use Rattle.ngachodui_laws.specs.HostRuns.{hostStep, freshHost, numberTo, after, Run}
+use Rattle.ngachodui_laws.specs.HostRuns.{hostStep, beginOf, numberTo, after, Run}
 use Rattle.ngachodui_laws.specs.Queue.{allStored}
 
 -- a taking from line l and then the calls fs
@@ -23,4 +23,4 @@ pub record Frees (s : HostState) (l : ℕ) (b : List ℕ) (n : ℕ) (fs : List G
 
 -- the run stores messages on line i alone
 abbrev pub Alone : Run → ℕ → Type 0
-Alone r i = (k : ℕ) → k < lines → k ≢ i → allStored k (freshHost (r .memory)) (r .calls) ≡ []
+Alone r i = (k : ℕ) → k < lines → k ≢ i → allStored k (beginOf r) (r .calls) ≡ []

@@ -1,7 +1,8 @@
--- What a call does to what a host keeps, and runs of calls from a fresh start.
+-- What a call does to what a host keeps, and runs of calls from a start.
 -- Assumes nothing.
 use Prim.Native.Nat.{ℕ, _+_}
-use mathlib.Core.Bool.{Bool, not, _&&_, _||_}
+use mathlib.Core.Path.{_≡_}
+use mathlib.Core.Bool.{Bool, true, not, _&&_, _||_}
 use mathlib.Core.List.{List}
 use lib.Dec.{eqb}
 use lib.ListN.{length, replicate}
@@ -10,9 +11,11 @@ use Rattle.receiving.specs.Steps.{Memory}
 use Rattle.serial.specs.Serial.{event, taking, annotate, final, Every}
 use Rattle.promises.specs.Machine.{State, GatewayItem, happens, starts, onLine, May}
 use Rattle.promises.specs.Runs.{RightSizes}
-use Rattle.layout.specs.Layout.{freshNumbers}
-use Rattle.gateway.specs.Out.{outBytes}
+use Rattle.layout.specs.Layout.{frames, startedNumbers, canStart}
+use Rattle.settings.specs.Settings.{byDialogue}
+use Rattle.gateway.specs.Out.{outBytes, blockOut}
 use Rattle.numbers.specs.Plain.{lineOf}
+use Rattle.keeping.specs.Keeping.{memoOf}
 use Rattle.answers.specs.InNumbers.{inNumbers}
 use Rattle.orders.specs.Starts.{startAnswer, textsStarted}
 use Rattle.orders.specs.Calls.{lookFrom, numbersStarted, frameOn}
@@ -30,8 +33,12 @@ gatewayState s = record { gateway = gatewayOf (s .numbers) (s .counts); memory =
 abbrev pub InOrder : HostState → Type 0
 InOrder s = Ordered (s .numbers) (s .counts)
 
+-- a start with what each line speaks, and one where every line speaks frames
+abbrev pub startedHost : List ℕ → Memory → HostState
+startedHost speaks m = record { numbers = startedNumbers speaks; counts = replicate (lines + 1) 0; memory = m }
+
 abbrev pub freshHost : Memory → HostState
-freshHost m = record { numbers = freshNumbers lines; counts = replicate (lines + 1) 0; memory = m }
+freshHost m = startedHost (replicate lines frames) m
 
 -- the answer to a call, and what the buffer of a taking then holds, or what goes out in a sending
 pub record HostResponse : Type 0 where
@@ -56,10 +63,12 @@ startedBy x s i text = record {
   };
 }
 
--- what a host sends where a call has left the state t: with 9 the byte that is answered, and where that is STX the frame that its line offers, which
--- `ngachodui_outgoing` fetches [H5, S2]
+-- what a host sends where a call has left the state t: with 9 the byte that is answered, and where that is STX the frame that its line offers; on a reader's line,
+-- where STX is answered, our last reply; `ngachodui_outgoing` fetches both [H5, S2, B11]
 abbrev pub sentBy : HostState → ℕ → Answered → List ℕ
-sentBy t i a = outBytes (a .number) (a .reply) (frameOn (lineOf (t .numbers) i) i (t .memory .unfinished))
+sentBy t i a =
+    byDialogue (lineOf (t .numbers) i .settings .dialogue) (outBytes (a .number) (a .reply) (frameOn (lineOf (t .numbers) i) i (t .memory .unfinished)))
+    (λ p. blockOut (a .reply) (memoOf (t .numbers) i .reader .reply))
 
 abbrev pub responseTo : ℕ → AfterCall → HostResponse × HostState
 responseTo i c = (record { answered = c .answered; buffer = sentBy (c .state) i (c .answered) }, c .state)
@@ -92,24 +101,31 @@ replyTo s e = (hostStep s e) .0 .answered .reply
 abbrev pub after : HostState → GatewayItem → HostState
 after s e = (hostStep s e) .1
 
--- a complete text is stored (4) or finally refused (30, 31, a fault)
+-- a complete text is stored (4) or finally refused (30, 31)
 abbrev pub isDecision : ℕ → Bool
-isDecision n = eqb n 4 || (eqb n 30 || (eqb n 31 || isFaulty n))
+isDecision n = eqb n 4 || (eqb n 30 || eqb n 31)
 
--- and its analyzer is told so, while a fault of a text that is not sent goes to no analyzer, and decides nothing
+-- or has a fault, of which its analyzer is told: a fault of a text that is not sent goes to no analyzer, and decides nothing
 abbrev pub decides : HostResponse → Bool
-decides r = isDecision (r .answered .number) && not (eqb (r .answered .reply) 0)
+decides r = isDecision (r .answered .number) || (isFaulty (r .answered .number) && not (eqb (r .answered .reply) 0))
 
--- a run of calls: a fresh start with memory of the right sizes, whatever it holds, and any calls, events and starts on lines 0 to 7 and takings from any line
+-- a run of calls: a start with what each of the eight lines speaks and with memory of the right sizes, whatever it holds, and any calls, events and starts of sendings on
+-- lines 0 to 7 and takings from any line
 pub record Run : Type 0 where
+  pub speaks : List ℕ
+  pub eight : length speaks ≡ lines
+  pub spoken : canStart speaks ≡ true
   pub memory : Memory
   pub sizes : RightSizes memory
   pub calls : List GatewayItem
   pub may : Every May calls
 
--- each call of it with its response, and what the host keeps at its end
+-- what the host keeps at its start, each call of it with its response, and what the host keeps at its end
+abbrev pub beginOf : Run → HostState
+beginOf r = startedHost (r .speaks) (r .memory)
+
 abbrev pub historyOf : Run → List (GatewayItem × HostResponse)
-historyOf r = annotate hostStep (freshHost (r .memory)) (r .calls)
+historyOf r = annotate hostStep (beginOf r) (r .calls)
 
 abbrev pub endOf : Run → HostState
-endOf r = final hostStep (freshHost (r .memory)) (r .calls)
+endOf r = final hostStep (beginOf r) (r .calls)

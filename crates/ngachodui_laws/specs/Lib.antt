@@ -6,6 +6,7 @@ pub mod Deciding
 pub mod Queue
 pub mod Sending
 pub mod Orders
+pub mod Readers
 pub mod Texts
 pub mod Freed
 pub mod Demands

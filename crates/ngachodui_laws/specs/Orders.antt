@@ -24,6 +24,7 @@ use Rattle.serial.specs.Serial.{annotate, final, Every}
 use Rattle.promises.specs.Machine.{GatewayItem}
 use Rattle.promises.specs.Sending.{bytesOn, transfer}
 use Rattle.promises.specs.Orders.{outOn, orderedOn, beginsOn, sendsOn, offersAt, acknowledges, countUntil, turnsNeutral}
+use Rattle.layout.specs.Layout.{frames, speaksAt, numberAt}
 use Rattle.numbers.specs.Plain.{lineOf}
 use Rattle.calls.specs.Calls.{HostState}
 use Rattle.ngachodui_laws.specs.HostRuns.{HostResponse, hostStep, after}
@@ -31,10 +32,11 @@ use Rattle.ngachodui_laws.specs.Outcomes.{LineKept, StoreKept}
 use Rattle.ngachodui_laws.specs.Sound.{Intact, Holds}
 use Rattle.ngachodui_laws.specs.Sending.{says, toFrames, entryOf}
 
--- line i is neutral, and m is a message; the other lines may be at anything
+-- line i speaks frames and is neutral, and m is a message; the other lines may be at anything
 pub record CanStart (s : HostState) (i : ℕ) (m : List ℕ) : Type 0 where
   pub line : i < lines
   pub intact : Intact s
+  pub speaks : numberAt (s .numbers) i speaksAt ≡ frames
   pub neutral : lineOf (s .numbers) i .state ≡ Neutral
   pub message : isMessage m ≡ true
 
@@ -86,7 +88,8 @@ acknowledgements i s es = countUntil hostStep (begins i) (λ e r t. acknowledges
 abbrev pub neutralAlong : ℕ → HostState → List GatewayItem → Bool
 neutralAlong i s es = turnsNeutral after (λ t. isNeutral (lineOf (t .numbers) i .state)) s es
 
--- whatever the contract of `ngachodui_outgoing` allows behind a call that answers STX, with memory for a frame: what the call's response has as sent is put out
+-- whatever the contract of `ngachodui_outgoing` allows behind a call that answers STX, with memory for a frame: what the call's response has as sent, a frame or our reply to a
+-- reader, is put out
 abbrev pub FetchedAs : HostState → ℕ → List ℕ → Type 0
 FetchedAs t i frame =
     (out out′ : List ℕ) (r : Made) → Fetched (t .numbers) i (t .memory .unfinished) out r out′ → frameLimit ≤ length out → (r ≡ done (length frame)) × (out′ ≡ splice out 0 frame)

@@ -17,7 +17,7 @@ use Rattle.promises.specs.Machine.{GatewayItem, happens, starts, came}
 use Rattle.promises.specs.Queue.{completed}
 use Rattle.ledger.specs.Ledgers.{ledgerOf}
 use Rattle.calls.specs.Calls.{HostState}
-use Rattle.ngachodui_laws.specs.HostRuns.{gatewayState, freshHost, HostResponse, numberTo, after, Run, historyOf, endOf}
+use Rattle.ngachodui_laws.specs.HostRuns.{gatewayState, beginOf, HostResponse, numberTo, after, Run, historyOf, endOf}
 use Rattle.ngachodui_laws.specs.Sound.{Holds}
 
 -- the text that a taking gave: with 8, so many bytes at the buffer's start, under the serial that was answered
@@ -48,7 +48,7 @@ allStored l s (e ∷ es) = storedBy l s e ++ allStored l (after s e) es
 pub record NothingLost (r : Run) : Type 0 where
   pub entries : List Entry
   pub holds : Holds (endOf r) entries
-  pub queue : (l : ℕ) → l < lines → numbered 0 (allStored l (freshHost (r .memory)) (r .calls)) ≡ allTaken l (historyOf r) ++ waiting l entries
+  pub queue : (l : ℕ) → l < lines → numbered 0 (allStored l (beginOf r) (r .calls)) ≡ allTaken l (historyOf r) ++ waiting l entries
 
 -- every text that waits is a message, and every text that was taken is one
 pub record OnlyMessages (r : Run) : Type 0 where
