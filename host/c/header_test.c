@@ -419,7 +419,8 @@ static void test_sending_sizes(void)
 {
     start_sending();
     byte_on(2, 0x06);
-    const ngachodui_state before = gateway.state;
+    static ngachodui_state before;
+    before = gateway.state;
     for (int memory = 0; memory < 3; memory++) {
         const ngachodui_answered a = ngachodui_send(3, MESSAGE, numbers, gateway.journal, sizeof gateway.journal - (memory == 0),
                                                     gateway.unfinished, sizeof gateway.unfinished - (memory == 1),
@@ -711,7 +712,8 @@ static void test_sizes(void)
     check_number(layout.unfinished, sizeof gateway.unfinished, "the size of unfinished text");
     check_number(layout.frames, sizeof gateway.frames, "the size of the frames");
 
-    const ngachodui_state before = gateway.state;
+    static ngachodui_state before;
+    before = gateway.state;
     for (int memory = 0; memory < 3; memory++) {
         const size_t journal = sizeof gateway.journal - (memory == 0);
         const size_t unfinished = sizeof gateway.unfinished - (memory == 1);

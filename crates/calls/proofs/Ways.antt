@@ -4,7 +4,7 @@ use mathlib.Core.Path.{_≡_, refl, sym, ap, subst, _∙_}
 use mathlib.Core.Bool.{Bool, true, false, cond, not, _&&_}
 use mathlib.Core.List.{List}
 use Prim.Native.Nat.{ℕ, _+_, _≤_, _<_}
-use borrow.Author.Tests.{lt-ltb, le-ltb, eqb-true, not-true}
+use borrow.Author.Tests.{lt-ltb, le-ltb, eqb-true, not-true, not-false}
 use lib.Dec.{ltb, eqb}
 use lib.ListN.{length, getD, set}
 use Rattle.memory.specs.Sizes.{lines, framesSize}
@@ -74,6 +74,11 @@ stepped-on s numbers unfinished frames = record { numbers = numbers; counts = s 
 
 abbrev reframed : HostState → List ℕ → List ℕ → HostState
 reframed s numbers frames = stepped-on s numbers (s .memory .unfinished) frames
+
+-- a line that is no reader's speaks frames
+pub reader-not : (ns : List ℕ) (i : ℕ) → i < lines → isReader ns i ≡ false → numberAt ns i 10 ≡ 0
+unfolding isReader
+reader-not ns i h q = eqb-true (numberAt ns i 10) 0 (not-false _ (rw (lt-ltb i lines h) at q))
 
 -- a line that speaks blocks
 abbrev speaksBlocks : Dialogue → Bool

@@ -5,20 +5,26 @@ use mathlib.Core.Bool.{Bool, true, false, not, _&&_}
 use mathlib.Core.List.{List}
 use Prim.Native.Nat.{ℕ, _+_, _-_, _≤_, _<_}
 use native.Mathlib.Omega.{arith}
-use borrow.Author.Tests.{lt-ltb, le-ltb, ltb-true, leb-true, le-leb, eqb-true, eq-eqb, ne-eqb}
+use borrow.Author.Tests.{lt-ltb, le-ltb, ltb-true, leb-true, le-leb, eqb-true, eqb-false, eq-eqb, ne-eqb}
 use lib.Dec.{leb, ltb, eqb}
 use lib.ListN.{length, set}
 use Rattle.memory.specs.Sizes.{lines, frameLimit, framesSize}
 use Rattle.memory.specs.Tests.{is}
 use Rattle.characters.specs.Control.{lf}
 use Rattle.line.specs.Line.{mostCollected}
-use Rattle.memory.proofs.Tests.{and-left, and-right, and-not-right}
+use Rattle.memory.proofs.Tests.{and-left, and-right, and-both, and-not-right}
 use Rattle.looking.specs.Views.{frameStart}
 use Rattle.looking.specs.declared.Kind.{Kind}
 use Rattle.layout.specs.Layout.{firstAt, numberAt}
 use Rattle.numbers.specs.Plain.{inside, quick, onlyCollects, sendingFits, countsFit, speechFits, withinNumbers, oneMore, begins, insideAt}
-use Rattle.numbers.proofs.Numbers.{within-others}
+use Rattle.numbers.proofs.Numbers.{within-others, within-unfit}
+use Rattle.numbers.specs.Inner.Quick.{receives}
 use Rattle.numbers.specs.Changes.{isWithin, isCollected, Collected, isBegun, Begun}
+
+and-yes : (a b : Bool) → a && (b && true) ≡ a && b
+and-yes true true = refl
+and-yes true false = refl
+and-yes false b = refl
 
 -- a byte is quick by the line's limits, and by what is collected
 module _ (ns : List ℕ) (i b : ℕ) where
@@ -38,6 +44,22 @@ module _ (ns : List ℕ) (i b : ℕ) where
       both-false true true d = refl
       both-false true false d = refl
       both-false false c d = refl
+
+  -- a line that sends, or a reader's
+  pub quick-busy : firstAt ns i ≡ inside → receives (numberAt ns i 8) (numberAt ns i 9) (numberAt ns i 10) ≡ false → false ≡ quick ns i b
+  quick-busy s r = by-speech (eqb (numberAt ns i 10) 0) refl
+    where
+      by-speech : (t : Bool) → eqb (numberAt ns i 10) 0 ≡ t → false ≡ quick ns i b
+      by-speech true q = quick-beyond (sym (within-unfit ns i (omega (arith, s)) (rw s (sym (and-yes (eqb (numberAt ns i 8) 0) (eqb (numberAt ns i 9) 0)) ∙ rw q at r))))
+      by-speech false q = quick-reader (eqb-false (numberAt ns i 10) 0 q)
+
+  -- one that receives
+  pub quick-idle : firstAt ns i ≡ inside → receives (numberAt ns i 8) (numberAt ns i 9) (numberAt ns i 10) ≡ true
+      → (numberAt ns i 10 ≡ 0) × (sendingFits (firstAt ns i) (numberAt ns i 8) (numberAt ns i 9) ≡ true)
+  quick-idle s r =
+      let rest = and-right (eqb (numberAt ns i 8) 0) _ r in
+      let speaks = eqb-true (numberAt ns i 10) 0 (and-right (eqb (numberAt ns i 9) 0) _ rest) in
+      (speaks, rw s (and-both (eqb (numberAt ns i 8) 0) (eqb (numberAt ns i 9) 0) (and-left (eqb (numberAt ns i 8) 0) _ r) (and-left (eqb (numberAt ns i 9) 0) _ rest)))
 
   module _ (s : firstAt ns i ≡ inside) (n : b ≡ lf → ⊥) (e : numberAt ns i 10 ≡ 0) (t : sendingFits (firstAt ns i) (numberAt ns i 8) (numberAt ns i 9) ≡ true) where
     within-speech : withinNumbers ns i ≡ countsFit ns i && leb (numberAt ns i 1) (frameLimit - 2)

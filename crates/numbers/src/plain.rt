@@ -8,6 +8,7 @@ ghost use Rattle.line.specs.Line.{mostCollected};
 ghost use Rattle.line.specs.declared.State.the-variants.{Out};
 ghost use Rattle.looking.specs.Views.{frameStart};
 ghost use Rattle.layout.specs.Layout.{numberAt};
+ghost use Rattle.numbers.specs.Inner.Quick.{receives as Quick·receives};
 ghost use Rattle.numbers.specs.Plain.{oneMore, quick, begins, sendingOf, stateOf, stateNumber, triesNumber, placeNumber, sendingFits, lastOf, lastNumber, flag, countsFit, blockFits, speechFits, withinNumbers, dialogueOf, settingsOf, lineOf, withLine};
 use characters::LF;
 use characters::STX;
@@ -159,8 +160,7 @@ fn sending_fits(state: u16, tries: u16, place: u16) -> bool
     place <= Line::MOST_JOINED
 }
 
-// Whether a byte is only collected, inside a frame that it does not end, and its line's numbers are within their limits: in this order
-// none is compared twice once it is compiled, and tries and place are tested while a register is free.
+// Whether a byte is only collected, inside a frame that it does not end, and its line's numbers are within their limits.
 pub fn is_quick(numbers: &[u16; NUMBERS], i: usize, byte: u8) -> bool
     requires { ⌜ i < lines ⌝ }
     ensures { λ r. ⌜ r ≡ quick (now (numbers .entry)) i byte ⌝ }
@@ -172,16 +172,24 @@ pub fn is_quick(numbers: &[u16; NUMBERS], i: usize, byte: u8) -> bool
     if byte == LF {
         return false;
     }
-    if numbers[at + SPEAKS] != FRAMES {
-        return false;
-    }
-    if !sending_fits(numbers[at], numbers[at + TRIES], numbers[at + PLACE]) {
+    if !receives(
+        numbers[at + TRIES],
+        numbers[at + PLACE],
+        numbers[at + SPEAKS],
+    ) {
         return false;
     }
     if Line::MOST_COLLECTED <= numbers[at + COLLECTED] {
         return false;
     }
     are_counts_within(numbers, i)
+}
+
+// No tries and no place, and the line speaks frames: one test in the place of three, as most bytes take it.
+fn receives(tries: u16, place: u16, speaks: u16) -> bool
+    ensures { λ r. ⌜ r ≡ Quick·receives tries place speaks ⌝ }
+{
+    tries | place | speaks == FRAMES
 }
 
 // The byte behind those collected, and one more collected.

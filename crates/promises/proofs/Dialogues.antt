@@ -9,7 +9,8 @@ use Rattle.memory.specs.Sizes.{lines}
 use Rattle.room.specs.Room.{todaysShares}
 use Rattle.settings.specs.Settings.{standardSettings}
 use Rattle.settings.specs.declared.Settings.{Settings}
-use Rattle.settings.specs.declared.Dialogue.the-variants.{Frames}
+use Rattle.settings.specs.declared.Patient.{Patient}
+use Rattle.settings.specs.declared.Dialogue.the-variants.{Frames, Blocks}
 use Rattle.line.specs.declared.Line.{Line}
 use Rattle.orders.specs.Starts.{lineStarted}
 use Rattle.orders.specs.declared.Start.{Start}
@@ -38,9 +39,12 @@ pub run-settings : (s : State) (es : List GatewayItem) (i : ℕ) → lineAt (fin
 run-settings s [] i = refl
 run-settings s (e ∷ es) i = run-settings ((step s e) .1) es i ∙ item-settings s e i
 
--- so a line that speaks frames goes on speaking them
+-- so a line that speaks frames goes on speaking them, and a reader's line its blocks
 pub still-frames : (s : State) (e : GatewayItem) (i : ℕ) → dialogueAt (s .gateway) i ≡ Frames → dialogueAt ((step s e) .1 .gateway) i ≡ Frames
 still-frames s e i speaks = ap (λ (t : Settings). t .dialogue) (item-settings s e i) ∙ speaks
+
+pub still-blocks : (s : State) (e : GatewayItem) (i : ℕ) (p : Patient) → dialogueAt (s .gateway) i ≡ Blocks p → dialogueAt ((step s e) .1 .gateway) i ≡ Blocks p
+still-blocks s e i p speaks = ap (λ (t : Settings). t .dialogue) (item-settings s e i) ∙ speaks
 
 -- and after a run each line speaks what it was set to speak
 pub dialogues-kept : (began : Beginning) → Right began → (es : List GatewayItem) (i : ℕ) → i < lines → lineAt (final step (fresh began) es .gateway) i .settings ≡ getD (began .settings) i standardSettings

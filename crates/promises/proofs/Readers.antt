@@ -6,9 +6,12 @@ use mathlib.Core.List.{List}
 use Prim.Native.Nat.{ℕ, _<_}
 use lib.ListN.{length}
 use Rattle.memory.specs.Sizes.{lines}
-use Rattle.memory.proofs.Tests.{clash}
+use Rattle.memory.proofs.Tests.{clash, and-not-right}
+use Rattle.settings.specs.Settings.{byDialogue, speaksFrames}
 use Rattle.settings.specs.declared.Settings.{Settings}
 use Rattle.settings.specs.declared.Patient.{Patient}
+use Rattle.settings.specs.declared.Dialogue.{Dialogue}
+use Rattle.settings.specs.declared.Dialogue.the-variants.{Blocks}
 use Rattle.answers.specs.InNumbers.{replyByte}
 use Rattle.answers.specs.Paper.{replyOf, firstOut}
 use Rattle.answers.specs.declared.Answer.the-variants.{Filed, Crowded}
@@ -27,16 +30,21 @@ use Rattle.strips.specs.declared.Replied.{Replied}
 use Rattle.strips.specs.declared.Replied.the-variants.{NoneYet, More, Again}
 use Rattle.uploads.specs.Uploads.{settle, file, Ruling, ruling, memoBy}
 use Rattle.looking.specs.declared.Kind.the-variants.{Byte}
-use Rattle.gateway.specs.Events.{memoAt}
+use Rattle.orders.specs.Starts.{isNeutral}
+use Rattle.gateway.specs.Events.{dialogueAt, memoAt}
 use Rattle.gateway.specs.Out.{blockOut}
 use Rattle.gateway_laws.proofs.Uploads.{deed-settings}
-use Rattle.promises.specs.Machine.{State, Response, response, step, partsOf, storeOf, came}
+use Rattle.promises.specs.Machine.{State, Response, response, Coming, happens, starts, step, partsOf, storeOf, came, starting}
 use Rattle.promises.specs.Inner.ByParts.{partsBy}
 use Rattle.promises.specs.Runs.{answered, isResults, isWanted, hasSpace}
 use Rattle.promises.specs.Queue.{completedIn}
 use Rattle.promises.specs.Sending.{Intact}
 use Rattle.promises.specs.Readers.{Ends, blockAt, Told, StoreKept, numberFor, outFor, ResultsTold, filed, crowded, repeated}
+use Rattle.serial.specs.Serial.{event}
+use Rattle.promises.specs.Orders.{firstOf}
 use Rattle.promises.proofs.Parts.{told-blocks}
+use Rattle.promises.proofs.Starts.{start-busy}
+use Rattle.promises.proofs.Dialogues.{still-blocks}
 use Rattle.promises.proofs.Uploaded.{work}
 use Rattle.promises.proofs.CameBlocks.{told-is, store-is, ruled, offers, filed as ruled-room}
 
@@ -144,3 +152,17 @@ module _ (s : State) (w : Intact s) (i b : ℕ) (line : i < lines) (p : Patient)
     -- so a repeat is answered 11 and not stored again
     pub repeat-dropped : isAgain memo bs ≡ true → Told s i b 11 (controlBytes mor) × StoreKept s i b
     repeat-dropped was = (heard-so Results true is was refl, heard-kept Results true is was refl)
+
+-- ---- what goes out on a reader's line, in whatever state: our last reply with an answer that sends, and else nothing
+
+pub out-block : (s : State) (i : ℕ) (k : Coming) (p : Patient) → dialogueAt (s .gateway) i ≡ Blocks p
+    → (step s (event i k)) .0 .buffer ≡ blockOut (firstOf ((step s (event i k)) .0)) (memoAt ((step s (event i k)) .1 .gateway) i .reader .reply)
+out-block s i (happens k) p speaks = ap (λ (r : Response). r .buffer) (told-blocks (partsOf ((step s (came i k)) .1) i) ((step s (came i k)) .0 .answer) p (still-blocks s (came i k) i p speaks))
+out-block s i (starts text) p speaks =
+    ap (λ (r : Response). r .buffer) (told-blocks (partsOf ((step s (starting i text)) .1) i) ((step s (starting i text)) .0 .answer) p (still-blocks s (starting i text) i p speaks))
+
+-- nothing is started there: 60
+pub start-60 : (s : State) → Intact s → (i : ℕ) (text : List ℕ) → i < lines → (p : Patient) → dialogueAt (s .gateway) i ≡ Blocks p → answered ((step s (starting i text)) .0) ≡ 60
+start-60 s w i text h p speaks =
+    start-busy s w i text h
+    (and-not-right (isNeutral (partsOf s i .line .state)) (speaksFrames (partsOf s i .line .settings)) (ap (λ (d : Dialogue). byDialogue d true (λ q. false)) speaks))

@@ -163,6 +163,12 @@ module _ (s : State) (w : Intact s) (i : ℕ) (text : List ℕ) (h : i < lines) 
   pub start-sends : answered ((step s (starting i text)) .0) ≡ 9 → start ≡ Asks
   start-sends e = start-mild .sends (sym (ap answered start-answer) ∙ e)
 
+  -- where the line cannot start, it is answered 60
+  pub start-busy : canStart (own .line) ≡ false → answered ((step s (starting i text)) .0) ≡ 60
+  start-busy n =
+      let busy : start ≡ Refused NotNeutral = start-looks ∙ rw n in
+      ap answered start-answer ∙ ap (λ (x : Start). numberOf (startAnswer x)) busy
+
   -- that is: where the line is neutral and speaks frames, and the text is a message
   pub start-exactly : Exactly (answered ((step s (starting i text)) .0) ≡ 9) ((canStart (own .line) ≡ true) × (isMessage text ≡ true))
   start-exactly = (

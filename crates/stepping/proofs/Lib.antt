@@ -1,1 +1,2 @@
 pub mod OneOutcome
+mod Thin

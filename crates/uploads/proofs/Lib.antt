@@ -1,1 +1,7 @@
 pub mod Scratches
+pub mod Puts
+pub mod Readings
+pub mod Acts
+pub mod Ways
+pub mod Events
+pub mod OneOutcome

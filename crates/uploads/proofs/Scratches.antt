@@ -1,14 +1,14 @@
 -- What lies in a scratch: the block that a byte ends, and the finding of a block with results.
 -- Assumes nothing.
-use mathlib.Core.Path.{_≡_, sym, ap, _∙_}
+use mathlib.Core.Path.{_≡_, ap, _∙_}
 use mathlib.Core.Bool.{Bool}
 use mathlib.Core.List.{List, [], _∷_, _++_}
-use Prim.Native.Nat.{ℕ, suc, _+_, _-_, _*_, _≤_, _<_}
+use Prim.Native.Nat.{ℕ, _+_, _-_, _≤_, _<_}
 use native.Mathlib.Nat.{add-zero}
 use native.Mathlib.Numerals.{add-one}
 use native.Mathlib.Omega.{arith}
-use borrow.Author.Tests.{eq-eqb, le-leb}
-use lib.ListN.{length, take, drop, set, length-set}
+use borrow.Author.Tests.{eq-eqb}
+use lib.ListN.{length, take, drop, set}
 use lib.Seq.{take-suc-set}
 use Rattle.memory.specs.Sizes.{lines, framePart, framesSize}
 use Rattle.memory.specs.Parts.{part, splice}

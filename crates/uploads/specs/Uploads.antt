@@ -1,8 +1,7 @@
 -- One event on a strip reader's line: the whole of it, on its record, what is kept of the reader, the ledger and the lent bytes.
 -- Assumes nothing.
 use Prim.Native.Nat.{ℕ, _+_}
-use mathlib.Core.Bool.{Bool, true, false}
-use mathlib.Core.List.{List, [], _∷_}
+use mathlib.Core.List.{List, []}
 use lib.Dec.{ltb}
 use lib.ListN.{length}
 use Rattle.memory.specs.Sizes.{lines}

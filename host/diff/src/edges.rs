@@ -1,10 +1,12 @@
 //! A journal full to its last byte, or past it: a chain of entries that agrees with every count, where
 //! only the end of the memory tells whole from broken. Traffic does not get there by itself.
 
+use ngachodui_model::blocks::Patient;
 use ngachodui_model::frames::{after, write};
 use ngachodui_model::journal::{header, HEADER, TEXT_LIMIT};
 use ngachodui_model::lines::Kind;
 use ngachodui_model::texts::{ENQ, EOT, ETX};
+use ngachodui_model::traffic::blocks::finding;
 use ngachodui_model::traffic::messages::right;
 use ngachodui_model::traffic::random::Random;
 use ngachodui_model::world::{Memory, Op, World};
@@ -14,12 +16,19 @@ use ngachodui_model::{JOURNAL, LINES};
 const BEFORE: usize = 6;
 const BEHIND: usize = 10;
 
-/// The journal so filled, takings, a message, takings, and a fresh gateway.
+/// The journal so filled, takings, a message or a strip reader's finding, takings, and a fresh gateway.
 pub fn full_journal(random: &mut Random) -> Vec<Op> {
-    let mut ops = vec![Op::Fresh];
+    let mut settings = [0; LINES];
+    settings[6] = 10;
+    settings[7] = 13;
+    let mut ops = vec![Op::Fresh, Op::Begin { settings }];
     fill(random, &mut ops);
     takings(random, &mut ops);
-    message(random, &mut ops);
+    match random.below(4) {
+        0 => reading(random, &mut ops, 6, Patient::Ten),
+        1 => reading(random, &mut ops, 7, Patient::Thirteen),
+        _ => message(random, &mut ops),
+    }
     takings(random, &mut ops);
     ops.push(Op::Fresh);
     ops
@@ -66,9 +75,18 @@ fn takings(random: &mut Random, ops: &mut Vec<Op>) {
     }
 }
 
-/// A right message in one frame for each record.
+/// A right finding.
+fn reading(random: &mut Random, ops: &mut Vec<Op>, line: u8, patient: Patient) {
+    let bytes = finding(random, patient);
+    ops.extend(bytes.into_iter().map(|byte| Op::Event {
+        line,
+        kind: Kind::Byte(byte),
+    }));
+}
+
+/// A right message in one frame for each record, on a line of frames.
 fn message(random: &mut Random, ops: &mut Vec<Op>) {
-    let line = random.below(LINES) as u8;
+    let line = random.below(LINES - 2) as u8;
     let mut bytes = vec![ENQ];
     let mut number = 1;
     for record in right(random, 200).split_inclusive(|&byte| byte == b'\r') {

@@ -52,6 +52,9 @@ const ODD_RECORD_ONCE_IN: usize = 1_000;
 /// How many times as long as it was asked to a run goes on for what has not come up.
 const PATIENCE: u32 = 10;
 
+/// How many events a fault is looked for in: most are found in far fewer.
+const FAULT_EVENTS: u64 = 4_000_000;
+
 /// How many of the operations before a difference are told.
 const TOLD: usize = 12;
 
@@ -347,7 +350,7 @@ fn try_faults(seed: u64) -> bool {
     let mut all_found = true;
     for fault in Fault::ALL {
         let mut counts = Counts::default();
-        match compare(seed, Some(fault), Limit::Events(400_000), &mut counts) {
+        match compare(seed, Some(fault), Limit::Events(FAULT_EVENTS), &mut counts) {
             Err(difference) => {
                 let words = difference.lines().nth(1).unwrap_or("").trim();
                 let words: String = words.chars().take(100).collect();

@@ -324,7 +324,7 @@ fn each_answer_leaves_what_the_rules_say() {
     let mut world = World::fresh(0x2D);
     let mut traffic = Traffic::new(11);
     let mut seen = [0; 256];
-    for _ in 0..100_000 {
+    for _ in 0..200_000 {
         let op = traffic.next(&world);
         let before = world.clone();
         let answer = world.apply(&op);

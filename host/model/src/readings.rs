@@ -321,11 +321,12 @@ fn numbers_of_a_reader_have_limits() {
             is_right
         );
         assert_eq!(fits(&|world| world.model.readers[n].kept = value), is_right);
-        let reply = value + 1;
-        let of_reply = |world: &mut World| world.model.readers[n].reply = reply.max(value);
-        if value < 65_535 {
-            assert_eq!(fits(&of_reply), reply <= 2);
-        }
+    }
+    for (value, is_right) in [(0, true), (2, true), (3, false), (65_535, false)] {
+        assert_eq!(
+            fits(&|world| world.model.readers[n].reply = value),
+            is_right
+        );
     }
     for speaks in [0, 10, 13] {
         assert!(fits(&|world| world.model.readers[n].speaks = speaks));

@@ -1,13 +1,11 @@
 -- `keeping::is_kept` meets its contract.
 -- Assumes nothing.
-use mathlib.Core.Path.{_≡_, refl, sym, _∙_}
-use Prim.Native.Nat.{_-_, _≤_, _<_}
+use mathlib.Core.Path.{_≡_, sym, _∙_}
+use Prim.Native.Nat.{_-_}
 use native.Mathlib.Omega.{arith}
 use borrow.Author.Needs.{needs}
 use denote.Ref.{now}
 use lib.ListN.{length}
-use Rattle.memory.specs.Sizes.{lines}
-use Rattle.settings.specs.Settings.{blockLimit}
 use Rattle.keeping.proofs.Walks.{Compared, none-compared, kept-nowhere, kept-short, kept-end, kept-differs, kept-on}
 use Rattle.keeping.proofs.is_kept.Statement.{statement}
 use Rattle.keeping.proofs.is_kept.Tie as tie

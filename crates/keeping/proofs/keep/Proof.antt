@@ -1,12 +1,11 @@
 -- `keeping::keep` meets its contract.
 -- Assumes nothing.
-use mathlib.Core.Path.{_≡_, refl, _∙_}
-use Prim.Native.Nat.{_-_, _≤_, _<_}
+use mathlib.Core.Path.{_≡_}
+use Prim.Native.Nat.{_-_}
 use native.Mathlib.Omega.{arith}
 use borrow.Author.Needs.{needs}
 use denote.Ref.{now}
 use lib.ListN.{length}
-use Rattle.memory.specs.Sizes.{lines}
 use Rattle.keeping.proofs.Walks.{Kept, nothing-put, put-nowhere, put-none, put-on, put-end}
 use Rattle.keeping.proofs.keep.Statement.{statement}
 use Rattle.keeping.proofs.keep.Tie as tie

@@ -23,7 +23,7 @@ use Rattle.ledger.specs.Ledgers.{ledgerOf, withSerial, withUsed}
 use Rattle.numbers.specs.Plain.{withinNumbers, lineOf, withLine}
 use Rattle.keeping.specs.Keeping.{memoOf, withReader, withBlock, withMemo}
 use Rattle.finding.specs.Findings.{findingOf}
-use Rattle.uploads.specs.Uploads.{Ruling, judgedLine, lineBy, memoBy, ledgerBy, journalBy, framesBy, blockOf}
+use Rattle.uploads.specs.Uploads.{Deed, leave, add, settle, file, Ruling, addedLine, judgedLine, lineBy, memoBy, ledgerBy, journalBy, framesBy, blockOf}
 
 -- what holds past 40 to 42: line i's numbers stand for the record l, which is within its limits and speaks blocks
 pub record Reading (ns f : List ℕ) (p : Patient) (l : Line) (i : ℕ) : Type 0 where
@@ -53,6 +53,26 @@ settledNumbers ns i l r = withReader (withLine ns i (judgedLine l)) i r
 
 abbrev pub filedNumbers : List ℕ → ℕ → Line → Ledger → List ℕ → List ℕ
 filedNumbers ns i l d bs = withBlock (withReader (withSerial (withLine ns i (judgedLine l)) i d) i filedReader) i bs
+
+-- what a deed makes of the numbers and the counts, where the ledger is d after it
+abbrev pub numbersBy : Deed → List ℕ → ℕ → Line → Ledger → List ℕ → List ℕ
+numbersBy leave ns i l d bs = ns
+numbersBy add ns i l d bs = withLine ns i (addedLine l)
+numbersBy (settle r) ns i l d bs = settledNumbers ns i l r
+numbersBy file ns i l d bs = filedNumbers ns i l d bs
+
+abbrev pub countsBy : Deed → List ℕ → ℕ → Ledger → List ℕ
+countsBy leave us i d = us
+countsBy add us i d = us
+countsBy (settle r) us i d = us
+countsBy file us i d = withUsed us i d
+
+-- what is done for a ruling, but for the journal
+pub record Acted (ns us f : List ℕ) (l : Line) (i b : ℕ) (bs : List ℕ) (d : Ledger) (x : Ruling) (r : Answered) (ns′ us′ f′ : List ℕ) : Type 0 where
+  pub result : r ≡ inNumbers (x .answer)
+  pub numbers : ns′ ≡ numbersBy (x .deed) ns i l d bs
+  pub counts : us′ ≡ countsBy (x .deed) us i d
+  pub frames : f′ ≡ framesBy (x .deed) (Byte b) l i f
 
 -- what a ruling leaves: numbers, counts, journal and frames
 pub record Ruled (ns us j f : List ℕ) (p : Patient) (l : Line) (i : ℕ) (k : Kind) (x : Ruling) (r : Answered) (ns′ us′ j′ f′ : List ℕ) : Type 0 where

@@ -88,7 +88,7 @@ pub fn damaged(random: &mut Random, patient: Patient) -> Vec<u8> {
         _ => finding(random, patient),
     };
     let count = block.len();
-    match random.below(12) {
+    match random.below(14) {
         // One byte another, found by the test bytes or only by its place.
         0 => {
             let place = random.below(count);
@@ -120,6 +120,16 @@ pub fn damaged(random: &mut Random, patient: Patient) -> Vec<u8> {
         10 => {
             let place = random.between(1, count - 1);
             block.insert(place, random.pick(b" x0"));
+        }
+        // A byte just outside of what is data, where data stand.
+        11 | 12 => {
+            let form = results(patient);
+            block = of(random, &form);
+            let places: Vec<usize> = (0..form.len())
+                .filter(|&place| form[place] == Place::Datum)
+                .collect();
+            block[random.pick(&places)] = random.pick(&[0x1F, 0x7E]);
+            mend(&mut block);
         }
         // The block of a reader that is set up otherwise.
         _ => {

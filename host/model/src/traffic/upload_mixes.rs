@@ -57,9 +57,16 @@ pub fn upload(random: &mut Random, line: u8, world: &World) -> Script {
     writer.script
 }
 
-/// A line's numbers set by hand, and then events: what a reader's record cannot hold, and what it can.
+/// A line's numbers set by hand, and then events: what a reader's record cannot hold, and what it can. Now and then
+/// it is a line of frames.
 pub fn odd_reader(random: &mut Random, world: &World) -> Script {
-    let line = random.below(LINES) as u8;
+    let mut line = random.below(LINES) as u8;
+    let readers: Vec<u8> = World::lines()
+        .filter(|&line| world.model.readers[usize::from(line)].patient().is_some())
+        .collect();
+    if !readers.is_empty() && !random.once_in(4) {
+        line = random.pick(&readers);
+    }
     let mut writer = Writer {
         random,
         line,
@@ -212,7 +219,7 @@ impl Writer<'_> {
         // A block that is nearly whole, then its last bytes.
         if self.random.once_in(2) {
             let block = self.placed(patient, world);
-            let missing = self.random.between(0, 3);
+            let missing = self.random.pick(&[0, 0, 1, 1, 2, 3]);
             let count = block.len() - missing;
             self.set_collected(count);
             back.push(self.collected(record.collected));

@@ -7,17 +7,13 @@ use borrow.Author.Needs.{needs}
 use borrow.Author.Tests.{not-true, not-false}
 use Rattle.memory.proofs.Branches.{branches}
 use Rattle.numbers.specs.Plain.{onlyCollects}
-use Rattle.numbers.proofs.Numbers.{within-unfit}
-use Rattle.numbers.proofs.Changes.{quick-beyond, quick-reader, quick-full, quick-rest}
+use Rattle.numbers.proofs.Changes.{quick-busy, quick-idle, quick-full, quick-rest}
 use Rattle.numbers.proofs.plain.is_quick.Statement.{statement}
 use Rattle.numbers.proofs.plain.is_quick.Tie as tie
 
--- behind the tests of state, byte and speech, from behind that of tries and place
-abbrev speech : tie.After-sending-fits → tie.Else3
-speech c = c .before .before .before .before
-
-abbrev text : tie.Else3 → tie.Else2
-text c = c .before .before
+-- behind the tests of state and byte, from behind that of the three together
+abbrev text : tie.After-receives → tie.Else2
+text c = c .before .before .before .before
 
 abbrev entry : tie.Else2 → tie.Start
 entry c = c .before .before .before
@@ -31,30 +27,27 @@ unfolding onlyCollects
 returns-2 c = search branches
 
 returns-3 : tie.Need-returns-3
-returns-3 c = let a = entry (c .before .before) .args in quick-reader (now (a .numbers)) (a .i) (a .byte) (c .if3 .taken)
+returns-3 c =
+    let called = c .before in
+    let seen = text called in
+    let a = entry seen .args in
+    quick-busy (now (a .numbers)) (a .i) (a .byte) (seen .before .if1 .left) (sym (called .receives .ensures) ∙ not-true _ (c .if3 .taken))
 
 returns-4 : tie.Need-returns-4
 returns-4 c =
-    let called = c .before in
-    let a = entry (text (speech called)) .args in
-    quick-beyond (now (a .numbers)) (a .i) (a .byte) (sym (within-unfit (now (a .numbers)) (a .i) (omega arith) (sym (called .sending-fits .ensures) ∙ not-true _ (c .if4 .taken))))
+    let past = c .before .before in
+    let seen = text (past .before) in
+    let a = entry seen .args in
+    let (speaks, fits) = quick-idle (now (a .numbers)) (a .i) (a .byte) (seen .before .if1 .left) (sym (past .before .receives .ensures) ∙ not-false _ (past .if3 .left)) in
+    quick-full (now (a .numbers)) (a .i) (a .byte) (seen .before .if1 .left) (seen .if2 .left) speaks fits (omega arith)
 
 returns-5 : tie.Need-returns-5
 returns-5 c =
-    let past = c .before .before in
-    let spoken = speech (past .before) in
-    let seen = text spoken in
-    let a = entry seen .args in
-    quick-full (now (a .numbers)) (a .i) (a .byte) (seen .before .if1 .left) (seen .if2 .left) (spoken .if3 .left) (sym (past .before .sending-fits .ensures) ∙ not-false _ (past .if4 .left)) (omega arith)
-
-returns-6 : tie.Need-returns-6
-returns-6 c =
     let past = c .before .before .before in
-    let spoken = speech (past .before) in
-    let seen = text spoken in
+    let seen = text (past .before) in
     let a = entry seen .args in
-    c .are-counts-within .ensures
-    ∙ sym (quick-rest (now (a .numbers)) (a .i) (a .byte) (seen .before .if1 .left) (seen .if2 .left) (spoken .if3 .left) (sym (past .before .sending-fits .ensures) ∙ not-false _ (past .if4 .left)) (omega arith))
+    let (speaks, fits) = quick-idle (now (a .numbers)) (a .i) (a .byte) (seen .before .if1 .left) (sym (past .before .receives .ensures) ∙ not-false _ (past .if3 .left)) in
+    c .are-counts-within .ensures ∙ sym (quick-rest (now (a .numbers)) (a .i) (a .byte) (seen .before .if1 .left) (seen .if2 .left) speaks fits (omega arith))
 
 pub is-quick-spec : {M : Type 1} → statement M
 is-quick-spec =
@@ -68,20 +61,17 @@ is-quick-spec =
     (λ c. search needs)
     (λ c. search needs)
     (λ c. search needs)
+    (λ c. search needs)
+    (λ c. search needs)
+    (λ c. search needs)
+    (λ c. search needs)
+    (λ c. search needs)
+    (λ c. search needs)
+    (λ c κs. search needs)
     returns-3
     (λ c. search needs)
     (λ c. search needs)
     (λ c. search needs)
-    (λ c. search needs)
-    (λ c. search needs)
-    (λ c. search needs)
-    (λ c. search needs)
-    (λ c. search needs)
-    (λ c κs. search needs)
     returns-4
-    (λ c. search needs)
-    (λ c. search needs)
-    (λ c. search needs)
-    returns-5
     (λ c κs. search needs)
-    returns-6)
+    returns-5)

@@ -1,49 +1,29 @@
+-- `uploads::acting::add` meets its contract.
+-- Assumes nothing.
+use mathlib.Core.Path.{ap, _∙_}
+use denote.Ref.{now}
+use Rattle.line.specs.Line.{begunLine}
+use Rattle.uploads.proofs.Puts.{record-put}
 use borrow.Author.Needs.{needs}
 use Rattle.uploads.proofs.acting.add.Statement.{statement}
 use Rattle.uploads.proofs.acting.add.Tie as tie
-use Rattle.uploads.proofs.acting.add.Reads as reads
-use Rattle.uploads.proofs.acting.add.Lts as lts
-use Rattle.line.proofs.Line.begun.Reads as begun-reads
-use Rattle.line.proofs.Line.with_collected.Reads as with-collected-reads
-use Rattle.numbers.proofs.put_record.Reads as put-record-reads
-use Rattle.uploads.proofs.acting.put_byte.Reads as put-byte-reads
 
--- src/acting.rt:22:5
-put-byte-requires : tie.Need-put-byte-requires
-put-byte-requires c κs = search needs
-
--- src/acting.rt:23:37
-add-with-collected : tie.Need-add-with-collected
-add-with-collected c = search needs
-
--- src/acting.rt:23:17
-with-collected-requires : tie.Need-with-collected-requires
-with-collected-requires c κs = search needs
-
--- src/acting.rt:23:9
-begun-requires : tie.Need-begun-requires
-begun-requires c κs = search needs
-
--- src/acting.rt:24:5
-put-record-requires : tie.Need-put-record-requires
-put-record-requires c κs = search needs
-
--- src/acting.rt:18:1
-same-length : tie.Need-same-length
-same-length c = search needs
-
--- src/acting.rt:18:1
 returns : tie.Need-returns
-returns c = ?
+returns c =
+    let begun = c .before .before in
+    let counted = begun .before in
+    let put = counted .before .before .before .before in
+    let start = put .before .before .before in
+    (record-put (now (start .args .numbers)) (start .args .i) (start .pre .there) (c .put-record .ensures) (begun .begun .ensures ∙ ap begunLine (counted .with-collected .ensures)), put .put-byte .ensures)
 
 pub add-spec : {M : Type 1} → statement M
 add-spec =
     tie.close
     (tie.spec
-    put-byte-requires
-    add-with-collected
-    with-collected-requires
-    begun-requires
-    put-record-requires
-    same-length
+    (λ c κs. search needs)
+    (λ c. search needs)
+    (λ c κs. search needs)
+    (λ c κs. search needs)
+    (λ c κs. search needs)
+    (λ c. search needs)
     returns)
