@@ -50,7 +50,7 @@ resultRecords say k at (r ∷ rs) =
     fielded (letterOf ResultKind ∷ []) (numeral k ∷ r .name ∷ say (at + length (r .name)) (r .value) ∷ [])
     ∷ resultRecords say (k + 1) (at + length (r .name) + r .value + r .blank) rs
 
--- H, P with the patient number in field 3, O with the sequence number in field 3, and L [B8]
+-- H; a P, whose third field is the patient number; an O, whose third is the sequence number; and L [B8]
 abbrev pub headerRecord : List ℕ
 headerRecord = letterOf Header ∷ standard .field ∷ standard .repeat ∷ standard .component ∷ standard .escape ∷ []
 

@@ -33,7 +33,7 @@ use Rattle.looking.specs.Lent.{rightSizes}
 use Rattle.receiving.specs.Verdicts.{verdictOf}
 use Rattle.receiving.specs.Steps.{AfterStep, stepOf}
 use Rattle.strips.specs.Readers.{Memo}
-use Rattle.uploads.specs.Uploads.{Deed, leave, add, settle, file, Ruling, ruling, memoBy, blockOf, AfterUpload, uploaded, rulingOn, uploadOf}
+use Rattle.uploads.specs.Uploads.{Deed, leave, add, settle, file, memoBy, blockOf, AfterUpload, rulingOn, uploadOf}
 use Rattle.uploads.specs.Calls.{putUpload}
 use Rattle.gateway.specs.Events.{AfterEvent, lineAt, memoAt, eventOf, takeOf, putBack as putLine, putUpload as putMemo}
 use Rattle.gateway.specs.Gateway.{Gateway}

@@ -25,14 +25,13 @@ use Rattle.layout.specs.Layout.{fields, speaksAt, keptAt, start, numberAt, bloc
 use Rattle.ledger.specs.Ledgers.{ledgerOf}
 use Rattle.strips.specs.Readers.{Memo}
 use Rattle.strips.specs.Replies.{repliedOf, replyNumber}
-use Rattle.strips.specs.declared.Reader.{Reader}
 use Rattle.strips.specs.declared.Replied.{Replied}
 use Rattle.strips.specs.declared.Replied.the-variants.{NoneYet, More, Again}
 use Rattle.numbers.specs.Plain.{mostReply, readerFits, blockFits, speechFits, withinNumbers, dialogueOf, lineOf}
-use Rattle.keeping.specs.Keeping.{yes as flag, readerOf, numbersFrom, keptBlock, memoOf, withReader, withBlock, withMemo}
+use Rattle.keeping.specs.Keeping.{yes as flag, readerOf, numbersFrom, keptBlock, memoOf, withReader, withMemo}
 use Rattle.ledger.proofs.Ledgers.{again}
 use Rattle.keeping.proofs.Blocks.{put-again}
-use Rattle.ngachodui_laws.proofs.Stores.{sets-before, sets-behind, sets-in, numbers-alike, stored, stored-length, number-other, spare-stays, collected-own, line-alike, within-alike, fits-alike, all-within-alike, line-other, line-own, within-other, readers-stay, counts-facts, within-by}
+use Rattle.ngachodui_laws.proofs.Stores.{sets-before, sets-behind, sets-in, numbers-alike, stored, stored-length, number-other, spare-stays, collected-own, line-alike, within-alike, fits-alike, all-within-alike, within-other, readers-stay, counts-facts, within-by}
 
 -- what was put is read
 pub numbers-put : (vs ns : List ℕ) (at : ℕ) → at + length vs ≤ length ns → numbersFrom (sets ns at vs) at (length vs) ≡ vs

@@ -67,7 +67,7 @@ use Rattle.reader.specs.Takings.{TakeState, takingOf}
 use Rattle.calls.proofs.OneOutcome.{call-once}
 use Rattle.reader.proofs.OneOutcome.{take-once}
 use Rattle.ngachodui_laws.specs.Hosting.{isRefusal}
-use Rattle.ngachodui_laws.specs.HostRuns.{startedHost, freshHost, HostResponse, lentOf, startFrom, startedBy, sentBy, hostStep, numberTo, after}
+use Rattle.ngachodui_laws.specs.HostRuns.{freshHost, HostResponse, lentOf, startFrom, startedBy, sentBy, hostStep, numberTo, after}
 use Rattle.ngachodui_laws.specs.Outcomes.{StartedAs, Allows, ignoredInFrames, ignoredInBlocks, ignores, lineIn, LineKept}
 use Rattle.ngachodui_laws.proofs.Stores.{stored, number-other, spare-stays, memo-stays}
 use Rattle.ngachodui_laws.proofs.Memos.{kept-other, block-other, record-kept}

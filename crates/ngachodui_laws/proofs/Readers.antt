@@ -2,7 +2,7 @@
 -- Assumes nothing.
 use mathlib.Core.Path.{_≡_, refl, sym, ap, subst, _∙_}
 use mathlib.Core.Logic.{_≢_}
-use mathlib.Core.Bool.{Bool, true, false, cond, _||_}
+use mathlib.Core.Bool.{Bool, true, false}
 use mathlib.Core.List.{List, [], _∷_, _++_}
 use Prim.Native.Nat.{ℕ, _+_, _<_}
 use native.Mathlib.Omega.{arith}
@@ -47,7 +47,7 @@ use Rattle.strips.specs.declared.Sight.the-variants.{Ignores, Adds, Judges}
 use Rattle.strips.specs.declared.Reader.{Reader}
 use Rattle.strips.specs.declared.Replied.{Replied}
 use Rattle.strips.specs.declared.Replied.the-variants.{NoneYet, More, Again}
-use Rattle.uploads.specs.Uploads.{leave, settle, AfterUpload, Ruling, ruling, filing, heardBy, blockBytes, judgedBlock, seenAs, memoBy, blockOf, rulingOf, rulingOn, uploadOf}
+use Rattle.uploads.specs.Uploads.{leave, settle, AfterUpload, Ruling, ruling, filing, blockBytes, judgedBlock, seenAs, memoBy, blockOf, rulingOf, rulingOn, uploadOf}
 use Rattle.gateway.specs.Events.{memoAt}
 use Rattle.gateway.specs.Out.{outBytes, blockOut}
 use Rattle.orders.specs.Calls.{frameOn}

@@ -2,10 +2,9 @@
 -- Assumes nothing.
 use mathlib.Core.Path.{_≡_, refl, sym, ap, _∙_}
 use mathlib.Core.Bool.{Bool, true, false, cond, _&&_, _||_}
-use mathlib.Core.List.{List, [], _∷_, _++_, map}
+use mathlib.Core.List.{List, [], _∷_, map}
 use Prim.Native.Nat.{ℕ, zero, suc, _+_, _*_, _-_, _≤_, _<_}
 use native.Mathlib.Nat.{add-zero, zero-add, add-suc, suc-add}
-use native.Mathlib.Numerals.{add-one}
 use native.Mathlib.Omega.{arith}
 use lib.Dec.{eqb}
 use lib.ListN.{length, getD, replicate, getD-replicate, length-append, length-replicate, List·getD-append}
@@ -13,13 +12,11 @@ use lib.Seq.{ext-getD, getD-append-add}
 use Rattle.memory.specs.Sizes.{lines}
 use Rattle.memory.proofs.Tests.{clash, and-left, and-right}
 use Rattle.settings.specs.Settings.{blockLimit}
-use Rattle.settings.specs.declared.Settings.{Settings}
 use Rattle.journal.specs.Chain.{freshLedger}
 use Rattle.line.specs.Line.{mostCollected, startedLine as lineStarted}
-use Rattle.line.specs.declared.Line.{Line}
-use Rattle.strips.specs.Readers.{Memo, freshMemo}
+use Rattle.strips.specs.Readers.{freshMemo}
 use Rattle.gateway.specs.Events.{noRecord, startedGateway}
-use Rattle.layout.specs.Layout.{fields, keptAt, start, firstAt, numberAt, blockStart, numbersSize, isSpoken, startedLine, startedLines, startedNumbers, spokenFrom, canStart}
+use Rattle.layout.specs.Layout.{fields, start, firstAt, numberAt, blockStart, numbersSize, isSpoken, startedLine, startedLines, startedNumbers, spokenFrom, canStart}
 use Rattle.ledger.specs.Ledgers.{ledgerOf}
 use Rattle.numbers.specs.Plain.{readerFits, speechFits, withinNumbers, settingsOf, lineOf}
 use Rattle.keeping.specs.Keeping.{numbersFrom, keptBlock, memoOf}

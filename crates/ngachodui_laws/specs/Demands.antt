@@ -225,7 +225,7 @@ pub record Demands : Type 0 where
   pub block-answered : (r : Run) (i : ℕ) → i < lines → (b : ℕ) (p : Patient) → EndsBlock (endOf r) i b p → (x : Judged) → judgedOf p (endedBlock (endOf r) i b) ≡ x
       → isResults x ≡ false → NotStored (endOf r) i b (numberFor x) (outFor x (memoOn (endOf r) i .reader .reply))
   --
-  -- A block with results that is the last stored one, with an SPM or REP of the reader since, is answered 11 with MOR, and is not stored again.
+  -- A block with results that repeats the one stored last, after an SPM or REP of the reader, is answered 11 with MOR, and is not stored again.
   pub repeat-not-stored : (r : Run) (i : ℕ) → i < lines → (b : ℕ) (p : Patient) → EndsBlock (endOf r) i b p → judgedOf p (endedBlock (endOf r) i b) ≡ Results
       → isAgain (memoOn (endOf r) i) (endedBlock (endOf r) i b) ≡ true → NotStored (endOf r) i b 11 (controlBytes mor)
   --
