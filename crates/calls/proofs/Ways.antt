@@ -207,7 +207,7 @@ module _ (ns : List ℕ) (i b : ℕ) (q : quick ns i b ≡ true) where
   no-end =
       let only = and-left (onlyCollects ns i b) (withinNumbers ns i) q in
       let rest = and-right (eqb (firstAt ns i) inside) _ only in
-      (not-true _ (and-left (not (is lf b)) _ rest), not-true _ (and-right (eqb (numberAt ns i 10) 0) _ (and-right (not (is lf b)) _ rest)))
+      (not-true _ (and-left (not (is lf b)) _ rest), not-true _ (and-right (eqb (numberAt ns i 6) 0) _ (and-right (eqb (numberAt ns i 10) 0) _ (and-right (not (is lf b)) _ rest))))
 
 module _ (s : HostState) (i b : ℕ) (h : i < lines) (z : right s ≡ true) where
   abbrev here : Event

@@ -35,7 +35,7 @@ module _ (ns : List ℕ) (i b : ℕ) where
       and-false true = refl
       and-false false = refl
 
-  -- a strip reader's byte is not quick, nor one that finds as many collected as a frame can have
+  -- a strip reader's byte is not quick, nor one on a line that refuses
   pub quick-reader : (numberAt ns i 10 ≡ 0 → ⊥) → false ≡ quick ns i b
   unfolding onlyCollects
   quick-reader e = rw (ne-eqb (numberAt ns i 10) 0 e) (sym (both-false (eqb (firstAt ns i) inside) (not (is lf b)) (withinNumbers ns i)))
@@ -45,26 +45,45 @@ module _ (ns : List ℕ) (i b : ℕ) where
       both-false true false d = refl
       both-false false c d = refl
 
-  -- a line that sends, or a reader's
-  pub quick-busy : firstAt ns i ≡ inside → receives (numberAt ns i 8) (numberAt ns i 9) (numberAt ns i 10) ≡ false → false ≡ quick ns i b
-  quick-busy s r = by-speech (eqb (numberAt ns i 10) 0) refl
+  pub quick-refusing : (numberAt ns i 6 ≡ 0 → ⊥) → false ≡ quick ns i b
+  unfolding onlyCollects
+  quick-refusing e = rw (ne-eqb (numberAt ns i 6) 0 e) (sym (all-false (eqb (firstAt ns i) inside) (not (is lf b)) (eqb (numberAt ns i 10) 0) (withinNumbers ns i)))
     where
-      by-speech : (t : Bool) → eqb (numberAt ns i 10) 0 ≡ t → false ≡ quick ns i b
-      by-speech true q = quick-beyond (sym (within-unfit ns i (omega (arith, s)) (rw s (sym (and-yes (eqb (numberAt ns i 8) 0) (eqb (numberAt ns i 9) 0)) ∙ rw q at r))))
-      by-speech false q = quick-reader (eqb-false (numberAt ns i 10) 0 q)
+      all-false : (a c d f : Bool) → (a && (c && (d && false))) && f ≡ false
+      all-false true true true f = refl
+      all-false true true false f = refl
+      all-false true false d f = refl
+      all-false false c d f = refl
+
+  -- a line that sends, or a reader's, or one that refuses
+  pub quick-busy : firstAt ns i ≡ inside → receives (numberAt ns i 8) (numberAt ns i 9) (numberAt ns i 10) (numberAt ns i 6) ≡ false → false ≡ quick ns i b
+  quick-busy s r = by-speech (eqb (numberAt ns i 10) 0) refl (eqb (numberAt ns i 6) 0) refl
+    where
+      by-speech : (t : Bool) → eqb (numberAt ns i 10) 0 ≡ t → (u : Bool) → eqb (numberAt ns i 6) 0 ≡ u → false ≡ quick ns i b
+      by-speech true q true p = quick-beyond (sym (within-unfit ns i (omega (arith, s)) (rw s (sym (and-yes (eqb (numberAt ns i 8) 0) (eqb (numberAt ns i 9) 0)) ∙ rw (q, p) at r))))
+      by-speech true q false p = quick-refusing (eqb-false (numberAt ns i 6) 0 p)
+      by-speech false q u p = quick-reader (eqb-false (numberAt ns i 10) 0 q)
 
   -- one that receives
-  pub quick-idle : firstAt ns i ≡ inside → receives (numberAt ns i 8) (numberAt ns i 9) (numberAt ns i 10) ≡ true
-      → (numberAt ns i 10 ≡ 0) × (sendingFits (firstAt ns i) (numberAt ns i 8) (numberAt ns i 9) ≡ true)
+  pub record Idle : Type 0 where
+    pub speaks : numberAt ns i 10 ≡ 0
+    pub willing : numberAt ns i 6 ≡ 0
+    pub fits : sendingFits (firstAt ns i) (numberAt ns i 8) (numberAt ns i 9) ≡ true
+
+  pub quick-idle : firstAt ns i ≡ inside → receives (numberAt ns i 8) (numberAt ns i 9) (numberAt ns i 10) (numberAt ns i 6) ≡ true → Idle
   quick-idle s r =
       let rest = and-right (eqb (numberAt ns i 8) 0) _ r in
-      let speaks = eqb-true (numberAt ns i 10) 0 (and-right (eqb (numberAt ns i 9) 0) _ rest) in
-      (speaks, rw s (and-both (eqb (numberAt ns i 8) 0) (eqb (numberAt ns i 9) 0) (and-left (eqb (numberAt ns i 8) 0) _ r) (and-left (eqb (numberAt ns i 9) 0) _ rest)))
+      let last = and-right (eqb (numberAt ns i 9) 0) _ rest in
+      record {
+        speaks = eqb-true (numberAt ns i 10) 0 (and-left (eqb (numberAt ns i 10) 0) _ last);
+        willing = eqb-true (numberAt ns i 6) 0 (and-right (eqb (numberAt ns i 10) 0) _ last);
+        fits = rw s (and-both (eqb (numberAt ns i 8) 0) (eqb (numberAt ns i 9) 0) (and-left (eqb (numberAt ns i 8) 0) _ r) (and-left (eqb (numberAt ns i 9) 0) _ rest));
+      }
 
-  module _ (s : firstAt ns i ≡ inside) (n : b ≡ lf → ⊥) (e : numberAt ns i 10 ≡ 0) (t : sendingFits (firstAt ns i) (numberAt ns i 8) (numberAt ns i 9) ≡ true) where
+  module _ (s : firstAt ns i ≡ inside) (n : b ≡ lf → ⊥) (x : Idle) where
     within-speech : withinNumbers ns i ≡ countsFit ns i && leb (numberAt ns i 1) (frameLimit - 2)
     unfolding speechFits mostCollected
-    within-speech = within-others ns i (omega (arith, s)) t ∙ ap (λ (x : Bool). countsFit ns i && x) (rw e)
+    within-speech = within-others ns i (omega (arith, s)) (x .fits) ∙ ap (λ (y : Bool). countsFit ns i && y) (rw (x .speaks))
 
     pub quick-full : frameLimit - 2 ≤ numberAt ns i 1 → false ≡ quick ns i b
     unfolding onlyCollects mostCollected
@@ -73,14 +92,17 @@ module _ (ns : List ℕ) (i b : ℕ) where
         by-count : (t : Bool) → leb (numberAt ns i 1) (frameLimit - 2) ≡ t → false ≡ quick ns i b
         by-count true q =
             let same : numberAt ns i 1 ≡ frameLimit - 2 = omega (arith, leb-true (numberAt ns i 1) (frameLimit - 2) q) in
-            rw (s, ne-eqb b lf n, e, eq-eqb (numberAt ns i 1) (frameLimit - 2) same)
+            rw (s, ne-eqb b lf n, x .speaks, x .willing, eq-eqb (numberAt ns i 1) (frameLimit - 2) same)
         by-count false q = quick-beyond (within-speech ∙ and-not-right (countsFit ns i) _ q)
 
-    pub quick-rest : numberAt ns i 1 < frameLimit - 2 → quick ns i b ≡ countsFit ns i
+    only : numberAt ns i 1 < frameLimit - 2 → onlyCollects ns i b ≡ true
     unfolding onlyCollects mostCollected
+    only c = rw (s, ne-eqb b lf n, x .speaks, x .willing, ne-eqb (numberAt ns i 1) (frameLimit - 2) (λ q. absurd (omega arith)))
+
+    pub quick-rest : numberAt ns i 1 < frameLimit - 2 → quick ns i b ≡ countsFit ns i
     quick-rest c =
-        rw (s, ne-eqb b lf n, e, ne-eqb (numberAt ns i 1) (frameLimit - 2) (λ q. absurd (omega arith)), within-speech, le-leb (numberAt ns i 1) (frameLimit - 2) (omega arith))
-        (and-true (countsFit ns i))
+        ap (λ (y : Bool). y && withinNumbers ns i) (only c) ∙ within-speech ∙ ap (λ (y : Bool). countsFit ns i && y) (le-leb (numberAt ns i 1) (frameLimit - 2) (omega arith))
+        ∙ and-true (countsFit ns i)
       where
         and-true : (a : Bool) → a && true ≡ a
         and-true true = refl

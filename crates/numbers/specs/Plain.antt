@@ -142,10 +142,11 @@ unfoldable pub withinNumbers : List ℕ → ℕ → Bool
 withinNumbers ns i =
     leb (firstAt ns i) offering && (sendingFits (firstAt ns i) (numberAt ns i triesAt) (numberAt ns i placeAt) && (countsFit ns i && speechFits ns i))
 
--- inside a frame that this byte does not end: it is only collected
+-- inside a frame that this byte does not end, on a line of frames that does not refuse: it is only collected
 unfoldable pub onlyCollects : List ℕ → ℕ → ℕ → Bool
 onlyCollects ns i b =
-    eqb (firstAt ns i) inside && (not (is lf b) && (eqb (numberAt ns i speaksAt) frames && not (eqb (numberAt ns i collectedAt) (mostCollected (lineOf ns i)))))
+    eqb (firstAt ns i) inside && (not (is lf b) && (eqb (numberAt ns i speaksAt) frames
+    && (eqb (numberAt ns i refusingAt) 0 && not (eqb (numberAt ns i collectedAt) (mostCollected (lineOf ns i))))))
 
 -- and nothing else stands against it: its line's numbers are within their limits
 abbrev pub quick : List ℕ → ℕ → ℕ → Bool

@@ -176,6 +176,7 @@ pub fn is_quick(numbers: &[u16; NUMBERS], i: usize, byte: u8) -> bool
         numbers[at + TRIES],
         numbers[at + PLACE],
         numbers[at + SPEAKS],
+        numbers[at + REFUSING],
     ) {
         return false;
     }
@@ -185,11 +186,12 @@ pub fn is_quick(numbers: &[u16; NUMBERS], i: usize, byte: u8) -> bool
     are_counts_within(numbers, i)
 }
 
-// No tries and no place, and the line speaks frames: one test in the place of three, as most bytes take it.
-fn receives(tries: u16, place: u16, speaks: u16) -> bool
-    ensures { λ r. ⌜ r ≡ Quick·receives tries place speaks ⌝ }
+// No tries and no place, the line speaks frames and does not refuse: one test in the place of four, as most bytes take it. What comes on a
+// line that refuses goes the longer way.
+fn receives(tries: u16, place: u16, speaks: u16, refusing: u16) -> bool
+    ensures { λ r. ⌜ r ≡ Quick·receives tries place speaks refusing ⌝ }
 {
-    tries | place | speaks == FRAMES
+    tries | place | speaks | refusing == FRAMES
 }
 
 // The byte behind those collected, and one more collected.

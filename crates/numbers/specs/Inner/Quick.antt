@@ -5,6 +5,6 @@ use mathlib.Core.Bool.{Bool, _&&_}
 use lib.Dec.{eqb}
 use Rattle.layout.specs.Layout.{frames}
 
--- no tries and no place, and the line speaks frames
-abbrev pub receives : ℕ → ℕ → ℕ → Bool
-receives tries place speaks = eqb tries 0 && (eqb place 0 && eqb speaks frames)
+-- no tries and no place, the line speaks frames, and it does not refuse
+abbrev pub receives : ℕ → ℕ → ℕ → ℕ → Bool
+receives tries place speaks refusing = eqb tries 0 && (eqb place 0 && (eqb speaks frames && eqb refusing 0))

@@ -11,9 +11,9 @@ use Rattle.numbers.proofs.Changes.{quick-busy, quick-idle, quick-full, 
 use Rattle.numbers.proofs.plain.is_quick.Statement.{statement}
 use Rattle.numbers.proofs.plain.is_quick.Tie as tie
 
--- behind the tests of state and byte, from behind that of the three together
+-- behind the tests of state and byte, from behind that of the four together
 abbrev text : tie.After-receives → tie.Else2
-text c = c .before .before .before .before
+text c = c .before .before .before .before .before
 
 abbrev entry : tie.Else2 → tie.Start
 entry c = c .before .before .before
@@ -38,16 +38,16 @@ returns-4 c =
     let past = c .before .before in
     let seen = text (past .before) in
     let a = entry seen .args in
-    let (speaks, fits) = quick-idle (now (a .numbers)) (a .i) (a .byte) (seen .before .if1 .left) (sym (past .before .receives .ensures) ∙ not-false _ (past .if3 .left)) in
-    quick-full (now (a .numbers)) (a .i) (a .byte) (seen .before .if1 .left) (seen .if2 .left) speaks fits (omega arith)
+    let idle = quick-idle (now (a .numbers)) (a .i) (a .byte) (seen .before .if1 .left) (sym (past .before .receives .ensures) ∙ not-false _ (past .if3 .left)) in
+    quick-full (now (a .numbers)) (a .i) (a .byte) (seen .before .if1 .left) (seen .if2 .left) idle (omega arith)
 
 returns-5 : tie.Need-returns-5
 returns-5 c =
     let past = c .before .before .before in
     let seen = text (past .before) in
     let a = entry seen .args in
-    let (speaks, fits) = quick-idle (now (a .numbers)) (a .i) (a .byte) (seen .before .if1 .left) (sym (past .before .receives .ensures) ∙ not-false _ (past .if3 .left)) in
-    c .are-counts-within .ensures ∙ sym (quick-rest (now (a .numbers)) (a .i) (a .byte) (seen .before .if1 .left) (seen .if2 .left) speaks fits (omega arith))
+    let idle = quick-idle (now (a .numbers)) (a .i) (a .byte) (seen .before .if1 .left) (sym (past .before .receives .ensures) ∙ not-false _ (past .if3 .left)) in
+    c .are-counts-within .ensures ∙ sym (quick-rest (now (a .numbers)) (a .i) (a .byte) (seen .before .if1 .left) (seen .if2 .left) idle (omega arith))
 
 pub is-quick-spec : {M : Type 1} → statement M
 is-quick-spec =
@@ -58,6 +58,9 @@ is-quick-spec =
     (λ c. search needs)
     returns
     returns-2
+    (λ c. search needs)
+    (λ c. search needs)
+    (λ c. search needs)
     (λ c. search needs)
     (λ c. search needs)
     (λ c. search needs)

@@ -18,15 +18,18 @@ both-zero a b = by (eqb a 0) refl
     by true p = ap (λ (n : ℕ). eqb (bitOr n b) 0) (eqb-true a 0 p) ∙ ap (λ (n : ℕ). eqb n 0) (or-zero-l b)
     by false p = ne-eqb (bitOr a b) 0 (λ q. eqb-false a 0 p (omega (arith, q, or-add-and a b, and-le-r a b)))
 
-one-by-one : (x y z : Bool) → (x && y) && z ≡ x && (y && z)
-one-by-one true y z = refl
-one-by-one false y z = refl
+one-by-one : (x y z w : Bool) → ((x && y) && z) && w ≡ x && (y && (z && w))
+one-by-one true true z w = refl
+one-by-one true false z w = refl
+one-by-one false y z w = refl
 
 returns : tie.Need-returns
 returns c =
     let a = c .args in
-    both-zero (bitOr (a .tries) (a .place)) (a .speaks) ∙ ap (λ (x : Bool). x && eqb (a .speaks) 0) (both-zero (a .tries) (a .place))
-    ∙ one-by-one (eqb (a .tries) 0) (eqb (a .place) 0) (eqb (a .speaks) 0)
+    let two = both-zero (a .tries) (a .place) in
+    let three = both-zero (bitOr (a .tries) (a .place)) (a .speaks) ∙ ap (λ (x : Bool). x && eqb (a .speaks) 0) two in
+    both-zero (bitOr (bitOr (a .tries) (a .place)) (a .speaks)) (a .refusing) ∙ ap (λ (x : Bool). x && eqb (a .refusing) 0) three
+    ∙ one-by-one (eqb (a .tries) 0) (eqb (a .place) 0) (eqb (a .speaks) 0) (eqb (a .refusing) 0)
 
 pub receives-spec : {M : Type 1} → statement M
 receives-spec = tie.close (tie.spec returns)
