@@ -83,7 +83,7 @@ module _ (ns : List ℕ) (i b : ℕ) where
   module _ (s : firstAt ns i ≡ inside) (n : b ≡ lf → ⊥) (x : Idle) where
     within-speech : withinNumbers ns i ≡ countsFit ns i && leb (numberAt ns i 1) (frameLimit - 2)
     unfolding speechFits mostCollected
-    within-speech = within-others ns i (omega (arith, s)) (x .fits) ∙ ap (λ (y : Bool). countsFit ns i && y) (rw (x .speaks))
+    within-speech = within-others ns i (omega (arith, s)) (x .fits) ∙ ap (λ (y : Bool). countsFit ns i && y) (rw (x .speaks, x .willing))
 
     pub quick-full : frameLimit - 2 ≤ numberAt ns i 1 → false ≡ quick ns i b
     unfolding onlyCollects mostCollected

@@ -46,6 +46,7 @@ module _ (ns : List ℕ) (i : ℕ) where
       let rest₁ = and-right (leb (firstAt ns i) offering) _ e in
       let rest₂ = and-right (sendingFits (firstAt ns i) (numberAt ns i 8) (numberAt ns i 9)) _ rest₁ in
       let rest₃ = and-left (countsFit ns i) _ rest₂ in
+      let rest₇ = and-right (countsFit ns i) _ rest₂ in
       let rest₄ = and-right (leb (numberAt ns i 2) messageLimit) _ rest₃ in
       let rest₅ = and-right (leb (numberAt ns i 3) mostSeconds) _ rest₄ in
       let rest₆ = and-right (leb (numberAt ns i 4) mostNumber) _ rest₅ in
@@ -55,9 +56,9 @@ module _ (ns : List ℕ) (i : ℕ) where
         joined = leb-true _ _ (and-left (leb (numberAt ns i 2) messageLimit) _ rest₃);
         seconds = leb-true _ _ (and-left (leb (numberAt ns i 3) mostSeconds) _ rest₄);
         next = leb-true _ _ (and-left (leb (numberAt ns i 4) mostNumber) _ rest₅);
-        last = leb-true _ _ (and-left (leb (numberAt ns i 5) (mostNumber + 1)) _ rest₆);
-        refusing = leb-true _ _ (and-right (leb (numberAt ns i 5) (mostNumber + 1)) _ rest₆);
-        speech = and-right (countsFit ns i) _ rest₂;
+        last = leb-true _ _ rest₆;
+        refusing = leb-true _ _ (and-left (leb (numberAt ns i 6) 1) _ rest₇);
+        speech = and-right (leb (numberAt ns i 6) 1) _ rest₇;
       }
 
   -- on a line of frames what is collected is within the limit of those
@@ -67,7 +68,7 @@ module _ (ns : List ℕ) (i : ℕ) where
 
 -- a state with the tries and the place that it may have: counts and speech tell
 pub within-others : (ns : List ℕ) (i : ℕ) → firstAt ns i ≤ offering → sendingFits (firstAt ns i) (numberAt ns i 8) (numberAt ns i 9) ≡ true
-    → withinNumbers ns i ≡ countsFit ns i && speechFits ns i
+    → withinNumbers ns i ≡ countsFit ns i && (leb (numberAt ns i 6) 1 && speechFits ns i)
 unfolding withinNumbers
 within-others ns i s f = rw (le-leb (firstAt ns i) offering s, f)
 

@@ -113,11 +113,11 @@ lineOf ns i = record {
   settings = settingsOf (numberAt ns i speaksAt);
 }
 
--- the counts and numbers that every line has, collected bytes aside
+-- the counts and the numbers of frames that every line has, collected bytes aside
 abbrev pub countsFit : List ℕ → ℕ → Bool
 countsFit ns i =
     leb (numberAt ns i joinedAt) messageLimit && (leb (numberAt ns i secondsAt) mostSeconds
-    && (leb (numberAt ns i nextAt) mostNumber && (leb (numberAt ns i lastAt) (mostNumber + 1) && leb (numberAt ns i refusingAt) 1)))
+    && (leb (numberAt ns i nextAt) mostNumber && leb (numberAt ns i lastAt) (mostNumber + 1)))
 
 -- what is kept of a reader: one of two replies or none, and two that are yes or no [B12]
 abbrev pub mostReply : ℕ
@@ -140,7 +140,8 @@ speechFits ns i =
 -- they are those of a record within its limits; the eighth, a serial, may be any, and so may the spare ones, and a block's [A42, H3]
 unfoldable pub withinNumbers : List ℕ → ℕ → Bool
 withinNumbers ns i =
-    leb (firstAt ns i) offering && (sendingFits (firstAt ns i) (numberAt ns i triesAt) (numberAt ns i placeAt) && (countsFit ns i && speechFits ns i))
+    leb (firstAt ns i) offering && (sendingFits (firstAt ns i) (numberAt ns i triesAt) (numberAt ns i placeAt)
+    && (countsFit ns i && (leb (numberAt ns i refusingAt) 1 && speechFits ns i)))
 
 -- inside a frame that this byte does not end, on a line of frames that does not refuse: it is only collected
 unfoldable pub onlyCollects : List ℕ → ℕ → ℕ → Bool

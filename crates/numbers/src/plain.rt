@@ -78,10 +78,13 @@ pub fn is_within(numbers: &[u16; NUMBERS], i: usize) -> bool
     if !are_counts_within(numbers, i) {
         return false;
     }
+    if 1 < numbers[at + REFUSING] {
+        return false;
+    }
     is_speech_within(numbers, i)
 }
 
-// Whether the counts and numbers that every line has are within their limits, its collected bytes aside.
+// Whether the counts and the numbers of frames that every line has are within their limits, its collected bytes aside.
 fn are_counts_within(numbers: &[u16; NUMBERS], i: usize) -> bool
     requires { ⌜ i < lines ⌝ }
     ensures { λ r. ⌜ r ≡ countsFit (now (numbers .entry)) i ⌝ }
@@ -96,10 +99,7 @@ fn are_counts_within(numbers: &[u16; NUMBERS], i: usize) -> bool
     if (Line::MOST_NUMBER as u16) < numbers[at + NEXT] {
         return false;
     }
-    if (Line::MOST_NUMBER as u16) + 1 < numbers[at + LAST] {
-        return false;
-    }
-    numbers[at + REFUSING] <= 1
+    numbers[at + LAST] <= (Line::MOST_NUMBER as u16) + 1
 }
 
 // Whether the line speaks what one can, with no more bytes collected than it can have.
