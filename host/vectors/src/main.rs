@@ -15,6 +15,7 @@ mod blocks;
 #[path = "../../rust/src/boundary.rs"]
 #[allow(dead_code)] // No script asks for the sizes.
 mod boundary;
+mod by_hand;
 mod cutting;
 mod delimiters;
 mod frames;

@@ -16,34 +16,15 @@
 //!     x, Z                   its two spare numbers, its next serial
 
 use crate::boundary::Answered;
+use crate::by_hand::{self, fetch, set, MOST};
 use crate::layout::*;
-use crate::library::{numbered, Gateway, Memory, FILLER};
-use crate::script::{each_step, hex, spelt, unknown, Step};
+use crate::library::{numbered, Gateway};
+use crate::script::{hex, spelt, Step};
 use crate::shown::{digest, record, spell};
-
-/// Each memory has so much more than its right size, and can be lent too long.
-const SPARE_BYTES: usize = 1;
-
-/// The most that a number of a line can be, and the length of a buffer.
-const MOST: usize = 65_535;
 
 /// Runs a script.
 pub fn run(script: &str) -> Result<bool, String> {
-    let renew = |gateway: &mut Gateway| *gateway = fresh();
-    each_step(script, &mut fresh(), renew, does)?;
-    Ok(true)
-}
-
-fn fresh() -> Gateway {
-    let memory = |size| Memory {
-        bytes: vec![0; size + SPARE_BYTES],
-        lent: size,
-    };
-    Gateway::fresh(
-        memory(JOURNAL_SIZE),
-        memory(UNFINISHED_SIZE),
-        memory(FRAMES_SIZE),
-    )
+    by_hand::run(script, does)
 }
 
 fn does(gateway: &mut Gateway, step: &Step) -> Result<(), String> {
@@ -93,19 +74,6 @@ fn sent(gateway: &Gateway, line: u8, first: u8) -> String {
     }
 }
 
-/// A frame is fetched, and changes nothing but its output.
-fn fetch(gateway: &Gateway, line: u8, room: usize) {
-    let mut out = vec![FILLER; room];
-    let made = gateway.outgoing(line, &mut out);
-    let outcome = match made.number {
-        0 => format!("{} {}", made.length, spell(&out[..made.length])),
-        number => number.to_string(),
-    };
-    let is_left = out[made.length..].iter().all(|byte| *byte == FILLER);
-    let rest = if is_left { "" } else { ", its rest CHANGED" };
-    println!("{}: fetched into {}: {}{}", line, room, outcome, rest);
-}
-
 /// The line's record, where it is one of the eight.
 fn own_record(gateway: &Gateway, line: u8) -> String {
     let line = usize::from(line);
@@ -144,45 +112,4 @@ fn changes(before: &Gateway, after: &Gateway, line: u8) -> String {
         }
     }
     told
-}
-
-/// A state set by hand.
-fn set(gateway: &mut Gateway, step: &Step) -> Result<(), String> {
-    match step.letter {
-        'J' => gateway.journal.lent = step.plain_number(JOURNAL_SIZE + SPARE_BYTES)?,
-        'K' => gateway.unfinished.lent = step.plain_number(UNFINISHED_SIZE + SPARE_BYTES)?,
-        'L' => gateway.frames.lent = step.plain_number(FRAMES_SIZE + SPARE_BYTES)?,
-        'I' => gateway.counts[IN_USE] = step.plain_number(MOST)? as u32,
-        'u' => {
-            let (line, text) = (step.line()?, spelt(step.words()?)?);
-            if text.len() > TEXT_LIMIT {
-                return Err(format!("{} bytes of text", text.len()));
-            }
-            gateway.unfinished.bytes[TEXT_LIMIT * line..][..text.len()].copy_from_slice(&text);
-        }
-        'x' => {
-            for field in SPARE..FIELDS {
-                *gateway.number(step.line()?, field) = step.number(MOST)? as u16;
-            }
-        }
-        letter => *gateway.number(step.line()?, field(letter)?) = step.number(MOST)? as u16,
-    }
-    Ok(())
-}
-
-/// Which number of a line a letter sets.
-fn field(letter: char) -> Result<usize, String> {
-    match letter {
-        'a' => Ok(STATE),
-        'c' => Ok(COLLECTED),
-        'j' => Ok(JOINED),
-        's' => Ok(SECONDS),
-        'n' => Ok(NEXT),
-        'l' => Ok(LAST),
-        'r' => Ok(REFUSING),
-        't' => Ok(TRIES),
-        'p' => Ok(PLACE),
-        'Z' => Ok(SERIAL),
-        _ => unknown(letter),
-    }
 }

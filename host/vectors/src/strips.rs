@@ -27,34 +27,15 @@
 
 use crate::blocks::{characters, colours, control, data, finding, mend};
 use crate::boundary::Answered;
+use crate::by_hand::{self, fetch, MOST};
 use crate::layout::*;
-use crate::library::{numbered, Gateway, Memory, FILLER};
-use crate::script::{decimal, each_step, hex, spelt, unknown, Step};
+use crate::library::{numbered, Gateway, FILLER};
+use crate::script::{decimal, hex, spelt, Step};
 use crate::shown::{digest, record, spell};
-
-/// Each memory has so much more than its right size, and can be lent too long.
-const SPARE_BYTES: usize = 1;
-
-/// The most that a number of a line can be, and the length of a buffer.
-const MOST: usize = 65_535;
 
 /// Runs a script.
 pub fn run(script: &str) -> Result<bool, String> {
-    let renew = |gateway: &mut Gateway| *gateway = fresh();
-    each_step(script, &mut fresh(), renew, does)?;
-    Ok(true)
-}
-
-fn fresh() -> Gateway {
-    let memory = |size| Memory {
-        bytes: vec![0; size + SPARE_BYTES],
-        lent: size,
-    };
-    Gateway::fresh(
-        memory(JOURNAL_SIZE),
-        memory(UNFINISHED_SIZE),
-        memory(FRAMES_SIZE),
-    )
+    by_hand::run(script, does)
 }
 
 fn does(gateway: &mut Gateway, step: &Step) -> Result<(), String> {
@@ -399,26 +380,9 @@ fn take(gateway: &mut Gateway, line: u8, room: usize) {
     println!("{}: taken with {}: {}{}", line, room, answer.number, text);
 }
 
-/// Our last reply is fetched, and nothing is changed but its output.
-fn fetch(gateway: &Gateway, line: u8, room: usize) {
-    let mut out = vec![FILLER; room];
-    let made = gateway.outgoing(line, &mut out);
-    let outcome = match made.number {
-        0 => format!("{} {}", made.length, spell(&out[..made.length])),
-        number => number.to_string(),
-    };
-    let is_left = out[made.length..].iter().all(|byte| *byte == FILLER);
-    let rest = if is_left { "" } else { ", its rest CHANGED" };
-    println!("{}: fetched into {}: {}{}", line, room, outcome, rest);
-}
-
-/// A state set by hand.
+/// A state set by hand: the journal, and a reader's last stored block.
 fn set(gateway: &mut Gateway, step: &Step) -> Result<(), String> {
     match step.letter {
-        'J' => gateway.journal.lent = step.plain_number(JOURNAL_SIZE + SPARE_BYTES)?,
-        'K' => gateway.unfinished.lent = step.plain_number(UNFINISHED_SIZE + SPARE_BYTES)?,
-        'L' => gateway.frames.lent = step.plain_number(FRAMES_SIZE + SPARE_BYTES)?,
-        'I' => gateway.counts[IN_USE] = step.plain_number(MOST)? as u32,
         'U' => gateway.counts[step.line()?] = step.number(MOST)? as u32,
         'Q' => entry(gateway, step.line()?, step.number(TEXT_LIMIT)?)?,
         'b' => {
@@ -435,12 +399,7 @@ fn set(gateway: &mut Gateway, step: &Step) -> Result<(), String> {
                 *number = value;
             }
         }
-        'x' => {
-            for field in SPARE..FIELDS {
-                *gateway.number(step.line()?, field) = step.number(MOST)? as u16;
-            }
-        }
-        letter => *gateway.number(step.line()?, field(letter)?) = step.number(MOST)? as u16,
+        _ => by_hand::set(gateway, step)?,
     }
     Ok(())
 }
@@ -466,25 +425,4 @@ fn entry(gateway: &mut Gateway, line: usize, length: usize) -> Result<(), String
     gateway.counts[line] += (4 + length) as u32;
     *gateway.number(line, SERIAL) = serial.wrapping_add(1);
     Ok(())
-}
-
-/// Which number of a line a letter sets.
-fn field(letter: char) -> Result<usize, String> {
-    match letter {
-        'a' => Ok(STATE),
-        'c' => Ok(COLLECTED),
-        'j' => Ok(JOINED),
-        's' => Ok(SECONDS),
-        'n' => Ok(NEXT),
-        'l' => Ok(LAST),
-        'r' => Ok(REFUSING),
-        't' => Ok(TRIES),
-        'p' => Ok(PLACE),
-        'Z' => Ok(SERIAL),
-        'm' => Ok(SPEAKS),
-        'y' => Ok(REPLY),
-        'w' => Ok(SINCE),
-        'k' => Ok(KEPT),
-        _ => unknown(letter),
-    }
 }
