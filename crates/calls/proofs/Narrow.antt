@@ -4,20 +4,16 @@ use mathlib.Core.Path.{_≡_, refl, ap}
 use mathlib.Core.Bool.{Bool, true, false, _&&_}
 use mathlib.Core.List.{List}
 use Prim.Native.Nat.{ℕ}
-use native.Mathlib.Omega.{arith}
 use lib.Dec.{ltb}
 use lib.ListN.{length}
 use Rattle.memory.specs.Sizes.{lines}
 use Rattle.memory.specs.Tests.{unless}
 use Rattle.room.specs.Room.{todaysShares}
-use Rattle.journal.specs.Storage.{grown}
 use Rattle.journal.specs.Answers.{isFits}
 use Rattle.journal.specs.Verdicts.{judgeOf}
 use Rattle.journal.specs.declared.Ledger.{Ledger}
 use Rattle.journal.specs.declared.Verdict.{Verdict as Judgement}
-use Rattle.header.proofs.Heads.{head-size-high}
-use Rattle.journal.proofs.Judged.{fits-facts}
-use Rattle.journal.proofs.Wholes.{kept}
+use Rattle.uploads.proofs.Ways.{grown-narrow}
 use Rattle.ledger.specs.Ledgers.{Narrow}
 use Rattle.line.specs.Line.{withinLimits}
 use Rattle.line.specs.declared.Line.{Line}
@@ -35,17 +31,9 @@ use Rattle.looking.specs.Fitting.{textFits}
 use Rattle.answers.specs.declared.Answer.the-variants.{NoLine, WrongSize, BeyondLimits}
 
 module _ (d : Ledger) (i : ℕ) (j : List ℕ) (w : Narrow d) where
-  -- an entry that fits leaves fewer bytes in use than the journal and one entry have
-  grown-narrow : (n : ℕ) → isFits (judgeOf d todaysShares i n j) ≡ true → Narrow (grown d i n)
-  unfolding grown
-  grown-narrow n q =
-      let f = fits-facts d todaysShares i n j q in
-      let k = kept d j (f .whole) in
-      omega (arith, k .whole .room, f .long, f .high, head-size-high n)
-
   module _ (text : ℕ → List ℕ) (n : ℕ) where
     room-narrow : (q : Judgement) → judgeOf d todaysShares i (length (text n)) j ≡ q → Narrow (ledgerAfter (fateAct (roomOutcome q .fate) n) d i text)
-    room-narrow Judgement.Fits e = grown-narrow (length (text n)) (ap isFits e)
+    room-narrow Judgement.Fits e = grown-narrow d i j (length (text n)) (ap isFits e)
     room-narrow Judgement.NoRoom e = w
     room-narrow Judgement.Broken e = w
     room-narrow Judgement.NoLine e = w

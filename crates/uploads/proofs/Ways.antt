@@ -52,16 +52,21 @@ store-row Judgement.NoLine r d i text j = (refl, refl, refl)
 store-row Judgement.WrongSize r d i text j = (refl, refl, refl)
 store-row Judgement.Malformed r d i text j = (refl, refl, refl)
 
--- and leaves the bytes in use a number of 32 bits
+-- an entry that fits leaves fewer bytes in use than the journal and one entry have: a number of 32 bits
+pub grown-narrow : (d : Ledger) (i : ℕ) (j : List ℕ) (n : ℕ) → isFits (judgeOf d todaysShares i n j) ≡ true → Narrow (grown d i n)
+unfolding grown
+grown-narrow d i j n q =
+    let f = fits-facts d todaysShares i n j q in
+    let k = kept d j (f .whole) in
+    omega (arith, k .whole .room, f .long, f .high, head-size-high n)
+
+-- and so does a storing
 pub stored-narrow : (d : Ledger) (i : ℕ) (t j : List ℕ) {s : Storing} {j′ : List ℕ} → Narrow d → Stored d todaysShares i t j s j′ → Narrow (s .ledger)
-unfolding storeOf grown
+unfolding storeOf
 stored-narrow d i t j w st = subst (λ (x : Storing). Narrow (x .ledger)) (sym (st .result)) (by-verdict (judgeOf d todaysShares i (length t) j) refl)
   where
     by-verdict : (q : Judgement) → judgeOf d todaysShares i (length t) j ≡ q → Narrow (storeBy q d i t j .storing .ledger)
-    by-verdict Judgement.Fits e =
-        let f = fits-facts d todaysShares i (length t) j (ap isFits e) in
-        let k = kept d j (f .whole) in
-        omega (arith, k .whole .room, f .long, f .high, head-size-high (length t))
+    by-verdict Judgement.Fits e = grown-narrow d i j (length t) (ap isFits e)
     by-verdict Judgement.NoRoom e = w
     by-verdict Judgement.Broken e = w
     by-verdict Judgement.NoLine e = w
