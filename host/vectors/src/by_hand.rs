@@ -1,10 +1,10 @@
 //! What scripts of lines that send and of strip readers have in common: a gateway whose memories can be lent too long,
-//! states set by hand, and what is fetched.
+//! states set by hand, what is fetched, and what a step has changed.
 
 use crate::layout::*;
 use crate::library::{Gateway, Memory, FILLER};
 use crate::script::{each_step, spelt, unknown, Step};
-use crate::shown::spell;
+use crate::shown::{digest, spell};
 
 /// Each memory has so much more than its right size, and can be lent too long.
 const SPARE_BYTES: usize = 1;
@@ -90,4 +90,49 @@ fn field(letter: char) -> Result<usize, String> {
         'k' => Ok(KEPT),
         _ => unknown(letter),
     }
+}
+
+/// What has changed besides the line's record: memories with their digests, the kept block, and all that should not.
+pub fn changes(before: &Gateway, after: &Gateway, line: u8) -> String {
+    let mut told = String::new();
+    let memories = [
+        ("journal", &before.journal, &after.journal),
+        ("unfinished", &before.unfinished, &after.unfinished),
+        ("frames", &before.frames, &after.frames),
+    ];
+    for (name, before, after) in memories {
+        if before.bytes != after.bytes {
+            told += &format!(" | {} {}", name, digest(&after.bytes));
+        }
+    }
+    if before.counts != after.counts {
+        told += &format!(" | in use {}", after.in_use());
+    }
+    for other in 0..LINES {
+        let is_own = other == usize::from(line);
+        if before.block(other) != after.block(other) {
+            let bytes: Vec<u8> = after
+                .block(other)
+                .iter()
+                .flat_map(|n| n.to_be_bytes())
+                .collect();
+            let whose = if is_own {
+                "block"
+            } else {
+                "CHANGED block of another"
+            };
+            told += &format!(" | {} {}", whose, digest(&bytes));
+        }
+        let (before, after) = (before.line(other), after.line(other));
+        if !is_own && before != after {
+            told += &format!(" | line {} CHANGED", other);
+        }
+        if before[SERIAL] != after[SERIAL] {
+            told += &format!(" | serial {}", after[SERIAL]);
+        }
+        if before[SPEAKS] != after[SPEAKS] || before[SPARE..] != after[SPARE..] {
+            told += " | settings or spare numbers CHANGED";
+        }
+    }
+    told
 }

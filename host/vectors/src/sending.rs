@@ -16,11 +16,11 @@
 //!     x, Z                   its two spare numbers, its next serial
 
 use crate::boundary::Answered;
-use crate::by_hand::{self, fetch, set, MOST};
+use crate::by_hand::{self, changes, fetch, set, MOST};
 use crate::layout::*;
 use crate::library::{numbered, Gateway};
 use crate::script::{hex, spelt, Step};
-use crate::shown::{digest, record, spell};
+use crate::shown::{record, spell};
 
 /// Runs a script.
 pub fn run(script: &str) -> Result<bool, String> {
@@ -81,35 +81,4 @@ fn own_record(gateway: &Gateway, line: u8) -> String {
         return String::new();
     }
     format!(" > {}", record(gateway.line(line)))
-}
-
-/// What a call has changed besides the line's record: memories with their digests, and all that it should not.
-fn changes(before: &Gateway, after: &Gateway, line: u8) -> String {
-    let mut told = String::new();
-    let memories = [
-        ("journal", &before.journal, &after.journal),
-        ("unfinished", &before.unfinished, &after.unfinished),
-        ("frames", &before.frames, &after.frames),
-    ];
-    for (name, before, after) in memories {
-        if before.bytes != after.bytes {
-            told += &format!(" | {} {}", name, digest(&after.bytes));
-        }
-    }
-    if before.counts != after.counts {
-        told += &format!(" | in use {}", after.in_use());
-    }
-    for other in 0..LINES {
-        let (before, after) = (before.line(other), after.line(other));
-        if other != usize::from(line) && before != after {
-            told += &format!(" | line {} CHANGED", other);
-        }
-        if before[SERIAL] != after[SERIAL] {
-            told += &format!(" | serial {}", after[SERIAL]);
-        }
-        if before[SPARE..] != after[SPARE..] {
-            told += " | spare numbers CHANGED";
-        }
-    }
-    told
 }

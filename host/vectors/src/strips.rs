@@ -27,11 +27,11 @@
 
 use crate::blocks::{characters, colours, control, data, finding, mend};
 use crate::boundary::Answered;
-use crate::by_hand::{self, fetch, MOST};
+use crate::by_hand::{self, changes, fetch, MOST};
 use crate::layout::*;
 use crate::library::{numbered, Gateway, FILLER};
 use crate::script::{decimal, hex, spelt, Step};
-use crate::shown::{digest, record, spell};
+use crate::shown::{record, spell};
 
 /// Runs a script.
 pub fn run(script: &str) -> Result<bool, String> {
@@ -166,51 +166,6 @@ fn with_reader(numbers: &[u16]) -> String {
         letter(SINCE, &["-", "since"]),
         letter(KEPT, &["-", "kept"])
     )
-}
-
-/// What has changed besides the line's record: memories with their digests, the kept block, and all that should not.
-fn changes(before: &Gateway, after: &Gateway, line: u8) -> String {
-    let mut told = String::new();
-    let memories = [
-        ("journal", &before.journal, &after.journal),
-        ("unfinished", &before.unfinished, &after.unfinished),
-        ("frames", &before.frames, &after.frames),
-    ];
-    for (name, before, after) in memories {
-        if before.bytes != after.bytes {
-            told += &format!(" | {} {}", name, digest(&after.bytes));
-        }
-    }
-    if before.counts != after.counts {
-        told += &format!(" | in use {}", after.in_use());
-    }
-    for other in 0..LINES {
-        let is_own = other == usize::from(line);
-        if before.block(other) != after.block(other) {
-            let bytes: Vec<u8> = after
-                .block(other)
-                .iter()
-                .flat_map(|n| n.to_be_bytes())
-                .collect();
-            let whose = if is_own {
-                "block"
-            } else {
-                "CHANGED block of another"
-            };
-            told += &format!(" | {} {}", whose, digest(&bytes));
-        }
-        let (before, after) = (before.line(other), after.line(other));
-        if !is_own && before != after {
-            told += &format!(" | line {} CHANGED", other);
-        }
-        if before[SERIAL] != after[SERIAL] {
-            told += &format!(" | serial {}", after[SERIAL]);
-        }
-        if before[SPEAKS] != after[SPEAKS] || before[SPARE..] != after[SPARE..] {
-            told += " | settings or spare numbers CHANGED";
-        }
-    }
-    told
 }
 
 /// The block of a step, edited.
