@@ -3,7 +3,8 @@
 use crate::answers::{Answer, Reply, ACK, EOT, STX};
 use crate::boundary::{self, Answered, Counts, Numbers};
 use crate::layout::{
-    COUNTS, FRAMES_SIZE, FRAME_LIMIT, JOURNAL_SIZE, LINES, NUMBERS, UNFINISHED_SIZE,
+    COLLECTED, COUNTS, FIELDS, FRAMES_SIZE, FRAME_LIMIT, IN_USE, JOINED, JOURNAL_SIZE, LINES,
+    NUMBERS, SPEAKS, STATE, TEXT_LIMIT, UNFINISHED_SIZE,
 };
 
 /// The number of what answers a sending, and of those that answer a block of a strip reader: of these two also
@@ -12,6 +13,9 @@ const SENDING: u8 = 9;
 const STORED: u8 = 4;
 const HEARD: u8 = 11;
 const NO_ROOM: u8 = 31;
+
+/// What a frame has collected besides its text, but for its last byte.
+const AROUND_TEXT: usize = 5;
 
 /// What a line speaks.
 #[derive(Clone, Copy, PartialEq, Eq, Debug, Default)]
@@ -33,6 +37,49 @@ impl Speaks {
             Speaks::Strips10 => 10,
             Speaks::Strips13 => 13,
         }
+    }
+
+    fn of(number: u16) -> Speaks {
+        match number {
+            10 => Speaks::Strips10,
+            13 => Speaks::Strips13,
+            _ => Speaks::Frames,
+        }
+    }
+}
+
+/// Where a line is.
+#[derive(Clone, Copy, PartialEq, Eq, Debug)]
+pub enum State {
+    /// Nothing is under way.
+    Neutral,
+    /// A transfer is open, between two frames.
+    Waiting,
+    /// A frame or a block comes in.
+    Inside,
+    /// In a sending: our ENQ awaits its reply.
+    Asking,
+    /// In a sending: our ENQ was refused, and is sent again after 10 seconds.
+    Pausing,
+    /// In a sending: a frame awaits its reply.
+    Offering,
+}
+
+impl State {
+    fn of(number: u16) -> State {
+        match number {
+            0 => State::Neutral,
+            1 => State::Waiting,
+            2 => State::Inside,
+            3 => State::Asking,
+            4 => State::Pausing,
+            _ => State::Offering,
+        }
+    }
+
+    /// Whether the line sends.
+    pub fn is_sending(self) -> bool {
+        matches!(self, State::Asking | State::Pausing | State::Offering)
     }
 }
 
@@ -71,21 +118,23 @@ pub struct Settings {
 /// ```
 #[derive(Clone)]
 pub struct Gateway {
-    memory: Box<Memory>,
+    pub(crate) memory: Box<Memory>,
+    /// How long the text is that each line refused last, while it still stands in the unfinished memory.
+    refused: [usize; LINES],
 }
 
 #[derive(Clone)]
-struct Memory {
-    numbers: Numbers,
-    counts: Counts,
-    journal: [u8; JOURNAL_SIZE],
-    unfinished: [u8; UNFINISHED_SIZE],
-    frames: [u8; FRAMES_SIZE],
+pub(crate) struct Memory {
+    pub(crate) numbers: Numbers,
+    pub(crate) counts: Counts,
+    pub(crate) journal: [u8; JOURNAL_SIZE],
+    pub(crate) unfinished: [u8; UNFINISHED_SIZE],
+    pub(crate) frames: [u8; FRAMES_SIZE],
 }
 
 impl Memory {
     /// Nothing in it yet.
-    fn new() -> Box<Memory> {
+    pub(crate) fn new() -> Box<Memory> {
         assert_eq!(boundary::sizes(), boundary::own_sizes());
         Box::new(Memory {
             numbers: [0; NUMBERS],
@@ -106,7 +155,12 @@ impl Gateway {
     pub fn fresh() -> Gateway {
         let mut memory = Memory::new();
         boundary::fresh(&mut memory.numbers, &mut memory.counts);
-        Gateway { memory }
+        Gateway::of(memory)
+    }
+
+    pub(crate) fn of(memory: Box<Memory>) -> Gateway {
+        let refused = [0; LINES];
+        Gateway { memory, refused }
     }
 
     /// The same where some lines have strip readers. What a line speaks never changes.
@@ -147,7 +201,7 @@ impl Gateway {
         let speaks = settings.map(|line| line.speaks.number());
         let number = boundary::start(&speaks, &mut memory.numbers, &mut memory.counts);
         assert_eq!(number, 0, "the library knows what a line may speak");
-        Gateway { memory }
+        Gateway::of(memory)
     }
 
     /// A byte has come in on a line.
@@ -172,6 +226,7 @@ impl Gateway {
     /// }
     /// ```
     pub fn byte(&mut self, line: u8, byte: u8) -> Answer {
+        let gathered = self.gathered(line);
         let memory = &mut *self.memory;
         let answered = boundary::byte(
             line,
@@ -186,7 +241,35 @@ impl Gateway {
             // Our EOT behind one of these two says that there was no frame left to acknowledge.
             (SENDING, _) => self.sending(line, answered, matches!(byte, ACK | EOT)),
             (STORED, STX) | (HEARD, _) | (NO_ROOM, 0) | (70..=72, _) => self.block(line, answered),
-            _ => Answer::of(answered),
+            _ => {
+                let answer = Answer::of(answered);
+                self.note_refused(line, gathered, &answer);
+                answer
+            }
+        }
+    }
+
+    /// The bytes of its message and of its frame that a line has so far.
+    fn gathered(&self, line: u8) -> usize {
+        usize::from(self.number(line, JOINED)) + usize::from(self.number(line, COLLECTED))
+    }
+
+    /// One of a line's numbers; 0 for a line that there is not.
+    fn number(&self, line: u8, field: usize) -> u16 {
+        match usize::from(line) {
+            line if line < LINES => self.memory.numbers[line * FIELDS + field],
+            _ => 0,
+        }
+    }
+
+    /// A refused text stands until the line writes over its start: with the next frame that is accepted.
+    fn note_refused(&mut self, line: u8, gathered: usize, answer: &Answer) {
+        match answer {
+            Answer::Faulty { .. } | Answer::NoRoom | Answer::NoMessage => {
+                self.refused[usize::from(line)] = gathered.saturating_sub(AROUND_TEXT);
+            }
+            Answer::Accepted | Answer::Stored => self.refused[usize::from(line)] = 0,
+            _ => {}
         }
     }
 
@@ -266,7 +349,10 @@ impl Gateway {
             &memory.frames,
         );
         match answered.number {
-            SENDING => self.sending(line, answered, false),
+            SENDING => {
+                self.refused[usize::from(line)] = 0;
+                self.sending(line, answered, false)
+            }
             _ => Answer::not_started(answered),
         }
     }
@@ -318,6 +404,59 @@ impl Gateway {
     pub fn used(&self, line: u8) -> u32 {
         let used = &self.memory.counts[..LINES];
         used.get(usize::from(line)).copied().unwrap_or(0)
+    }
+
+    /// How many bytes of the journal all waiting messages use.
+    pub fn in_use(&self) -> u32 {
+        self.memory.counts[IN_USE]
+    }
+
+    /// Where a line is; neutral for a line that there is not.
+    pub fn state(&self, line: u8) -> State {
+        State::of(self.number(line, STATE))
+    }
+
+    /// What a line speaks.
+    pub fn speaks(&self, line: u8) -> Speaks {
+        Speaks::of(self.number(line, SPEAKS))
+    }
+
+    /// The messages that wait on a line, oldest first, each with its serial. Nothing is taken: they are read
+    /// off a copy.
+    ///
+    /// ```
+    /// let mut gateway = ngachodui::Gateway::fresh();
+    /// for byte in b"\x05\x021H|\\^&\rL|1|N\r\x03B5\r\n" {
+    ///     gateway.byte(3, *byte);
+    /// }
+    /// let waiting: Vec<(u16, Vec<u8>)> = gateway.waiting(3).collect();
+    /// assert_eq!(waiting, [(0, b"H|\\^&\rL|1|N\r".to_vec())]);
+    /// assert_eq!(gateway.waiting(3).count(), 1); // it waits still
+    /// ```
+    pub fn waiting(&self, line: u8) -> impl Iterator<Item = (u16, Vec<u8>)> {
+        let mut copy = self.clone();
+        let mut buffer = [0; TEXT_LIMIT];
+        std::iter::from_fn(move || match copy.take(line, &mut buffer) {
+            Answer::Taken { length, serial } => Some((serial, buffer[..length].to_vec())),
+            _ => None,
+        })
+    }
+
+    /// The text that a line refused last with [`Answer::Faulty`] or [`Answer::NoRoom`], for somebody to look at;
+    /// empty where there is none, or where it is overwritten by what came later or was sent.
+    ///
+    /// ```
+    /// let mut gateway = ngachodui::Gateway::fresh();
+    /// for byte in b"\x05\x021H|\\^&\rP|1\rO|2\rL|1|N\r\x03C9\r\n" {
+    ///     gateway.byte(3, *byte);
+    /// }
+    /// assert_eq!(gateway.refused(3), b"H|\\^&\rP|1\rO|2\rL|1|N\r");
+    /// ```
+    pub fn refused(&self, line: u8) -> &[u8] {
+        match self.refused.get(usize::from(line)) {
+            Some(length) => &self.memory.unfinished[usize::from(line) * TEXT_LIMIT..][..*length],
+            None => &[],
+        }
     }
 }
 
@@ -644,6 +783,85 @@ mod tests {
         assert_eq!(gateway.seconds(0, 1), Answer::TimedOut);
         assert_eq!(gateway.byte(8, 0x05), Answer::NoLine);
         assert_eq!(gateway.take(255, &mut []), Answer::NoLine);
+    }
+
+    #[test]
+    fn a_refused_text_stands_until_it_is_overwritten() {
+        let refuse = |gateway: &mut Gateway| {
+            assert_eq!(gateway.byte(0, 0x05), Answer::Opened);
+            let wrong = frame(b"H|\\^&\rP|2\rL|1|N\r");
+            assert_eq!(last(gateway, 0, &wrong).number(), 53);
+            assert_eq!(gateway.refused(0), b"H|\\^&\rP|2\rL|1|N\r");
+            assert_eq!(gateway.byte(0, 0x04), Answer::Ended);
+        };
+        let mut gateway = Gateway::fresh();
+        assert_eq!(gateway.refused(0), []);
+        refuse(&mut gateway);
+        assert_eq!((gateway.refused(1), gateway.refused(8)), (&[][..], &[][..]));
+        gateway.byte(0, 0x05);
+        let next = frame(b"H|\\^&\r");
+        assert_eq!(last(&mut gateway, 0, &next), Answer::Accepted);
+        assert_eq!(gateway.refused(0), []);
+        assert_eq!(gateway.byte(0, 0x04), Answer::Dropped);
+        refuse(&mut gateway);
+        assert_eq!(gateway.send(0, b"none"), not_sent(b"none"));
+        assert!(!gateway.refused(0).is_empty());
+        gateway.send(0, TEXT);
+        assert_eq!(gateway.refused(0), []);
+    }
+
+    fn not_sent(text: &[u8]) -> Answer {
+        Answer::NotSent(crate::read(text).unwrap_err())
+    }
+
+    #[test]
+    fn where_a_line_is() {
+        let mut gateway = with_readers();
+        let mut told = vec![gateway.state(0)];
+        for byte in [0x05, 0x02, b'\n', 0x04] {
+            gateway.byte(0, byte);
+            told.push(gateway.state(0));
+        }
+        let (neutral, waiting) = (State::Neutral, State::Waiting);
+        assert_eq!(told, [neutral, waiting, State::Inside, waiting, neutral]);
+        assert!(!told.iter().any(|state| state.is_sending()));
+        told = Vec::new();
+        gateway.send(0, TEXT);
+        for byte in [0x15, 0x00] {
+            told.push(gateway.state(0));
+            gateway.byte(0, byte);
+        }
+        gateway.seconds(0, 10);
+        gateway.byte(0, 0x06);
+        told.push(gateway.state(0));
+        assert_eq!(told, [State::Asking, State::Pausing, State::Offering]);
+        assert!(told.iter().all(|state| state.is_sending()));
+        assert_eq!(gateway.state(8), neutral);
+        let speaks = [0, 1, 8].map(|line| gateway.speaks(line));
+        assert_eq!(speaks[0], Speaks::Frames);
+        assert_ne!(speaks[1], Speaks::Frames);
+        assert_eq!(speaks[2], Speaks::Frames);
+    }
+
+    #[test]
+    fn what_waits_is_seen_and_not_taken() {
+        let mut gateway = Gateway::fresh();
+        for number in [b'1', b'2'] {
+            let text = [b"H|\\^&|", &[number][..], b"\rL|1|N\r"].concat();
+            assert_eq!(gateway.byte(6, 0x05), Answer::Opened);
+            assert_eq!(last(&mut gateway, 6, &frame(&text)), Answer::Stored);
+            assert_eq!(gateway.byte(6, 0x04), Answer::Ended);
+        }
+        let serials: Vec<u16> = gateway.waiting(6).map(|(serial, _)| serial).collect();
+        assert_eq!(serials, [0, 1]);
+        assert_eq!(gateway.waiting(5).count() + gateway.waiting(8).count(), 0);
+        assert_eq!(gateway.in_use(), gateway.used(6));
+        let mut buffer = [0; TEXT_LIMIT];
+        let (serial, text) = gateway.waiting(6).next().expect("two wait");
+        let length = text.len();
+        let taken = Answer::Taken { length, serial };
+        assert_eq!(gateway.take(6, &mut buffer), taken);
+        assert_eq!(&buffer[..length], text);
     }
 
     #[test]

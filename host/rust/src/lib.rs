@@ -18,9 +18,11 @@ mod boundary;
 mod gateway;
 #[allow(missing_docs)]
 mod layout;
+mod saved;
 mod texts;
 
 pub use answers::{Answer, Fault, Refusal, Reply};
-pub use gateway::{Gateway, Settings, Speaks};
-pub use layout::{CUT_LIMIT, LINES, SHARE, TEXT_LIMIT, VERSION};
+pub use gateway::{Gateway, Settings, Speaks, State};
+pub use layout::{CUT_LIMIT, JOURNAL_SIZE, LINES, SHARE, TEXT_LIMIT, VERSION};
+pub use saved::{NotLoaded, SAVED_SIZE};
 pub use texts::{cut, escape, is_message, read, unescape, Delimiters, Record};
