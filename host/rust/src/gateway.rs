@@ -4,7 +4,7 @@ use crate::answers::{Answer, Reply, ACK, EOT, STX};
 use crate::boundary::{self, Answered, Counts, Numbers};
 use crate::layout::{
     COLLECTED, COUNTS, FIELDS, FRAMES_SIZE, FRAME_LIMIT, IN_USE, JOINED, JOURNAL_SIZE, LINES,
-    NUMBERS, SPEAKS, STATE, TEXT_LIMIT, UNFINISHED_SIZE,
+    NUMBERS, SERIAL, SPEAKS, STATE, TEXT_LIMIT, UNFINISHED_SIZE,
 };
 
 /// The number of what answers a sending, and of those that answer a block of a strip reader: of these two also
@@ -409,6 +409,11 @@ impl Gateway {
     /// How many bytes of the journal all waiting messages use.
     pub fn in_use(&self) -> u32 {
         self.memory.counts[IN_USE]
+    }
+
+    /// The serial that a line's next message gets.
+    pub fn serial(&self, line: u8) -> u16 {
+        self.number(line, SERIAL)
     }
 
     /// Where a line is; neutral for a line that there is not.
@@ -853,7 +858,7 @@ mod tests {
             assert_eq!(gateway.byte(6, 0x04), Answer::Ended);
         }
         let serials: Vec<u16> = gateway.waiting(6).map(|(serial, _)| serial).collect();
-        assert_eq!(serials, [0, 1]);
+        assert_eq!((serials, gateway.serial(6)), (vec![0, 1], 2));
         assert_eq!(gateway.waiting(5).count() + gateway.waiting(8).count(), 0);
         assert_eq!(gateway.in_use(), gateway.used(6));
         let mut buffer = [0; TEXT_LIMIT];

@@ -1,0 +1,767 @@
+//! The keeper: the one owner of the gateway.
+//!
+//! It works in rounds. A round takes in what has come meanwhile, from all ports and readers, and gathers what is to
+//! leave for it: bytes to analyzers, replies to readers. Then it saves, once for all of them, and only then lets
+//! them go. So nothing leaves the station before the disk has the state that it comes from; where saving fails,
+//! nothing leaves.
+
+use crate::board::{Board, Published};
+use crate::book::{now, Book};
+use crate::clock::{Clock, Stamp};
+use crate::lines::LineView;
+use crate::log::Log;
+use crate::orders::Orders;
+use crate::requests::{Reply, Request};
+use crate::settings::Settings;
+use crate::store::Store;
+use crate::words::words;
+use chrono::{DateTime, Local};
+use ngachodui::{Answer, Gateway, State, LINES};
+use serde::{Deserialize, Serialize};
+use std::borrow::Cow;
+use std::io;
+use std::sync::mpsc::{Receiver, RecvTimeoutError};
+use std::sync::Arc;
+use std::time::{Duration, Instant};
+use tokio::sync::{mpsc::UnboundedSender, oneshot};
+
+/// So many events are taken in before what is to leave leaves.
+const MOST_IN_ROUND: usize = 256;
+
+/// The board is told anew no more often than that.
+const BOARD_EVERY: Duration = Duration::from_millis(200);
+
+/// What comes to the keeper.
+pub enum Event {
+    /// Bytes have come in on a line; its port waits until they are settled.
+    Bytes {
+        line: u8,
+        bytes: Vec<u8>,
+        done: oneshot::Sender<()>,
+    },
+    /// A port is open, or there is trouble with it.
+    Port { line: u8, trouble: Option<String> },
+    /// Somebody asks over HTTP.
+    Request {
+        request: Request,
+        reply: oneshot::Sender<Reply>,
+    },
+    /// The station is to stop.
+    Stop,
+}
+
+/// An answer that no sound gateway gives: its memory was written from outside. Nothing is saved then.
+#[derive(Debug)]
+pub struct Damaged {
+    line: u8,
+    answer: Answer,
+}
+
+impl Damaged {
+    pub(crate) fn at(line: u8, answer: Answer) -> Damaged {
+        Damaged { line, answer }
+    }
+}
+
+impl std::fmt::Display for Damaged {
+    fn fmt(&self, f: &mut std::fmt::Formatter) -> std::fmt::Result {
+        write!(
+            f,
+            "line {}: answer {}, {}; what was saved is not touched, start again",
+            self.line,
+            self.answer.number(),
+            words(&self.answer)
+        )
+    }
+}
+
+/// What is saved beside the gateway.
+#[derive(Serialize, Deserialize)]
+struct Beside<'a> {
+    at: Stamp,
+    book: Cow<'a, Book>,
+}
+
+/// What is to leave at the end of a round.
+#[derive(Default)]
+struct Leaving {
+    bytes: Vec<(u8, Vec<u8>)>,
+    replies: Vec<(oneshot::Sender<Reply>, Reply)>,
+    done: Vec<oneshot::Sender<()>>,
+}
+
+/// Whether what is in memory is on the disk, and how saving goes.
+pub struct Saving {
+    pub store: Store,
+    is_saved: bool,
+    pub trouble: Option<String>,
+    pub took: Duration,
+    pub at: Option<i64>,
+}
+
+pub struct Keeper {
+    pub(crate) settings: Arc<Settings>,
+    pub(crate) log: Log,
+    pub(crate) gateway: Gateway,
+    pub(crate) book: Book,
+    pub(crate) orders: Orders,
+    pub(crate) lines: Vec<LineView>,
+    pub(crate) saving: Saving,
+    pub(crate) started: i64,
+    leaving: Leaving,
+    ports: Vec<Option<UnboundedSender<Vec<u8>>>>,
+    clock: Clock,
+    /// Seconds that passed while no station ran, and that the lines have to be told.
+    owed: u64,
+    archive_due: Option<DateTime<Local>>,
+    published: Arc<Published>,
+}
+
+impl Keeper {
+    /// Loads what was saved in the settings' folder, or begins with nothing.
+    pub fn open(settings: Arc<Settings>, log: Log) -> Result<Keeper, String> {
+        let mut keeper = Keeper::open_to_archive(settings, log)?;
+        keeper.set_speaking()?;
+        Ok(keeper)
+    }
+
+    /// The same, whatever the lines spoke when it was saved: for taking and no more.
+    pub fn open_to_archive(settings: Arc<Settings>, log: Log) -> Result<Keeper, String> {
+        let (store, saved) = Store::open(&settings.folder)?;
+        let clock = Clock::read();
+        let (gateway, book, owed) = match saved {
+            None => (Gateway::start(settings.speaks()), Book::default(), 0),
+            Some(bytes) => load(&bytes, &clock)?,
+        };
+        let waits = gateway.in_use();
+        log.say(format_args!("loaded: {} bytes of messages wait", waits));
+        let folder = settings.folder.join("orders");
+        let orders = Orders::load(&folder, settings.orders, |line| gateway.state(line))?;
+        Ok(Keeper {
+            log,
+            gateway,
+            book,
+            orders,
+            lines: (0..LINES).map(|_| LineView::new()).collect(),
+            saving: Saving {
+                store,
+                is_saved: false,
+                trouble: None,
+                took: Duration::ZERO,
+                at: None,
+            },
+            started: now(),
+            leaving: Leaving::default(),
+            ports: (0..LINES).map(|_| None).collect(),
+            clock,
+            owed,
+            archive_due: next_archive(&settings, Local::now()),
+            published: Arc::new(Published::new()),
+            settings,
+        })
+    }
+
+    /// What a line speaks is set when a gateway is started, and a start forgets what waits: so where the settings
+    /// have changed, nothing may wait.
+    fn set_speaking(&mut self) -> Result<(), String> {
+        let wanted = self.settings.speaks();
+        let differs = |line: &u8| self.gateway.speaks(*line) != wanted[usize::from(*line)].speaks;
+        match (0..LINES as u8).find(differs) {
+            None => Ok(()),
+            Some(line) if self.gateway.in_use() > 0 => Err(format!(
+                "line {} is to speak something else than before, and messages wait: archive them first (station archive SETTINGS)",
+                line
+            )),
+            Some(line) => {
+                self.log.say(format_args!(
+                    "line {} is to speak something else: begun anew, serials from 0",
+                    line
+                ));
+                self.gateway = Gateway::start(wanted);
+                self.owed = 0;
+                Ok(())
+            }
+        }
+    }
+
+    /// Saves, for who runs no rounds.
+    pub fn finish(mut self) -> Result<(), String> {
+        self.save();
+        self.saving.trouble.map_or(Ok(()), Err)
+    }
+
+    /// Where the board's numbers are to be seen.
+    pub fn published(&self) -> Arc<Published> {
+        self.published.clone()
+    }
+
+    /// What is to be sent on a line goes to this port from now on.
+    pub fn connect(&mut self, line: u8, port: UnboundedSender<Vec<u8>>) {
+        self.ports[usize::from(line)] = Some(port);
+    }
+
+    /// Works until it is told to stop, or until the gateway is found damaged.
+    pub fn run(mut self, events: Receiver<Event>) -> Result<(), Damaged> {
+        let mut told = Instant::now();
+        let mut shown = told;
+        self.publish();
+        loop {
+            let wait = Duration::from_secs(1).saturating_sub(told.elapsed());
+            let goes_on = match events.recv_timeout(wait) {
+                Ok(event) => self.round(event, &events)?,
+                Err(RecvTimeoutError::Timeout) => true,
+                Err(RecvTimeoutError::Disconnected) => false,
+            };
+            let passed = told.elapsed().as_secs();
+            if passed > 0 {
+                // The fraction is kept for the next time.
+                told += Duration::from_secs(passed);
+                self.pass(passed)?;
+            }
+            if passed > 0 || shown.elapsed() >= BOARD_EVERY {
+                shown = Instant::now();
+                self.publish();
+            }
+            if !goes_on {
+                self.save();
+                return Ok(());
+            }
+        }
+    }
+
+    /// Takes in an event and those that wait behind it, and lets go what is to leave. False: it is to stop.
+    fn round(&mut self, first: Event, events: &Receiver<Event>) -> Result<bool, Damaged> {
+        let mut goes_on = self.take_in(first)?;
+        for event in events.try_iter().take(MOST_IN_ROUND) {
+            goes_on &= self.take_in(event)?;
+        }
+        self.start_orders()?;
+        self.settle();
+        Ok(goes_on)
+    }
+
+    fn take_in(&mut self, event: Event) -> Result<bool, Damaged> {
+        match event {
+            Event::Bytes { line, bytes, done } => {
+                for byte in bytes {
+                    self.hear(line, byte)?;
+                }
+                self.leaving.done.push(done);
+            }
+            Event::Port { line, trouble } => self.see_port(line, trouble),
+            Event::Request { request, reply } => {
+                let answer = self.serve(request)?;
+                self.leaving.replies.push((reply, answer));
+            }
+            Event::Stop => return Ok(false),
+        }
+        Ok(true)
+    }
+
+    fn hear(&mut self, line: u8, byte: u8) -> Result<(), Damaged> {
+        let used = self.gateway.used(line);
+        let answer = self.gateway.byte(line, byte);
+        self.saving.is_saved = false;
+        self.lines[usize::from(line)].stir();
+        self.act(line, used, &answer)
+    }
+
+    /// Whole seconds have passed: each line is told.
+    fn pass(&mut self, seconds: u64) -> Result<(), Damaged> {
+        let seconds = seconds + std::mem::take(&mut self.owed);
+        let told = u8::try_from(seconds).unwrap_or(u8::MAX);
+        for k in 0..self.settings.lines.len() {
+            let line = self.settings.lines[k].number;
+            let used = self.gateway.used(line);
+            let answer = self.gateway.seconds(line, told);
+            if answer != Answer::Nothing {
+                self.saving.is_saved = false;
+            }
+            self.act(line, used, &answer)?;
+            self.lines[usize::from(line)].end_second(|lost| {
+                let name = name_of(&self.settings, line);
+                self.log
+                    .say(format_args!("{}: {} more like these", name, lost));
+            });
+        }
+        self.book.pass(now());
+        self.archive_when_due();
+        self.start_orders()?;
+        // What nobody waits for is saved within a second even so.
+        if !self.is_saved() {
+            self.save();
+        }
+        self.settle();
+        Ok(())
+    }
+
+    /// What follows from an answer to an event of a line.
+    fn act(&mut self, line: u8, used: u32, answer: &Answer) -> Result<(), Damaged> {
+        if !answer.outgoing().is_empty() {
+            let bytes = answer.outgoing().to_vec();
+            self.leaving.bytes.push((line, bytes));
+        }
+        let mut more = String::new();
+        match answer {
+            Answer::Nothing => return Ok(()),
+            Answer::Sending { outgoing } if outgoing.is_empty() => return Ok(()),
+            Answer::WrongSize | Answer::BeyondLimits | Answer::Broken => {
+                return Err(Damaged::at(line, answer.clone()));
+            }
+            Answer::Stored | Answer::Filed => {
+                let entry = self.book.store(&self.gateway, line, used, now());
+                more = format!(", serial {}, {} bytes", entry.serial, entry.bytes);
+            }
+            Answer::Faulty { .. } | Answer::NoMessage | Answer::NoRoom | Answer::Crowded => {
+                let text = self.gateway.refused(line);
+                self.lines[usize::from(line)].refuse(answer, text);
+                more = format!(
+                    ", {} of {} bytes used",
+                    self.gateway.in_use(),
+                    ngachodui::JOURNAL_SIZE
+                );
+            }
+            Answer::SendingEnded { .. } | Answer::GivenUp => {
+                let acknowledged = *answer == Answer::SendingEnded { acknowledged: true };
+                let at = Instant::now();
+                let order = self.orders.ended(line, acknowledged, &words(answer), at);
+                more = order.map_or(String::new(), |number| format!(", order {}", number));
+            }
+            _ => {}
+        }
+        self.note(line, answer, &more);
+        Ok(())
+    }
+
+    /// Puts an answer on the board and into the log.
+    fn note(&mut self, line: u8, answer: &Answer, more: &str) {
+        let view = &mut self.lines[usize::from(line)];
+        view.note(answer);
+        if view.may_log() {
+            let name = name_of(&self.settings, line);
+            self.log.say(format_args!(
+                "{}: {}, {}{}",
+                name,
+                answer.number(),
+                words(answer),
+                more
+            ));
+        }
+    }
+
+    fn see_port(&mut self, line: u8, trouble: Option<String>) {
+        let view = &mut self.lines[usize::from(line)];
+        if view.see_port(trouble) {
+            let name = name_of(&self.settings, line);
+            let said = view.trouble().unwrap_or_else(|| "connected".to_string());
+            self.log.say(format_args!("{}: port {}", name, said));
+        }
+    }
+
+    /// Starts the next order of each line that has been quiet for a while.
+    fn start_orders(&mut self) -> Result<(), Damaged> {
+        let at = Instant::now();
+        for k in 0..self.settings.lines.len() {
+            let line = self.settings.lines[k].number;
+            let is_free = self.gateway.state(line) == State::Neutral
+                && self.lines[usize::from(line)].is_quiet(at, self.settings.orders.pause);
+            let due = is_free.then(|| self.orders.due(line, at)).flatten();
+            if let Some((number, text)) = due {
+                self.orders.started(number);
+                let answer = self.gateway.send(line, &text);
+                self.saving.is_saved = false;
+                self.lines[usize::from(line)].stir();
+                self.act(line, self.gateway.used(line), &answer)?;
+            }
+        }
+        Ok(())
+    }
+
+    /// At its time of the day. Where that fails it is tried again every minute.
+    fn archive_when_due(&mut self) {
+        let at = Local::now();
+        if self.archive_due.map_or(false, |due| due <= at) {
+            let next = self.archive().map(|_| next_archive(&self.settings, at));
+            self.archive_due = next.unwrap_or_else(|_| Some(at + chrono::Duration::minutes(1)));
+        }
+    }
+
+    pub(crate) fn is_saved(&self) -> bool {
+        self.saving.is_saved && self.orders.is_saved()
+    }
+
+    /// What is in memory is not what the disk has.
+    pub(crate) fn has_changed(&mut self) {
+        self.saving.is_saved = false;
+    }
+
+    /// Saves all. An order goes first: it may say that it is being sent while its line does not send yet, and
+    /// then it waits again; but no line may send an order that says it waits.
+    pub(crate) fn save(&mut self) {
+        let began = Instant::now();
+        let saved = self.orders.save().and_then(|()| self.save_gateway());
+        self.saving.took = began.elapsed();
+        let trouble = saved.err().map(|error| error.to_string());
+        if trouble != self.saving.trouble {
+            self.log.say(match &trouble {
+                Some(why) => format!("saving fails: {}; nothing is acknowledged", why),
+                None => "saving works again".to_string(),
+            });
+        }
+        if trouble.is_none() {
+            self.saving.is_saved = true;
+            self.saving.at = Some(now());
+        }
+        self.saving.trouble = trouble;
+    }
+
+    fn save_gateway(&mut self) -> io::Result<()> {
+        let beside = Beside {
+            at: self.clock.now(),
+            book: Cow::Borrowed(&self.book),
+        };
+        let gateway = &self.gateway;
+        self.saving.store.save(|out| {
+            gateway.save(out);
+            serde_json::to_writer(out, &beside).expect("plain data");
+        })
+    }
+
+    /// Lets go what is to leave, once the disk has what it comes from.
+    fn settle(&mut self) {
+        let leaving = std::mem::take(&mut self.leaving);
+        let leaves = !leaving.bytes.is_empty() || !leaving.replies.is_empty();
+        if leaves && !self.is_saved() {
+            self.save();
+        }
+        let may_leave = self.is_saved();
+        for (line, bytes) in leaving.bytes {
+            if let (true, Some(port)) = (may_leave, &self.ports[usize::from(line)]) {
+                // A port that is gone takes nothing: what is sent to it is lost, as on a cable.
+                let _ = port.send(bytes);
+            }
+        }
+        for (reply, answer) in leaving.replies {
+            let answer = match may_leave {
+                true => answer,
+                false => Reply::error(503, "the station cannot save, and so hands nothing out"),
+            };
+            let _ = reply.send(answer);
+        }
+        for done in leaving.done {
+            let _ = done.send(());
+        }
+    }
+
+    fn publish(&mut self) {
+        self.published.put(&Board::of(self));
+    }
+}
+
+/// When the archive's time of the day comes next.
+fn next_archive(settings: &Settings, at: DateTime<Local>) -> Option<DateTime<Local>> {
+    let time = settings.archive_at?;
+    let today = at.date_naive();
+    [Some(today), today.succ_opt()]
+        .into_iter()
+        .flatten()
+        .filter_map(|day| day.and_time(time).and_local_timezone(Local).earliest())
+        .find(|due| *due > at)
+}
+
+/// A line with its laboratory, for the log.
+pub(crate) fn name_of(settings: &Settings, line: u8) -> String {
+    let found = settings.lines.iter().find(|set| set.number == line);
+    match found {
+        Some(set) => format!(
+            "line {} ({})",
+            line, settings.laboratories[set.laboratory].name
+        ),
+        None => format!("line {}", line),
+    }
+}
+
+/// What was saved: the gateway, its book, and the seconds since.
+fn load(bytes: &[u8], clock: &Clock) -> Result<(Gateway, Book, u64), String> {
+    let told = |why: &dyn std::fmt::Display| format!("the saved state: {}", why);
+    if bytes.len() < ngachodui::SAVED_SIZE {
+        return Err(told(&"too short"));
+    }
+    let (gateway, beside) = bytes.split_at(ngachodui::SAVED_SIZE);
+    let gateway = Gateway::load(gateway).map_err(|why| told(&why))?;
+    let beside: Beside = serde_json::from_slice(beside).map_err(|why| told(&why))?;
+    let book = beside.book.into_owned();
+    match book.agrees(&gateway) {
+        true => Ok((gateway, book, clock.seconds_since(&beside.at))),
+        false => Err(told(&"its book tells other messages than wait")),
+    }
+}
+
+#[cfg(test)]
+mod tests {
+    use super::*;
+    use crate::simulated::texts::{self, Size};
+    use crate::testing::Folder;
+    use std::fs;
+    use std::path::Path;
+    use tokio::sync::mpsc::{unbounded_channel, UnboundedReceiver};
+
+    const ENQ: &[u8] = b"\x05";
+    const FRAME: &[u8] = b"\x021H|\\^&\rL|1|N\r\x03B5\r\n";
+    const ACK: &[u8] = b"\x06";
+
+    /// A keeper with two lines of one laboratory, and what goes out on each.
+    struct Bench {
+        keeper: Keeper,
+        ports: Vec<UnboundedReceiver<Vec<u8>>>,
+    }
+
+    fn settings(folder: &Path, speaks: &str) -> Arc<Settings> {
+        let text = format!(
+            r#"
+            folder = "."
+            orders = {{ pause = 0, again = 0, tries = 2 }}
+            [[laboratory]]
+            name = "north"
+            token = "0123456789abcdef"
+            [[line]]
+            number = 0
+            laboratory = "north"
+            tcp = "a:1"
+            [[line]]
+            number = 1
+            laboratory = "north"
+            tcp = "a:2"
+            speaks = "{}"
+            "#,
+            speaks
+        );
+        let path = folder.join("settings.toml");
+        fs::create_dir_all(folder).expect("a folder");
+        fs::write(&path, text).expect("written");
+        Arc::new(Settings::read(&path).expect("right settings"))
+    }
+
+    fn quiet() -> Log {
+        Log::with(0).0
+    }
+
+    fn bench(folder: &Folder) -> Bench {
+        let settings = settings(&folder.path, "frames");
+        let mut keeper = Keeper::open(settings, quiet()).expect("a folder of its own");
+        let mut ports = Vec::new();
+        for line in [0, 1] {
+            let (outgoing, sent) = unbounded_channel();
+            keeper.connect(line, outgoing);
+            keeper.see_port(line, None);
+            ports.push(sent);
+        }
+        Bench { keeper, ports }
+    }
+
+    impl Bench {
+        /// Bytes come in on a line; what has gone out on it when they are settled.
+        fn hear(&mut self, line: u8, bytes: &[u8]) -> Vec<u8> {
+            let (done, mut settled) = oneshot::channel();
+            let bytes = bytes.to_vec();
+            let event = Event::Bytes { line, bytes, done };
+            self.keeper.take_in(event).expect("sound");
+            self.keeper.settle();
+            assert_eq!(settled.try_recv(), Ok(()));
+            self.sent(line)
+        }
+
+        fn sent(&mut self, line: u8) -> Vec<u8> {
+            let port = &mut self.ports[usize::from(line)];
+            let mut all = Vec::new();
+            while let Ok(bytes) = port.try_recv() {
+                all.extend(bytes);
+            }
+            all
+        }
+
+        fn ask(&mut self, request: Request) -> Reply {
+            let (reply, mut answered) = oneshot::channel();
+            let event = Event::Request { request, reply };
+            self.keeper.take_in(event).expect("sound");
+            self.keeper.settle();
+            answered.try_recv().expect("settled")
+        }
+
+        /// Its power is cut, and another begins with what the disk has.
+        fn again(self, folder: &Folder) -> Bench {
+            drop(self);
+            bench(folder)
+        }
+    }
+
+    /// What a station would load that is started now.
+    fn on_disk(folder: &Folder) -> Keeper {
+        let copy = Folder::new();
+        fs::copy(folder.path.join("state"), copy.path.join("state")).expect("saved");
+        let settings = settings(&copy.path, "frames");
+        Keeper::open_to_archive(settings, quiet()).expect("whole")
+    }
+
+    #[test]
+    fn what_leaves_is_on_the_disk() {
+        let folder = Folder::new();
+        let mut bench = bench(&folder);
+        assert_eq!(bench.hear(0, ENQ), ACK);
+        assert_eq!(on_disk(&folder).gateway.state(0), State::Waiting);
+        let (last, before) = FRAME.split_last().expect("bytes");
+        let saves = bench.keeper.saving.store.count();
+        assert_eq!(bench.hear(0, before), b"");
+        assert_eq!(bench.keeper.saving.store.count(), saves);
+        assert_eq!(bench.hear(0, &[*last]), ACK);
+        let saved = on_disk(&folder);
+        assert_eq!(
+            (saved.gateway.used(0), saved.book.waiting_count(0)),
+            (16, 1)
+        );
+        // A reader gets what the disk has, and what it has taken is gone there.
+        assert_eq!(
+            bench.ask(Request::Message(vec![0, 1])).body,
+            b"H|\\^&\rL|1|N\r"
+        );
+        let confirm = Request::Confirm { line: 0, serial: 0 };
+        assert_eq!(bench.ask(confirm).status, 200);
+        assert_eq!(on_disk(&folder).gateway.used(0), 0);
+    }
+
+    #[test]
+    fn nothing_leaves_while_saving_fails() {
+        let folder = Folder::new();
+        let mut bench = bench(&folder);
+        fs::remove_dir_all(&folder.path).expect("there");
+        assert_eq!(bench.hear(0, ENQ), b"");
+        assert_eq!(bench.hear(0, FRAME), b"");
+        assert_eq!(bench.ask(Request::Message(vec![0])).status, 503);
+        assert!(bench.keeper.saving.trouble.is_some());
+        // It works again: the analyzer repeats its frame, and only now hears that it is stored.
+        fs::create_dir_all(&folder.path).expect("made");
+        assert_eq!(bench.hear(0, FRAME), ACK);
+        assert_eq!(bench.keeper.saving.trouble, None);
+        assert_eq!(on_disk(&folder).book.waiting_count(0), 1);
+    }
+
+    #[test]
+    fn a_frame_resent_after_a_kill_is_a_repeat() {
+        let folder = Folder::new();
+        let mut bench = bench(&folder);
+        bench.hear(0, ENQ);
+        bench.hear(0, FRAME);
+        let mut bench = bench.again(&folder);
+        assert_eq!(bench.hear(0, FRAME), ACK);
+        assert_eq!(bench.keeper.book.waiting_count(0), 1);
+        assert_eq!(bench.keeper.book.stored_today(0), 1);
+    }
+
+    #[test]
+    fn the_seconds_in_between_are_told() {
+        let folder = Folder::new();
+        let mut bench = bench(&folder);
+        bench.hear(0, ENQ);
+        let mut bench = bench.again(&folder);
+        assert_eq!(bench.keeper.owed, 0);
+        bench.keeper.owed = 28;
+        bench.keeper.pass(1).expect("sound");
+        assert_eq!(bench.keeper.gateway.state(0), State::Waiting);
+        bench.keeper.pass(1).expect("sound");
+        assert_eq!(bench.keeper.gateway.state(0), State::Neutral);
+    }
+
+    #[test]
+    fn an_order_goes_out_and_is_kept() {
+        let folder = Folder::new();
+        let mut bench = bench(&folder);
+        let text = texts::order(0, 1);
+        let placed = bench.ask(Request::Place { line: 0, text });
+        assert_eq!(placed.status, 202);
+        // Its line is told its seconds; it asks, and the station is killed before the analyzer replies.
+        bench.keeper.pass(1).expect("sound");
+        assert_eq!(bench.sent(0), ENQ);
+        let mut bench = bench.again(&folder);
+        assert!(bench.keeper.orders.under_way(0).is_some());
+        let mut frames = 0;
+        while bench.hear(0, ACK) != b"\x04" {
+            frames += 1;
+        }
+        assert!(frames > 1);
+        let tally = bench.keeper.orders.tally(0);
+        assert_eq!((tally.waiting, tally.sent, tally.failed), (0, 1, 0));
+        let bench = bench.again(&folder);
+        assert_eq!(bench.keeper.orders.tally(0), tally);
+    }
+
+    #[test]
+    fn an_order_that_is_not_taken_fails_in_the_end() {
+        let folder = Folder::new();
+        let mut bench = bench(&folder);
+        let text = texts::order(1, 1);
+        bench.ask(Request::Place { line: 1, text });
+        for sending in 1..=2 {
+            bench.keeper.pass(1).expect("sound");
+            assert_eq!(bench.sent(1), ENQ, "sending {}", sending);
+            // The analyzer asks for itself: the sending is dropped.
+            assert_eq!(bench.hear(1, ENQ), b"");
+        }
+        bench.keeper.pass(1).expect("sound");
+        assert_eq!(bench.sent(1), b"");
+        assert_eq!(bench.keeper.orders.tally(1).failed, 1);
+    }
+
+    #[test]
+    fn what_a_line_speaks_changes_only_where_nothing_waits() {
+        let folder = Folder::new();
+        let mut bench = bench(&folder);
+        bench.hear(0, ENQ);
+        bench.hear(0, FRAME);
+        drop(bench);
+        let settings = settings(&folder.path, "strips-10");
+        let why = Keeper::open(settings.clone(), quiet()).err();
+        assert!(why.expect("one waits").contains("archive them first"));
+        let mut keeper = Keeper::open_to_archive(settings.clone(), quiet()).expect("whole");
+        assert_eq!(keeper.archive(), Ok(1));
+        keeper.finish().expect("saved");
+        let keeper = Keeper::open(settings, quiet()).expect("nothing waits");
+        assert_eq!(keeper.gateway.speaks(1), ngachodui::Speaks::Strips10);
+    }
+
+    #[test]
+    fn a_damaged_gateway_stops_the_station() {
+        let folder = Folder::new();
+        let mut bench = bench(&folder);
+        for answer in [Answer::WrongSize, Answer::BeyondLimits, Answer::Broken] {
+            let damaged = bench.keeper.act(1, 0, &answer).expect_err("damage");
+            assert!(damaged.to_string().starts_with("line 1: answer 4"));
+        }
+        bench.keeper.act(1, 0, &Answer::Busy).expect("no damage");
+    }
+
+    #[test]
+    fn serials_that_are_confirmed() {
+        let folder = Folder::new();
+        let mut bench = bench(&folder);
+        let text = texts::result(0, 7, 1, Size::Small);
+        for number in 0..3 {
+            let mut frames = [0; ngachodui::CUT_LIMIT];
+            let length = ngachodui::cut(&text, &mut frames).expect("a message");
+            bench.hear(0, ENQ);
+            bench.hear(0, &frames[..length]);
+            bench.hear(0, b"\x04");
+            assert_eq!(bench.keeper.book.waiting_count(0), number + 1);
+        }
+        let mut confirm = |serial| {
+            let reply = bench.ask(Request::Confirm { line: 0, serial });
+            (reply.status, String::from_utf8(reply.body).expect("JSON"))
+        };
+        assert_eq!(confirm(1).0, 409);
+        assert_eq!(confirm(3).0, 404);
+        assert_eq!(confirm(0), (200, "{\"taken\":true}\n".to_string()));
+        assert_eq!(confirm(0), (200, "{\"taken\":false}\n".to_string()));
+        assert_eq!((confirm(1).0, confirm(2).0), (200, 200));
+        assert_eq!(confirm(2), (200, "{\"taken\":false}\n".to_string()));
+        assert_eq!((confirm(3).0, confirm(65_535).0), (404, 200));
+    }
+}

@@ -1,0 +1,302 @@
+//! Work orders: kept in files of their own until their analyzer has acknowledged them, and a while longer.
+
+use crate::book::{local, now, Moment};
+use crate::settings::OrderSettings;
+use crate::store::{sync_folder, write_whole};
+use ngachodui::State;
+use serde::{Deserialize, Serialize};
+use serde_json::{json, Value};
+use std::collections::{BTreeMap, BTreeSet};
+use std::fs;
+use std::io;
+use std::path::{Path, PathBuf};
+use std::time::Instant;
+
+/// So many orders may wait on a line, and of those that are over so many are kept.
+pub const MOST_WAITING: usize = 100;
+const MOST_OVER: usize = 1_000;
+
+#[derive(Clone, Copy, Debug, PartialEq, Serialize, Deserialize)]
+#[serde(rename_all = "lowercase")]
+pub enum Stage {
+    Waiting,
+    Sending,
+    Sent,
+    Failed,
+    Cancelled,
+}
+
+impl Stage {
+    fn is_over(self) -> bool {
+        !matches!(self, Stage::Waiting | Stage::Sending)
+    }
+}
+
+/// An order; its text stands behind this in its file.
+#[derive(Clone, Debug, Serialize, Deserialize)]
+pub struct Order {
+    order: u64,
+    pub line: u8,
+    state: Stage,
+    tries: u32,
+    placed: Moment,
+    changed: Moment,
+    words: String,
+    #[serde(skip)]
+    text: Vec<u8>,
+    /// Not to be tried before then.
+    #[serde(skip)]
+    rests_until: Option<Instant>,
+}
+
+impl Order {
+    pub fn told(&self) -> Value {
+        json!({
+            "order": self.order,
+            "line": self.line,
+            "state": self.state,
+            "tries": self.tries,
+            "placed": local(self.placed).to_rfc3339(),
+            "changed": local(self.changed).to_rfc3339(),
+            "words": self.words,
+        })
+    }
+
+    fn turn(&mut self, state: Stage, words: &str) {
+        self.state = state;
+        self.words = words.to_string();
+        self.changed = now();
+    }
+
+    /// A line of JSON, and the text as it was placed.
+    fn file(&self) -> Vec<u8> {
+        let mut bytes = serde_json::to_vec(self).expect("plain data");
+        bytes.push(b'\n');
+        bytes.extend_from_slice(&self.text);
+        bytes
+    }
+
+    fn of_file(bytes: &[u8]) -> Result<Order, String> {
+        let end = bytes
+            .iter()
+            .position(|byte| *byte == b'\n')
+            .ok_or("it has no line")?;
+        let mut order: Order =
+            serde_json::from_slice(&bytes[..end]).map_err(|error| error.to_string())?;
+        order.text = bytes[end + 1..].to_vec();
+        Ok(order)
+    }
+}
+
+/// All orders, and which of them the disk does not have yet.
+pub struct Orders {
+    folder: PathBuf,
+    settings: OrderSettings,
+    orders: BTreeMap<u64, Order>,
+    unsaved: BTreeSet<u64>,
+}
+
+/// What is told of a line's orders.
+#[derive(Clone, Copy, Debug, Default, PartialEq, Serialize)]
+pub struct Tally {
+    pub waiting: usize,
+    pub sent: usize,
+    pub failed: usize,
+}
+
+/// The order that a line sends.
+#[derive(Clone, Debug, PartialEq, Serialize)]
+pub struct UnderWay {
+    order: u64,
+    since: String,
+    tries: u32,
+}
+
+impl Orders {
+    /// Loads what the folder has. `state` says where each line is: an order whose line does not send any more
+    /// waits again.
+    pub fn load(
+        folder: &Path,
+        settings: OrderSettings,
+        state: impl Fn(u8) -> State,
+    ) -> Result<Orders, String> {
+        let told = |path: &Path, why: String| format!("{}: {}", path.display(), why);
+        fs::create_dir_all(folder).map_err(|error| told(folder, error.to_string()))?;
+        let mut orders = Orders {
+            folder: folder.to_path_buf(),
+            settings,
+            orders: BTreeMap::new(),
+            unsaved: BTreeSet::new(),
+        };
+        let names = fs::read_dir(folder).map_err(|error| told(folder, error.to_string()))?;
+        for name in names {
+            let path = name
+                .map_err(|error| told(folder, error.to_string()))?
+                .path();
+            // What a kill has left half written has no number for a name.
+            let number = path
+                .file_name()
+                .and_then(|name| name.to_str()?.parse().ok());
+            if let Some(number) = number {
+                let bytes = fs::read(&path).map_err(|error| told(&path, error.to_string()))?;
+                let order = Order::of_file(&bytes).map_err(|why| told(&path, why))?;
+                orders.orders.insert(number, order);
+            }
+        }
+        let stopped: Vec<u64> = orders
+            .orders
+            .values()
+            .filter(|order| order.state == Stage::Sending && !state(order.line).is_sending())
+            .map(|order| order.order)
+            .collect();
+        for number in stopped {
+            orders.change(
+                number,
+                Stage::Waiting,
+                "stopped with the station; tried again",
+            );
+        }
+        Ok(orders)
+    }
+
+    fn path(&self, number: u64) -> PathBuf {
+        self.folder.join(number.to_string())
+    }
+
+    /// A text that is a message is to be sent on a line.
+    pub fn place(&mut self, line: u8, text: &[u8]) -> u64 {
+        let number = self.orders.keys().last().map_or(1, |last| last + 1);
+        let at = now();
+        let order = Order {
+            order: number,
+            line,
+            state: Stage::Waiting,
+            tries: 0,
+            placed: at,
+            changed: at,
+            words: "waits for its line".to_string(),
+            text: text.to_vec(),
+            rests_until: None,
+        };
+        self.orders.insert(number, order);
+        self.unsaved.insert(number);
+        number
+    }
+
+    /// Takes a waiting order back. False: it does not wait.
+    pub fn cancel(&mut self, number: u64) -> bool {
+        let waits = self.orders.get(&number).map(|order| order.state) == Some(Stage::Waiting);
+        if waits {
+            self.change(number, Stage::Cancelled, "taken back before it was sent");
+        }
+        waits
+    }
+
+    pub fn get(&self, number: u64) -> Option<&Order> {
+        self.orders.get(&number)
+    }
+
+    pub fn of_lines<'a>(&'a self, lines: &'a [u8]) -> impl Iterator<Item = &'a Order> {
+        self.orders
+            .values()
+            .filter(move |order| lines.contains(&order.line))
+    }
+
+    pub fn tally(&self, line: u8) -> Tally {
+        let mut tally = Tally::default();
+        for order in self.of_lines(&[line]) {
+            match order.state {
+                Stage::Waiting => tally.waiting += 1,
+                Stage::Sent => tally.sent += 1,
+                Stage::Failed => tally.failed += 1,
+                Stage::Sending | Stage::Cancelled => {}
+            }
+        }
+        tally
+    }
+
+    fn sending(&self, line: u8) -> Option<&Order> {
+        let is_sent = |order: &&Order| order.line == line && order.state == Stage::Sending;
+        self.orders.values().find(is_sent)
+    }
+
+    pub fn under_way(&self, line: u8) -> Option<UnderWay> {
+        self.sending(line).map(|order| UnderWay {
+            order: order.order,
+            since: local(order.changed).to_rfc3339(),
+            tries: order.tries,
+        })
+    }
+
+    /// The next order of a line that is due, with its text.
+    pub fn due(&self, line: u8, at: Instant) -> Option<(u64, Vec<u8>)> {
+        self.of_lines(&[line])
+            .find(|order| {
+                order.state == Stage::Waiting && order.rests_until.map_or(true, |until| until <= at)
+            })
+            .map(|order| (order.order, order.text.clone()))
+    }
+
+    /// An order goes out.
+    pub fn started(&mut self, number: u64) {
+        self.change(number, Stage::Sending, "goes out");
+        if let Some(order) = self.orders.get_mut(&number) {
+            order.tries += 1;
+        }
+    }
+
+    /// The sending on a line is over.
+    pub fn ended(&mut self, line: u8, acknowledged: bool, words: &str, at: Instant) -> Option<u64> {
+        let (number, tries) = self.sending(line).map(|order| (order.order, order.tries))?;
+        if acknowledged {
+            self.change(number, Stage::Sent, words);
+        } else if tries >= self.settings.tries {
+            self.change(number, Stage::Failed, words);
+        } else {
+            self.change(number, Stage::Waiting, words);
+            if let Some(order) = self.orders.get_mut(&number) {
+                order.rests_until = Some(at + self.settings.again);
+            }
+        }
+        Some(number)
+    }
+
+    fn change(&mut self, number: u64, state: Stage, words: &str) {
+        if let Some(order) = self.orders.get_mut(&number) {
+            order.turn(state, words);
+            self.unsaved.insert(number);
+        }
+    }
+
+    pub fn is_saved(&self) -> bool {
+        self.unsaved.is_empty()
+    }
+
+    /// Writes what has changed, and returns when the disk has it.
+    pub fn save(&mut self) -> io::Result<()> {
+        while let Some(number) = self.unsaved.iter().next().copied() {
+            write_whole(&self.path(number), &self.orders[&number].file())?;
+            self.unsaved.remove(&number);
+        }
+        self.forget()
+    }
+
+    /// Forgets the oldest of those that are over.
+    fn forget(&mut self) -> io::Result<()> {
+        let over: Vec<u64> = self
+            .orders
+            .values()
+            .filter(|order| order.state.is_over())
+            .map(|order| order.order)
+            .collect();
+        let surplus = over.len().saturating_sub(MOST_OVER);
+        for number in &over[..surplus] {
+            fs::remove_file(self.path(*number))?;
+            self.orders.remove(number);
+        }
+        if surplus > 0 {
+            sync_folder(&self.folder)?;
+        }
+        Ok(())
+    }
+}
