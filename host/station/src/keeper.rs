@@ -204,11 +204,17 @@ impl Keeper {
     pub fn run(mut self, events: Receiver<Event>) -> Result<(), Damaged> {
         let mut told = Instant::now();
         let mut shown = told;
-        self.publish();
+        let mut is_shown = false;
         loop {
-            let wait = Duration::from_secs(1).saturating_sub(told.elapsed());
+            let mut wait = Duration::from_secs(1).saturating_sub(told.elapsed());
+            if !is_shown {
+                wait = wait.min(BOARD_EVERY.saturating_sub(shown.elapsed()));
+            }
             let goes_on = match events.recv_timeout(wait) {
-                Ok(event) => self.round(event, &events)?,
+                Ok(event) => {
+                    is_shown = false;
+                    self.round(event, &events)?
+                }
                 Err(RecvTimeoutError::Timeout) => true,
                 Err(RecvTimeoutError::Disconnected) => false,
             };
@@ -218,8 +224,9 @@ impl Keeper {
                 told += Duration::from_secs(passed);
                 self.pass(passed)?;
             }
-            if passed > 0 || shown.elapsed() >= BOARD_EVERY {
+            if passed > 0 || (!is_shown && shown.elapsed() >= BOARD_EVERY) {
                 shown = Instant::now();
+                is_shown = true;
                 self.publish();
             }
             if !goes_on {

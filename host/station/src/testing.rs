@@ -13,9 +13,21 @@ pub struct Folder {
 
 impl Folder {
     pub fn new() -> Folder {
+        Folder::below(std::env::temp_dir())
+    }
+
+    /// Where no disk has to be waited for, if there is such a place.
+    pub fn in_memory() -> Folder {
+        match PathBuf::from("/dev/shm") {
+            memory if memory.is_dir() => Folder::below(memory),
+            _ => Folder::new(),
+        }
+    }
+
+    fn below(folder: PathBuf) -> Folder {
         let number = MADE.fetch_add(1, Ordering::Relaxed);
         let name = format!("station-test-{}-{}", std::process::id(), number);
-        let path = std::env::temp_dir().join(name);
+        let path = folder.join(name);
         fs::create_dir_all(&path).expect("a folder for temporary files");
         Folder { path }
     }

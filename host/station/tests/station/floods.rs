@@ -1,0 +1,108 @@
+//! A line that floods, and whose reader takes nothing, leaves the others their share and their time.
+
+use crate::harness::{tcp, Station};
+use ngachodui_station::simulated::analyzer::{Analyzer, Fate};
+use ngachodui_station::simulated::cable::Cable;
+use ngachodui_station::simulated::texts::{result, Size};
+use std::sync::atomic::{AtomicBool, Ordering};
+use std::thread;
+use std::time::{Duration, Instant};
+
+fn analyzer(cable: Cable) -> Analyzer {
+    Analyzer {
+        patience: Duration::from_secs(5),
+        pause: Duration::from_millis(20),
+        ..Analyzer::new(cable)
+    }
+}
+
+/// Sends calibrations until one is refused, and then noise and calibrations as fast as it can.
+fn flood(cable: Cable, is_full: &AtomicBool, is_over: &AtomicBool) {
+    let mut analyzer = analyzer(cable);
+    let mut number = 0;
+    while !is_over.load(Ordering::SeqCst) {
+        let size = Size::by_number(if is_full.load(Ordering::SeqCst) {
+            0
+        } else {
+            15
+        });
+        let fates = analyzer.transfer(&[result(0, number, 0, size)]);
+        number += 1;
+        if fates == [Fate::Refused] && size == Size::Calibration {
+            is_full.store(true, Ordering::SeqCst);
+        }
+        if is_full.load(Ordering::SeqCst) {
+            analyzer.cable.send(&[0x05; 4_096]);
+            analyzer.cable.send(&[0x04]);
+        }
+    }
+}
+
+#[test]
+fn the_others_keep_their_share() {
+    let (mut lines, mut cables) = (Vec::new(), Vec::new());
+    for name in ["flood", "a", "b", "c", "d", "e", "f", "g"] {
+        let (line, cable) = tcp(name);
+        lines.push(line);
+        cables.push(cable);
+    }
+    let station = Station::with("", &lines);
+    station.await_connected(8);
+    let (is_full, is_over) = (AtomicBool::new(false), AtomicBool::new(false));
+    let mut cables = cables.into_iter();
+    let flooding = cables.next().expect("eight");
+    let slowest = thread::scope(|scope| {
+        scope.spawn(|| flood(flooding, &is_full, &is_over));
+        crate::harness::until("the flood is refused", || is_full.load(Ordering::SeqCst));
+        // Each fills its share: so many messages of so many bytes, four more for each.
+        let others: Vec<_> = cables
+            .zip(1..)
+            .map(|(cable, line)| scope.spawn(move || fill(line, cable)))
+            .collect();
+        let times = others
+            .into_iter()
+            .map(|other| other.join().expect("not refused"));
+        let slowest = times.max().expect("seven");
+        is_over.store(true, Ordering::SeqCst);
+        slowest
+    });
+    // Each of the seven waited for no more than its own frames' saves.
+    assert!(slowest < Duration::from_secs(10), "{:?}", slowest);
+    let board = station.next_board();
+    assert!(board["lines"][0]["used"].as_u64() > Some(2_048));
+    let refused = board["lines"][0]["refused"][0]["number"].clone();
+    assert_eq!(refused, 31);
+    for line in 1..8 {
+        let used = board["lines"][line]["used"].as_u64().expect("a count");
+        assert!(
+            (1_900..=2_048).contains(&used),
+            "line {} uses {}",
+            line,
+            used
+        );
+    }
+    assert!(board["journal"]["claimed"].as_u64() <= Some(32_768));
+}
+
+/// Sends small messages as long as they fit into a share; how long that took.
+fn fill(line: u8, cable: Cable) -> Duration {
+    let mut analyzer = analyzer(cable);
+    let began = Instant::now();
+    let mut used = 0;
+    for number in 0.. {
+        let text = result(line, number, 0, Size::Small);
+        used += text.len() + 4;
+        if used > 2_048 {
+            break;
+        }
+        let fates = analyzer.transfer(&[text]);
+        assert_eq!(
+            fates,
+            [Fate::Acknowledged],
+            "line {}, message {}",
+            line,
+            number
+        );
+    }
+    began.elapsed()
+}
