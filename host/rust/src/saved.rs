@@ -141,7 +141,7 @@ impl Gateway {
 mod tests {
     use super::*;
     use crate::layout::{COLLECTED, FIELDS, IN_USE};
-    use crate::{Settings, Speaks};
+    use crate::{Reply, Settings, Speaks};
 
     fn saved(gateway: &Gateway) -> Vec<u8> {
         let mut bytes = Vec::new();
@@ -154,14 +154,9 @@ mod tests {
         let mut settings = [Settings::default(); LINES];
         settings[6].speaks = Speaks::Strips13;
         let mut gateway = Gateway::start(settings);
-        let mut last = Answer::Nothing;
-        for byte in b"\x05\x021H|\\^&\rL|1|N\r\x03B5\r\n" {
-            last = gateway.byte(2, *byte);
-        }
-        assert_eq!(last, Answer::Stored);
-        for byte in b"\x022H|" {
-            gateway.byte(2, *byte);
-        }
+        let stored = b"\x05\x021H|\\^&\rL|1|N\r\x03B5\r\n";
+        assert_eq!(hear(&mut gateway, 2, stored), Answer::Stored);
+        assert_eq!(hear(&mut gateway, 2, b"\x022H|"), Answer::Nothing);
         gateway.send(4, b"H|\\^&\rL|1|N\r");
         gateway
     }
@@ -185,15 +180,72 @@ mod tests {
     #[test]
     fn a_resent_frame_is_a_repeat_for_the_loaded_gateway() {
         let mut gateway = Gateway::fresh();
-        let frame = b"\x021H|\\^&\rL|1|N\r\x03B5\r\n";
+        let frame = frame(1, "H|\\^&\rL|1|N\r");
         gateway.byte(2, 0x05);
-        frame.iter().for_each(|byte| {
-            gateway.byte(2, *byte);
-        });
+        assert_eq!(hear(&mut gateway, 2, &frame), Answer::Stored);
         let mut loaded = Gateway::load(&saved(&gateway)).expect("just saved");
-        let answers = frame.iter().map(|byte| loaded.byte(2, *byte));
-        assert_eq!(answers.last(), Some(Answer::Repeated));
+        assert_eq!(hear(&mut loaded, 2, &frame), Answer::Repeated);
         assert_eq!(loaded.used(2), 16);
+    }
+
+    fn hear(gateway: &mut Gateway, line: u8, bytes: &[u8]) -> Answer {
+        let answers = bytes.iter().map(|byte| gateway.byte(line, *byte));
+        answers.last().expect("bytes")
+    }
+
+    /// A text in a frame of this number that ends with ETX.
+    fn frame(number: u8, text: &str) -> Vec<u8> {
+        let inside = format!("{}{}\x03", number % 8, text);
+        let sum = inside
+            .bytes()
+            .fold(0, |sum: u8, byte| sum.wrapping_add(byte));
+        format!("\x02{}{:02X}\r\n", inside, sum).into_bytes()
+    }
+
+    /// Why a host saves before each ACK, and not only before that to a stored message: frame numbers come again.
+    #[test]
+    fn a_frame_that_was_acknowledged_and_not_saved() {
+        let mut gateway = Gateway::fresh();
+        gateway.byte(2, 0x05);
+        let message = frame(1, "H|\\^&\rL|1|N\r");
+        assert_eq!(hear(&mut gateway, 2, &message), Answer::Stored);
+        let bytes = saved(&gateway);
+        // Seven of the eight frames of the next message are acknowledged, and not saved.
+        let texts = [
+            "H|\\^&\r", "P|1\r", "C|1\r", "C|2\r", "C|3\r", "C|4\r", "C|5\r",
+        ];
+        for (text, number) in texts.iter().zip(2..) {
+            assert_eq!(
+                hear(&mut gateway, 2, &frame(number, text)),
+                Answer::Accepted
+            );
+        }
+        let mut loaded = Gateway::load(&bytes).expect("just saved");
+        let last = frame(9, "L|1|N\r");
+        assert_eq!(hear(&mut gateway, 2, &last), Answer::Stored);
+        // The loaded one takes it for the frame that it accepted last, and acknowledges a message that it has not.
+        assert_eq!(hear(&mut loaded, 2, &last), Answer::Repeated);
+        assert_eq!(loaded.waiting(2).count(), 1);
+    }
+
+    /// And before each reply to a strip reader, a REP too: it may ask for our last reply.
+    #[test]
+    fn a_reply_to_a_reader_that_was_not_saved() {
+        let mut settings = [Settings::default(); LINES];
+        settings[6].speaks = Speaks::Strips10;
+        let mut gateway = Gateway::start(settings);
+        assert_eq!(
+            hear(&mut gateway, 6, b"\x02<\x033=\r"),
+            Answer::Heard(Reply::More)
+        );
+        let bytes = saved(&gateway);
+        let spoilt = b"\x02;E 4711\x0300\r";
+        assert_eq!(hear(&mut gateway, 6, spoilt), Answer::OddLength);
+        let mut loaded = Gateway::load(&bytes).expect("just saved");
+        let again = b"\x02?\x033>\r";
+        assert_eq!(hear(&mut gateway, 6, again), Answer::Heard(Reply::Again));
+        // The loaded one says that the reader may go on.
+        assert_eq!(hear(&mut loaded, 6, again), Answer::Heard(Reply::More));
     }
 
     #[test]
