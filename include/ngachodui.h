@@ -47,7 +47,8 @@
  *     of a second serves all eight. Of a byte and a timer that fall together either may come first. A
  *     line that sends must be told its seconds: nothing else ends a wait for a reply that does not come.
  *   - Replies: 06 lets the analyzer forget what it has sent, and so does our MOR a strip reader. So first what
- *     the call has left is saved, and then it is sent. After 4 the gateway's copy of the message is the only one.
+ *     the call has left is saved, and then it is sent; docs/HOSTING.md says why that holds for everything that
+ *     is sent, and not only with 4. After 4 the gateway's copy of the message is the only one.
  *   - Strip readers: which lines have one, and how long the patient numbers are that it is set up for, is
  *     said once, at the start; it never changes. The reader keeps its own time: it needs no seconds. Where there
  *     is no room (31) it gets no reply, asks again by itself a few times, and then stops: the finding stays in
@@ -64,13 +65,13 @@
  *     goes where it is to stay before the gateway is saved without it. A host that fails in between
  *     gets the message once more, and knows it by its line and serial.
  *   - Saving: NGACHODUI_VERSION, and behind it the whole ngachodui_gateway; all of it or nothing, as by
- *     writing a new file, flushing and renaming it. What has another number in front is not loaded. A
- *     host that does not save before everything that it sends tells each line, once it has loaded, that 30
- *     seconds have passed, and sends what that gives: no transfer and no sending then goes on with bytes
- *     missing, and the messages that wait stay. A sending ends so with our EOT, but one that paused asks once
- *     more. Our ENQ, our EOT and frames let nobody forget anything: with these 30 seconds nothing has to be
- *     saved before they are sent. What may have been sent before is not sent again by itself: a second reply
- *     to one frame would be taken for the reply to the next.
+ *     writing a new file, flushing and renaming it. What has another number in front is not loaded. On lines
+ *     of frames a host may save before the reply to 4 alone, if it tells each line, once it has loaded, that 30
+ *     seconds have passed, before it hands over a byte, and sends what that gives: no transfer and no sending
+ *     then goes on with bytes missing, and the messages that wait stay. A sending ends so with our EOT, but one
+ *     that paused asks once more. To a strip reader every reply waits for a save, as seconds do nothing there.
+ *     What may have been sent before is not sent again by itself: a second reply to one frame would be taken
+ *     for the reply to the next.
  *
  * Link with libngachodui.a, which is for x86-64 Linux. An object that was compiled for another layout
  * of state and memories, or for other arguments, does not link with it: see NGACHODUI_VERSION. */

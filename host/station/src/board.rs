@@ -90,7 +90,7 @@ impl Board {
             saved: Saved {
                 at: saving.at.map(written),
                 milliseconds: saving.took.as_micros() as f64 / 1_000.0,
-                count: saving.store.count(),
+                count: saving.count(),
                 trouble: saving.trouble.clone(),
             },
             journal: Journal {
@@ -119,6 +119,12 @@ impl Board {
     /// The same numbers as Prometheus reads them.
     fn metrics(&self) -> String {
         let mut out = String::new();
+        self.put_whole(&mut out);
+        self.put_lines(&mut out);
+        out
+    }
+
+    fn put_whole(&self, out: &mut String) {
         let whole: [(&str, &str, f64); 5] = [
             ("journal_used_bytes", "gauge", self.journal.used.into()),
             (
@@ -137,6 +143,9 @@ impl Board {
                 name, kind, name, value
             );
         }
+    }
+
+    fn put_lines(&self, out: &mut String) {
         let each: [(&str, fn(&Line) -> f64); 9] = [
             ("connected", |line| flag(line.connected)),
             ("messages_waiting", |line| line.waiting as f64),
@@ -162,7 +171,6 @@ impl Board {
                 );
             }
         }
-        out
     }
 }
 

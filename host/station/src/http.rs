@@ -161,46 +161,53 @@ impl Http {
     ) -> Result<Request, Reply> {
         let token = bearer(&request).ok_or_else(|| no_token("a token is needed"))?;
         if let ["archive"] = parts {
-            return match &self.settings.operator {
-                Some(operator) if constant_time_eq(operator.as_bytes(), &token) => {
-                    Ok(Request::Archive)
-                }
+            let operator = self.settings.operator.as_ref();
+            return match operator.map(|own| constant_time_eq(own.as_bytes(), &token)) {
+                Some(true) => Ok(Request::Archive),
                 _ => Err(no_token("not the operator's token")),
             };
         }
-        let laboratory = self
-            .laboratory(&token)
-            .ok_or_else(|| no_token("no laboratory has this token"))?;
+        match self.laboratory(&token) {
+            Some(laboratory) => self.readers_request(laboratory, request, parts).await,
+            None => Err(no_token("no laboratory has this token")),
+        }
+    }
+
+    /// What a laboratory's reader asks; it concerns its own lines.
+    async fn readers_request(
+        &self,
+        laboratory: usize,
+        request: hyper::Request<Body>,
+        parts: &[&str],
+    ) -> Result<Request, Reply> {
         let lines = self.settings.lines_of(laboratory);
         let own = |text: &str| {
             own_line(&self.settings, laboratory, text)
                 .ok_or_else(|| Reply::error(404, "not a line of this laboratory"))
         };
-        Ok(match *parts {
-            ["message"] => Request::Message(match request.uri().query() {
+        Ok(match (request.method(), parts) {
+            (_, ["message"]) => Request::Message(match request.uri().query() {
                 None => lines,
                 Some(query) => vec![own(asked_line(query)?)?],
             }),
-            ["message", line, serial] => Request::Confirm {
+            (_, ["message", line, serial]) => Request::Confirm {
                 line: own(line)?,
                 serial: number(serial)?,
             },
-            ["waiting"] => Request::Waiting(lines),
-            ["refused"] => Request::Refused(lines),
-            ["orders"] => Request::Orders(lines),
-            ["orders", part] => match *request.method() {
-                Method::POST => Request::Place {
-                    line: own(part)?,
-                    text: body(request.into_body()).await?,
-                },
-                Method::DELETE => Request::Cancel {
-                    lines,
-                    number: number(part)?,
-                },
-                _ => Request::Order {
-                    lines,
-                    number: number(part)?,
-                },
+            (_, ["waiting"]) => Request::Waiting(lines),
+            (_, ["refused"]) => Request::Refused(lines),
+            (_, ["orders"]) => Request::Orders(lines),
+            (&Method::POST, ["orders", line]) => Request::Place {
+                line: own(line)?,
+                text: body(request.into_body()).await?,
+            },
+            (&Method::DELETE, ["orders", order]) => Request::Cancel {
+                lines,
+                number: number(order)?,
+            },
+            (_, ["orders", order]) => Request::Order {
+                lines,
+                number: number(order)?,
             },
             _ => return Err(Reply::error(404, "no such page")),
         })

@@ -7,19 +7,15 @@
 
 use crate::board::{Board, Published};
 use crate::book::{now, Book};
-use crate::clock::{Clock, Stamp};
 use crate::lines::LineView;
 use crate::log::Log;
 use crate::orders::Orders;
 use crate::requests::{Reply, Request};
+use crate::saving::Saving;
 use crate::settings::Settings;
-use crate::store::Store;
 use crate::words::words;
 use chrono::{DateTime, Local};
 use ngachodui::{Answer, Gateway, State, LINES};
-use serde::{Deserialize, Serialize};
-use std::borrow::Cow;
-use std::io;
 use std::sync::mpsc::{Receiver, RecvTimeoutError};
 use std::sync::Arc;
 use std::time::{Duration, Instant};
@@ -75,13 +71,6 @@ impl std::fmt::Display for Damaged {
     }
 }
 
-/// What is saved beside the gateway.
-#[derive(Serialize, Deserialize)]
-struct Beside<'a> {
-    at: Stamp,
-    book: Cow<'a, Book>,
-}
-
 /// What is to leave at the end of a round.
 #[derive(Default)]
 struct Leaving {
@@ -90,15 +79,7 @@ struct Leaving {
     done: Vec<oneshot::Sender<()>>,
 }
 
-/// Whether what is in memory is on the disk, and how saving goes.
-pub struct Saving {
-    pub store: Store,
-    is_saved: bool,
-    pub trouble: Option<String>,
-    pub took: Duration,
-    pub at: Option<i64>,
-}
-
+/// The one owner of the gateway.
 pub struct Keeper {
     pub(crate) settings: Arc<Settings>,
     pub(crate) log: Log,
@@ -110,7 +91,6 @@ pub struct Keeper {
     pub(crate) started: i64,
     leaving: Leaving,
     ports: Vec<Option<UnboundedSender<Vec<u8>>>>,
-    clock: Clock,
     /// Seconds that passed while no station ran, and that the lines have to be told.
     owed: u64,
     archive_due: Option<DateTime<Local>>,
@@ -127,11 +107,10 @@ impl Keeper {
 
     /// The same, whatever the lines spoke when it was saved: for taking and no more.
     pub fn open_to_archive(settings: Arc<Settings>, log: Log) -> Result<Keeper, String> {
-        let (store, saved) = Store::open(&settings.folder)?;
-        let clock = Clock::read();
-        let (gateway, book, owed) = match saved {
+        let (saving, loaded) = Saving::open(&settings.folder)?;
+        let (gateway, book, owed) = match loaded {
             None => (Gateway::start(settings.speaks()), Book::default(), 0),
-            Some(bytes) => load(&bytes, &clock)?,
+            Some(loaded) => (loaded.gateway, loaded.book, loaded.seconds),
         };
         let waits = gateway.in_use();
         log.say(format_args!("loaded: {} bytes of messages wait", waits));
@@ -143,17 +122,10 @@ impl Keeper {
             book,
             orders,
             lines: (0..LINES).map(|_| LineView::new()).collect(),
-            saving: Saving {
-                store,
-                is_saved: false,
-                trouble: None,
-                took: Duration::ZERO,
-                at: None,
-            },
+            saving,
             started: now(),
             leaving: Leaving::default(),
             ports: (0..LINES).map(|_| None).collect(),
-            clock,
             owed,
             archive_due: next_archive(&settings, Local::now()),
             published: Arc::new(Published::new()),
@@ -406,32 +378,14 @@ impl Keeper {
     /// then it waits again; but no line may send an order that says it waits.
     pub(crate) fn save(&mut self) {
         let began = Instant::now();
-        let saved = self.orders.save().and_then(|()| self.save_gateway());
-        self.saving.took = began.elapsed();
-        let trouble = saved.err().map(|error| error.to_string());
-        if trouble != self.saving.trouble {
-            self.log.say(match &trouble {
-                Some(why) => format!("saving fails: {}; nothing is acknowledged", why),
-                None => "saving works again".to_string(),
+        let saved = self.orders.save();
+        let saved = saved.and_then(|()| self.saving.save(&self.gateway, &self.book));
+        if self.saving.note(&saved, began.elapsed()) {
+            self.log.say(match saved {
+                Err(why) => format!("saving fails: {}; nothing is acknowledged", why),
+                Ok(()) => "saving works again".to_string(),
             });
         }
-        if trouble.is_none() {
-            self.saving.is_saved = true;
-            self.saving.at = Some(now());
-        }
-        self.saving.trouble = trouble;
-    }
-
-    fn save_gateway(&mut self) -> io::Result<()> {
-        let beside = Beside {
-            at: self.clock.now(),
-            book: Cow::Borrowed(&self.book),
-        };
-        let gateway = &self.gateway;
-        self.saving.store.save(|out| {
-            gateway.save(out);
-            serde_json::to_writer(out, &beside).expect("plain data");
-        })
     }
 
     /// Lets go what is to leave, once the disk has what it comes from.
@@ -488,287 +442,5 @@ pub(crate) fn name_of(settings: &Settings, line: u8) -> String {
     }
 }
 
-/// What was saved: the gateway, its book, and the seconds since.
-fn load(bytes: &[u8], clock: &Clock) -> Result<(Gateway, Book, u64), String> {
-    let told = |why: &dyn std::fmt::Display| format!("the saved state: {}", why);
-    if bytes.len() < ngachodui::SAVED_SIZE {
-        return Err(told(&"too short"));
-    }
-    let (gateway, beside) = bytes.split_at(ngachodui::SAVED_SIZE);
-    let gateway = Gateway::load(gateway).map_err(|why| told(&why))?;
-    let beside: Beside = serde_json::from_slice(beside).map_err(|why| told(&why))?;
-    let book = beside.book.into_owned();
-    match book.agrees(&gateway) {
-        true => Ok((gateway, book, clock.seconds_since(&beside.at))),
-        false => Err(told(&"its book tells other messages than wait")),
-    }
-}
-
 #[cfg(test)]
-mod tests {
-    use super::*;
-    use crate::simulated::texts::{self, Size};
-    use crate::testing::Folder;
-    use std::fs;
-    use std::path::Path;
-    use tokio::sync::mpsc::{unbounded_channel, UnboundedReceiver};
-
-    const ENQ: &[u8] = b"\x05";
-    const FRAME: &[u8] = b"\x021H|\\^&\rL|1|N\r\x03B5\r\n";
-    const ACK: &[u8] = b"\x06";
-
-    /// A keeper with two lines of one laboratory, and what goes out on each.
-    struct Bench {
-        keeper: Keeper,
-        ports: Vec<UnboundedReceiver<Vec<u8>>>,
-    }
-
-    fn settings(folder: &Path, speaks: &str) -> Arc<Settings> {
-        let text = format!(
-            r#"
-            folder = "."
-            orders = {{ pause = 0, again = 0, tries = 2 }}
-            [[laboratory]]
-            name = "north"
-            token = "0123456789abcdef"
-            [[line]]
-            number = 0
-            laboratory = "north"
-            tcp = "a:1"
-            [[line]]
-            number = 1
-            laboratory = "north"
-            tcp = "a:2"
-            speaks = "{}"
-            "#,
-            speaks
-        );
-        let path = folder.join("settings.toml");
-        fs::create_dir_all(folder).expect("a folder");
-        fs::write(&path, text).expect("written");
-        Arc::new(Settings::read(&path).expect("right settings"))
-    }
-
-    fn quiet() -> Log {
-        Log::with(0).0
-    }
-
-    fn bench(folder: &Folder) -> Bench {
-        let settings = settings(&folder.path, "frames");
-        let mut keeper = Keeper::open(settings, quiet()).expect("a folder of its own");
-        let mut ports = Vec::new();
-        for line in [0, 1] {
-            let (outgoing, sent) = unbounded_channel();
-            keeper.connect(line, outgoing);
-            keeper.see_port(line, None);
-            ports.push(sent);
-        }
-        Bench { keeper, ports }
-    }
-
-    impl Bench {
-        /// Bytes come in on a line; what has gone out on it when they are settled.
-        fn hear(&mut self, line: u8, bytes: &[u8]) -> Vec<u8> {
-            let (done, mut settled) = oneshot::channel();
-            let bytes = bytes.to_vec();
-            let event = Event::Bytes { line, bytes, done };
-            self.keeper.take_in(event).expect("sound");
-            self.keeper.settle();
-            assert_eq!(settled.try_recv(), Ok(()));
-            self.sent(line)
-        }
-
-        fn sent(&mut self, line: u8) -> Vec<u8> {
-            let port = &mut self.ports[usize::from(line)];
-            let mut all = Vec::new();
-            while let Ok(bytes) = port.try_recv() {
-                all.extend(bytes);
-            }
-            all
-        }
-
-        fn ask(&mut self, request: Request) -> Reply {
-            let (reply, mut answered) = oneshot::channel();
-            let event = Event::Request { request, reply };
-            self.keeper.take_in(event).expect("sound");
-            self.keeper.settle();
-            answered.try_recv().expect("settled")
-        }
-
-        /// Its power is cut, and another begins with what the disk has.
-        fn again(self, folder: &Folder) -> Bench {
-            drop(self);
-            bench(folder)
-        }
-    }
-
-    /// What a station would load that is started now.
-    fn on_disk(folder: &Folder) -> Keeper {
-        let copy = Folder::new();
-        fs::copy(folder.path.join("state"), copy.path.join("state")).expect("saved");
-        let settings = settings(&copy.path, "frames");
-        Keeper::open_to_archive(settings, quiet()).expect("whole")
-    }
-
-    #[test]
-    fn what_leaves_is_on_the_disk() {
-        let folder = Folder::new();
-        let mut bench = bench(&folder);
-        assert_eq!(bench.hear(0, ENQ), ACK);
-        assert_eq!(on_disk(&folder).gateway.state(0), State::Waiting);
-        let (last, before) = FRAME.split_last().expect("bytes");
-        let saves = bench.keeper.saving.store.count();
-        assert_eq!(bench.hear(0, before), b"");
-        assert_eq!(bench.keeper.saving.store.count(), saves);
-        assert_eq!(bench.hear(0, &[*last]), ACK);
-        let saved = on_disk(&folder);
-        assert_eq!(
-            (saved.gateway.used(0), saved.book.waiting_count(0)),
-            (16, 1)
-        );
-        // A reader gets what the disk has, and what it has taken is gone there.
-        assert_eq!(
-            bench.ask(Request::Message(vec![0, 1])).body,
-            b"H|\\^&\rL|1|N\r"
-        );
-        let confirm = Request::Confirm { line: 0, serial: 0 };
-        assert_eq!(bench.ask(confirm).status, 200);
-        assert_eq!(on_disk(&folder).gateway.used(0), 0);
-    }
-
-    #[test]
-    fn nothing_leaves_while_saving_fails() {
-        let folder = Folder::new();
-        let mut bench = bench(&folder);
-        fs::remove_dir_all(&folder.path).expect("there");
-        assert_eq!(bench.hear(0, ENQ), b"");
-        assert_eq!(bench.hear(0, FRAME), b"");
-        assert_eq!(bench.ask(Request::Message(vec![0])).status, 503);
-        assert!(bench.keeper.saving.trouble.is_some());
-        // It works again: the analyzer repeats its frame, and only now hears that it is stored.
-        fs::create_dir_all(&folder.path).expect("made");
-        assert_eq!(bench.hear(0, FRAME), ACK);
-        assert_eq!(bench.keeper.saving.trouble, None);
-        assert_eq!(on_disk(&folder).book.waiting_count(0), 1);
-    }
-
-    #[test]
-    fn a_frame_resent_after_a_kill_is_a_repeat() {
-        let folder = Folder::new();
-        let mut bench = bench(&folder);
-        bench.hear(0, ENQ);
-        bench.hear(0, FRAME);
-        let mut bench = bench.again(&folder);
-        assert_eq!(bench.hear(0, FRAME), ACK);
-        assert_eq!(bench.keeper.book.waiting_count(0), 1);
-        assert_eq!(bench.keeper.book.stored_today(0), 1);
-    }
-
-    #[test]
-    fn the_seconds_in_between_are_told() {
-        let folder = Folder::new();
-        let mut bench = bench(&folder);
-        bench.hear(0, ENQ);
-        let mut bench = bench.again(&folder);
-        assert_eq!(bench.keeper.owed, 0);
-        bench.keeper.owed = 28;
-        bench.keeper.pass(1).expect("sound");
-        assert_eq!(bench.keeper.gateway.state(0), State::Waiting);
-        bench.keeper.pass(1).expect("sound");
-        assert_eq!(bench.keeper.gateway.state(0), State::Neutral);
-    }
-
-    #[test]
-    fn an_order_goes_out_and_is_kept() {
-        let folder = Folder::new();
-        let mut bench = bench(&folder);
-        let text = texts::order(0, 1);
-        let placed = bench.ask(Request::Place { line: 0, text });
-        assert_eq!(placed.status, 202);
-        // Its line is told its seconds; it asks, and the station is killed before the analyzer replies.
-        bench.keeper.pass(1).expect("sound");
-        assert_eq!(bench.sent(0), ENQ);
-        let mut bench = bench.again(&folder);
-        assert!(bench.keeper.orders.under_way(0).is_some());
-        let mut frames = 0;
-        while bench.hear(0, ACK) != b"\x04" {
-            frames += 1;
-        }
-        assert!(frames > 1);
-        let tally = bench.keeper.orders.tally(0);
-        assert_eq!((tally.waiting, tally.sent, tally.failed), (0, 1, 0));
-        let bench = bench.again(&folder);
-        assert_eq!(bench.keeper.orders.tally(0), tally);
-    }
-
-    #[test]
-    fn an_order_that_is_not_taken_fails_in_the_end() {
-        let folder = Folder::new();
-        let mut bench = bench(&folder);
-        let text = texts::order(1, 1);
-        bench.ask(Request::Place { line: 1, text });
-        for sending in 1..=2 {
-            bench.keeper.pass(1).expect("sound");
-            assert_eq!(bench.sent(1), ENQ, "sending {}", sending);
-            // The analyzer asks for itself: the sending is dropped.
-            assert_eq!(bench.hear(1, ENQ), b"");
-        }
-        bench.keeper.pass(1).expect("sound");
-        assert_eq!(bench.sent(1), b"");
-        assert_eq!(bench.keeper.orders.tally(1).failed, 1);
-    }
-
-    #[test]
-    fn what_a_line_speaks_changes_only_where_nothing_waits() {
-        let folder = Folder::new();
-        let mut bench = bench(&folder);
-        bench.hear(0, ENQ);
-        bench.hear(0, FRAME);
-        drop(bench);
-        let settings = settings(&folder.path, "strips-10");
-        let why = Keeper::open(settings.clone(), quiet()).err();
-        assert!(why.expect("one waits").contains("archive them first"));
-        let mut keeper = Keeper::open_to_archive(settings.clone(), quiet()).expect("whole");
-        assert_eq!(keeper.archive(), Ok(1));
-        keeper.finish().expect("saved");
-        let keeper = Keeper::open(settings, quiet()).expect("nothing waits");
-        assert_eq!(keeper.gateway.speaks(1), ngachodui::Speaks::Strips10);
-    }
-
-    #[test]
-    fn a_damaged_gateway_stops_the_station() {
-        let folder = Folder::new();
-        let mut bench = bench(&folder);
-        for answer in [Answer::WrongSize, Answer::BeyondLimits, Answer::Broken] {
-            let damaged = bench.keeper.act(1, 0, &answer).expect_err("damage");
-            assert!(damaged.to_string().starts_with("line 1: answer 4"));
-        }
-        bench.keeper.act(1, 0, &Answer::Busy).expect("no damage");
-    }
-
-    #[test]
-    fn serials_that_are_confirmed() {
-        let folder = Folder::new();
-        let mut bench = bench(&folder);
-        let text = texts::result(0, 7, 1, Size::Small);
-        for number in 0..3 {
-            let mut frames = [0; ngachodui::CUT_LIMIT];
-            let length = ngachodui::cut(&text, &mut frames).expect("a message");
-            bench.hear(0, ENQ);
-            bench.hear(0, &frames[..length]);
-            bench.hear(0, b"\x04");
-            assert_eq!(bench.keeper.book.waiting_count(0), number + 1);
-        }
-        let mut confirm = |serial| {
-            let reply = bench.ask(Request::Confirm { line: 0, serial });
-            (reply.status, String::from_utf8(reply.body).expect("JSON"))
-        };
-        assert_eq!(confirm(1).0, 409);
-        assert_eq!(confirm(3).0, 404);
-        assert_eq!(confirm(0), (200, "{\"taken\":true}\n".to_string()));
-        assert_eq!(confirm(0), (200, "{\"taken\":false}\n".to_string()));
-        assert_eq!((confirm(1).0, confirm(2).0), (200, 200));
-        assert_eq!(confirm(2), (200, "{\"taken\":false}\n".to_string()));
-        assert_eq!((confirm(3).0, confirm(65_535).0), (404, 200));
-    }
-}
+mod tests;

@@ -15,6 +15,7 @@ pub mod log;
 pub mod orders;
 pub mod ports;
 pub mod requests;
+pub mod saving;
 pub mod settings;
 pub mod simulated;
 pub mod store;

@@ -122,6 +122,7 @@ impl LineView {
         });
         let what = match answer {
             Answer::Faulty { fault, .. } => fault.to_string(),
+            Answer::NoRoom | Answer::Crowded => "no room".to_string(),
             answer => words(answer),
         };
         self.refused.push_front(Refused {

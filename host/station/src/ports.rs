@@ -161,7 +161,7 @@ async fn open(settings: &PortSettings, terminal: &mut Option<File>) -> io::Resul
             set_up(&device, Some(*mode))?;
             Ok(Port::Device(AsyncFd::new(device)?))
         }
-        PortSettings::Terminal { link } => {
+        PortSettings::Terminal { link, .. } => {
             if terminal.is_none() {
                 *terminal = Some(make_terminal(link)?);
             }

@@ -53,6 +53,8 @@ pub enum PortSettings {
     /// A pseudo-terminal of the station's, whose other end this path leads to.
     Terminal {
         link: PathBuf,
+        /// As the file has it.
+        name: PathBuf,
     },
     Tcp {
         address: String,
@@ -276,8 +278,9 @@ impl FileLine {
             (None, _, _) if is_set => {
                 Err("speed, parity and bits are those of a serial device".to_string())
             }
-            (None, Some(link), None) => Ok(PortSettings::Terminal {
-                link: folder.join(link),
+            (None, Some(name), None) => Ok(PortSettings::Terminal {
+                link: folder.join(name),
+                name: name.clone(),
             }),
             (None, None, Some(address)) => Ok(PortSettings::Tcp {
                 address: address.clone(),
@@ -348,7 +351,7 @@ impl PortSettings {
     fn place(&self) -> &Path {
         match self {
             PortSettings::Serial { device, .. } => device,
-            PortSettings::Terminal { link } => link,
+            PortSettings::Terminal { link, .. } => link,
             PortSettings::Tcp { address } => Path::new(address),
         }
     }
@@ -360,7 +363,7 @@ impl fmt::Display for PortSettings {
             PortSettings::Serial { device, mode } => {
                 write!(f, "serial {} {}", device.display(), mode)
             }
-            PortSettings::Terminal { link } => write!(f, "terminal {}", link.display()),
+            PortSettings::Terminal { name, .. } => write!(f, "terminal {}", name.display()),
             PortSettings::Tcp { address } => write!(f, "tcp {}", address),
         }
     }
@@ -429,11 +432,13 @@ mod tests {
         let settings = read(&text).expect("right");
         let told: Vec<String> = settings.lines.iter().map(|l| l.port.to_string()).collect();
         let expected = [
-            "terminal /etc/station/state/ports/line0",
+            "terminal ports/line0",
             "tcp server:4001",
             "serial /dev/ttyS1 19200 7E2",
         ];
         assert_eq!(told, expected);
+        let link = Path::new("/etc/station/state/ports/line0");
+        assert_eq!(settings.lines[0].port.place(), link);
         assert_eq!(settings.speaks()[0].speaks, Speaks::Strips13);
         assert_eq!(settings.speaks()[1].speaks, Speaks::Frames);
     }

@@ -68,7 +68,6 @@ pub fn advice(answer: &Answer) -> &'static str {
         Answer::BadText | Answer::BadNumber | Answer::NoCr => {
             "It comes again and again: look at the analyzer's settings."
         }
-        Answer::Refusing => "See the refusal before it.",
         Answer::OutOfTurn => "Once in a while it is noise.",
         Answer::TooLong => "Have the analyzer send smaller messages.",
         Answer::NoRoom => "Its messages must be taken: look at the laboratory's reader. The analyzer sends again.",
@@ -95,7 +94,8 @@ fn faulty(fault: Fault) -> &'static str {
     }
 }
 
-/// Whether an answer belongs on the board: the others only say that a transfer, a sending or a reader goes on.
+/// Whether an answer belongs on the board: the others only say that a transfer, a sending or a reader goes on, or that
+/// a transfer is still refused for what was told before.
 pub fn is_told(answer: &Answer) -> bool {
     !matches!(
         answer,
@@ -103,6 +103,7 @@ pub fn is_told(answer: &Answer) -> bool {
             | Answer::Opened
             | Answer::Accepted
             | Answer::Ended
+            | Answer::Refusing
             | Answer::Sending { .. }
             | Answer::Heard(_)
             | Answer::Noted

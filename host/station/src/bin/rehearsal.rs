@@ -28,6 +28,9 @@ const FAST_PACE: u32 = 3_840;
 const PATIENCE: Duration = Duration::from_secs(3);
 const PAUSE: Duration = Duration::from_secs(2);
 
+/// So many messages a laboratory takes when it comes by.
+const MOST_TAKEN: u32 = 5;
+
 /// So often it is told how far it is.
 const EVERY: Duration = Duration::from_secs(10);
 
@@ -280,7 +283,7 @@ struct Reader {
 }
 
 impl Reader {
-    /// Takes a message at a time, for ever.
+    /// Comes by for what waits, for ever: a slow one takes a message at a time, another some.
     fn read(mut self) {
         let mut order_due = Instant::now() + seconds(5);
         let mut number = 0;
@@ -294,8 +297,9 @@ impl Reader {
                 order_due = Instant::now() + seconds(12);
                 self.place(line, number);
             }
+            let most = if self.is_slow { 1 } else { MOST_TAKEN };
             // A station that is away is told once.
-            match self.take() {
+            match (0..most).try_for_each(|_| self.take()) {
                 Ok(()) => is_told = false,
                 Err(trouble) if !is_told => {
                     is_told = true;

@@ -16,25 +16,18 @@ fn analyzer(cable: Cable) -> Analyzer {
     }
 }
 
-/// Sends calibrations until one is refused, and then noise and calibrations as fast as it can.
+/// Sends calibrations until one is refused, and then ENQ after ENQ, as fast as it can, without listening to a reply.
 fn flood(cable: Cable, is_full: &AtomicBool, is_over: &AtomicBool) {
     let mut analyzer = analyzer(cable);
-    let mut number = 0;
+    for number in 0.. {
+        let calibration = result(0, number, 0, Size::Calibration);
+        if analyzer.transfer(&[calibration]) == [Fate::Refused] {
+            break;
+        }
+    }
+    is_full.store(true, Ordering::SeqCst);
     while !is_over.load(Ordering::SeqCst) {
-        let size = Size::by_number(if is_full.load(Ordering::SeqCst) {
-            0
-        } else {
-            15
-        });
-        let fates = analyzer.transfer(&[result(0, number, 0, size)]);
-        number += 1;
-        if fates == [Fate::Refused] && size == Size::Calibration {
-            is_full.store(true, Ordering::SeqCst);
-        }
-        if is_full.load(Ordering::SeqCst) {
-            analyzer.cable.send(&[0x05; 4_096]);
-            analyzer.cable.send(&[0x04]);
-        }
+        analyzer.cable.send(&[0x05; 4_096]);
     }
 }
 
@@ -66,8 +59,9 @@ fn the_others_keep_their_share() {
         is_over.store(true, Ordering::SeqCst);
         slowest
     });
-    // Each of the seven waited for no more than its own frames' saves.
-    assert!(slowest < Duration::from_secs(10), "{:?}", slowest);
+    // Each of the seven waited for its own frames' saves, and not for the flood.
+    assert!(slowest < Duration::from_secs(5), "{:?}", slowest);
+    println!("the others took {:?} at most", slowest);
     let board = station.next_board();
     assert!(board["lines"][0]["used"].as_u64() > Some(2_048));
     let refused = board["lines"][0]["refused"][0]["number"].clone();
