@@ -19,6 +19,7 @@ pub struct Board {
     saved: Saved,
     journal: Journal,
     archive: Archive,
+    orders: Orders,
     lines: Vec<Line>,
 }
 
@@ -43,6 +44,12 @@ struct Archive {
     daily: Option<String>,
     last: Option<String>,
     messages: usize,
+}
+
+/// Why what became of orders is not kept.
+#[derive(Serialize)]
+struct Orders {
+    trouble: Option<String>,
 }
 
 #[derive(Serialize)]
@@ -107,6 +114,9 @@ impl Board {
                 last: archived.map(|(at, _)| written(at)),
                 messages: archived.map_or(0, |(_, count)| count),
             },
+            orders: Orders {
+                trouble: keeper.orders_trouble.clone(),
+            },
             lines: keeper
                 .settings
                 .lines
@@ -125,7 +135,7 @@ impl Board {
     }
 
     fn put_whole(&self, out: &mut String) {
-        let whole: [(&str, &str, f64); 5] = [
+        let whole: [(&str, &str, f64); 6] = [
             ("journal_used_bytes", "gauge", self.journal.used.into()),
             (
                 "journal_claimed_bytes",
@@ -135,6 +145,11 @@ impl Board {
             ("saves_total", "counter", self.saved.count as f64),
             ("save_milliseconds", "gauge", self.saved.milliseconds),
             ("save_trouble", "gauge", flag(self.saved.trouble.is_some())),
+            (
+                "orders_trouble",
+                "gauge",
+                flag(self.orders.trouble.is_some()),
+            ),
         ];
         for (name, kind, value) in whole {
             let _ = writeln!(

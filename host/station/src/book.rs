@@ -34,8 +34,9 @@ pub struct Entry {
 
 #[derive(Clone, Debug, PartialEq, Serialize, Deserialize)]
 pub struct Book {
-    /// The messages that wait on each line, oldest first.
+    /// The messages that wait on each line, oldest first, and the laboratory that they belong to.
     waiting: [VecDeque<Entry>; LINES],
+    laboratories: [String; LINES],
     /// How many messages were stored, in all and on each line today.
     stored: u64,
     today: NaiveDay,
@@ -56,6 +57,7 @@ impl Default for Book {
     fn default() -> Book {
         Book {
             waiting: Default::default(),
+            laboratories: Default::default(),
             stored: 0,
             today: day(local(now()).date_naive()),
             stored_today: [0; LINES],
@@ -110,6 +112,16 @@ impl Book {
         let first = |line: u8| self.waiting(line).next().map(|entry| (entry.place, line));
         let oldest = lines.iter().filter_map(|line| first(*line)).min();
         oldest.map(|(_, line)| line)
+    }
+
+    /// Whose the messages of a line are; nobody's where it was never in use.
+    pub fn laboratory(&self, line: u8) -> &str {
+        &self.laboratories[usize::from(line)]
+    }
+
+    /// A line is this laboratory's from now on.
+    pub fn hand_over(&mut self, line: u8, laboratory: &str) {
+        self.laboratories[usize::from(line)] = laboratory.to_string();
     }
 
     pub fn stored_today(&self, line: u8) -> u32 {

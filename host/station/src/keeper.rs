@@ -88,6 +88,8 @@ pub struct Keeper {
     pub(crate) orders: Orders,
     pub(crate) lines: Vec<LineView>,
     pub(crate) saving: Saving,
+    /// Why what became of orders is not kept.
+    pub(crate) orders_trouble: Option<String>,
     pub(crate) started: i64,
     leaving: Leaving,
     ports: Vec<Option<UnboundedSender<Vec<u8>>>>,
@@ -102,10 +104,11 @@ impl Keeper {
     pub fn open(settings: Arc<Settings>, log: Log) -> Result<Keeper, String> {
         let mut keeper = Keeper::open_to_archive(settings, log)?;
         keeper.set_speaking()?;
+        keeper.hand_lines_over()?;
         Ok(keeper)
     }
 
-    /// The same, whatever the lines spoke when it was saved: for taking and no more.
+    /// The same, whatever the lines spoke and whose they were when it was saved: for archiving and no more.
     pub fn open_to_archive(settings: Arc<Settings>, log: Log) -> Result<Keeper, String> {
         let (saving, loaded) = Saving::open(&settings.folder)?;
         let (gateway, book, owed) = match loaded {
@@ -123,6 +126,7 @@ impl Keeper {
             orders,
             lines: (0..LINES).map(|_| LineView::new()).collect(),
             saving,
+            orders_trouble: None,
             started: now(),
             leaving: Leaving::default(),
             ports: (0..LINES).map(|_| None).collect(),
@@ -154,6 +158,33 @@ impl Keeper {
                 Ok(())
             }
         }
+    }
+
+    /// A line may go to another laboratory only where nothing of the last one waits: it is not the new one's to see.
+    fn hand_lines_over(&mut self) -> Result<(), String> {
+        for line in 0..LINES as u8 {
+            let set = self.settings.lines.iter().find(|set| set.number == line);
+            let wanted = set.map_or("", |set| &self.settings.laboratories[set.laboratory].name);
+            let before = self.book.laboratory(line);
+            if wanted == before {
+                continue;
+            }
+            if self.book.waiting_count(line) > 0 {
+                return Err(format!(
+                    "line {} was of {:?}, whose messages wait: archive them first (station archive SETTINGS)",
+                    line, before
+                ));
+            }
+            let is_free = self.orders.hand_over(line);
+            if !is_free.map_err(|error| format!("orders: {}", error))? {
+                return Err(format!(
+                    "line {} was of {:?}, whose orders wait: have them taken back first",
+                    line, before
+                ));
+            }
+            self.book.hand_over(line, wanted);
+        }
+        Ok(())
     }
 
     /// Saves, for who runs no rounds.
@@ -202,6 +233,7 @@ impl Keeper {
                 self.publish();
             }
             if !goes_on {
+                self.save_orders();
                 self.save();
                 return Ok(());
             }
@@ -267,7 +299,8 @@ impl Keeper {
         self.archive_when_due();
         self.start_orders()?;
         // What nobody waits for is saved within a second even so.
-        if !self.is_saved() {
+        self.save_orders();
+        if !self.saving.is_saved {
             self.save();
         }
         self.settle();
@@ -304,6 +337,7 @@ impl Keeper {
                 let acknowledged = *answer == Answer::SendingEnded { acknowledged: true };
                 let at = Instant::now();
                 let order = self.orders.ended(line, acknowledged, &words(answer), at);
+                self.save_orders();
                 more = order.map_or(String::new(), |number| format!(", order {}", number));
             }
             _ => {}
@@ -346,7 +380,12 @@ impl Keeper {
                 && self.lines[usize::from(line)].is_quiet(at, self.settings.orders.pause);
             let due = is_free.then(|| self.orders.due(line, at)).flatten();
             if let Some((number, text)) = due {
-                self.orders.started(number);
+                if let Err(error) = self.orders.started(number) {
+                    self.orders.rest(number, at);
+                    self.log
+                        .say(format_args!("order {} not begun: {}", number, error));
+                    continue;
+                }
                 let answer = self.gateway.send(line, &text);
                 self.saving.is_saved = false;
                 self.lines[usize::from(line)].stir();
@@ -365,21 +404,15 @@ impl Keeper {
         }
     }
 
-    pub(crate) fn is_saved(&self) -> bool {
-        self.saving.is_saved && self.orders.is_saved()
-    }
-
     /// What is in memory is not what the disk has.
     pub(crate) fn has_changed(&mut self) {
         self.saving.is_saved = false;
     }
 
-    /// Saves all. An order goes first: it may say that it is being sent while its line does not send yet, and
-    /// then it waits again; but no line may send an order that says it waits.
-    pub(crate) fn save(&mut self) {
+    /// Saves the gateway and its book.
+    fn save(&mut self) {
         let began = Instant::now();
-        let saved = self.orders.save();
-        let saved = saved.and_then(|()| self.saving.save(&self.gateway, &self.book));
+        let saved = self.saving.save(&self.gateway, &self.book);
         if self.saving.note(&saved, began.elapsed()) {
             self.log.say(match saved {
                 Err(why) => format!("saving fails: {}; nothing is acknowledged", why),
@@ -388,14 +421,26 @@ impl Keeper {
         }
     }
 
+    /// Keeps what became of orders. Where that fails they may be sent again, and nothing else waits for it.
+    fn save_orders(&mut self) {
+        let trouble = self.orders.save().err().map(|error| error.to_string());
+        if trouble != self.orders_trouble {
+            self.log.say(match &trouble {
+                Some(why) => format!("orders are not kept: {}", why),
+                None => "orders are kept again".to_string(),
+            });
+        }
+        self.orders_trouble = trouble;
+    }
+
     /// Lets go what is to leave, once the disk has what it comes from.
     fn settle(&mut self) {
         let leaving = std::mem::take(&mut self.leaving);
         let leaves = !leaving.bytes.is_empty() || !leaving.replies.is_empty();
-        if leaves && !self.is_saved() {
+        if leaves && !self.saving.is_saved {
             self.save();
         }
-        let may_leave = self.is_saved();
+        let may_leave = self.saving.is_saved;
         for (line, bytes) in leaving.bytes {
             if let (true, Some(port)) = (may_leave, &self.ports[usize::from(line)]) {
                 // A port that is gone takes nothing: what is sent to it is lost, as on a cable.

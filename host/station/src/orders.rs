@@ -143,10 +143,12 @@ impl Orders {
                 orders.orders.insert(number, order);
             }
         }
+        let is_stopped =
+            |order: &&Order| order.state == Stage::Sending && !state(order.line).is_sending();
         let stopped: Vec<u64> = orders
             .orders
             .values()
-            .filter(|order| order.state == Stage::Sending && !state(order.line).is_sending())
+            .filter(is_stopped)
             .map(|order| order.order)
             .collect();
         for number in stopped {
@@ -163,8 +165,8 @@ impl Orders {
         self.folder.join(number.to_string())
     }
 
-    /// A text that is a message is to be sent on a line.
-    pub fn place(&mut self, line: u8, text: &[u8]) -> u64 {
+    /// A text that is a message is to be sent on a line. It is kept when this returns.
+    pub fn place(&mut self, line: u8, text: &[u8]) -> io::Result<u64> {
         let number = self.orders.keys().last().map_or(1, |last| last + 1);
         let at = now();
         let order = Order {
@@ -178,18 +180,20 @@ impl Orders {
             text: text.to_vec(),
             rests_until: None,
         };
+        write_whole(&self.path(number), &order.file())?;
         self.orders.insert(number, order);
-        self.unsaved.insert(number);
-        number
+        Ok(number)
     }
 
     /// Takes a waiting order back. False: it does not wait.
-    pub fn cancel(&mut self, number: u64) -> bool {
+    pub fn cancel(&mut self, number: u64) -> io::Result<bool> {
         let waits = self.orders.get(&number).map(|order| order.state) == Some(Stage::Waiting);
         if waits {
-            self.change(number, Stage::Cancelled, "taken back before it was sent");
+            self.change_kept(number, |order| {
+                order.turn(Stage::Cancelled, "taken back before it was sent")
+            })?;
         }
-        waits
+        Ok(waits)
     }
 
     pub fn get(&self, number: u64) -> Option<&Order> {
@@ -237,30 +241,44 @@ impl Orders {
             .map(|order| (order.order, order.text.clone()))
     }
 
-    /// An order goes out.
-    pub fn started(&mut self, number: u64) {
-        self.change(number, Stage::Sending, "goes out");
-        if let Some(order) = self.orders.get_mut(&number) {
+    /// An order goes out: that is kept before its line sends, so that a line never sends one that is told to wait.
+    pub fn started(&mut self, number: u64) -> io::Result<()> {
+        self.change_kept(number, |order| {
+            order.turn(Stage::Sending, "goes out");
             order.tries += 1;
-        }
+        })
     }
 
     /// The sending on a line is over.
     pub fn ended(&mut self, line: u8, acknowledged: bool, words: &str, at: Instant) -> Option<u64> {
         let (number, tries) = self.sending(line).map(|order| (order.order, order.tries))?;
-        if acknowledged {
-            self.change(number, Stage::Sent, words);
-        } else if tries >= self.settings.tries {
-            self.change(number, Stage::Failed, words);
-        } else {
-            self.change(number, Stage::Waiting, words);
-            if let Some(order) = self.orders.get_mut(&number) {
-                order.rests_until = Some(at + self.settings.again);
-            }
-        }
+        let stage = match acknowledged {
+            true => Stage::Sent,
+            false if tries >= self.settings.tries => Stage::Failed,
+            false => Stage::Waiting,
+        };
+        self.change(number, stage, words);
+        self.rest(number, at);
         Some(number)
     }
 
+    /// An order is not tried again before its time.
+    pub fn rest(&mut self, number: u64, at: Instant) {
+        if let Some(order) = self.orders.get_mut(&number) {
+            order.rests_until = Some(at + self.settings.again);
+        }
+    }
+
+    /// Changes an order and keeps that, or does neither.
+    fn change_kept(&mut self, number: u64, change: impl FnOnce(&mut Order)) -> io::Result<()> {
+        let mut changed = self.orders[&number].clone();
+        change(&mut changed);
+        write_whole(&self.path(number), &changed.file())?;
+        self.orders.insert(number, changed);
+        Ok(())
+    }
+
+    /// Changes an order; [`Orders::save`] keeps that. What happened, happened, whether the disk takes it or not.
     fn change(&mut self, number: u64, state: Stage, words: &str) {
         if let Some(order) = self.orders.get_mut(&number) {
             order.turn(state, words);
@@ -268,35 +286,41 @@ impl Orders {
         }
     }
 
-    pub fn is_saved(&self) -> bool {
-        self.unsaved.is_empty()
-    }
-
-    /// Writes what has changed, and returns when the disk has it.
+    /// Keeps what has changed, and forgets what has been over for long. What fails is tried again the next time.
     pub fn save(&mut self) -> io::Result<()> {
         while let Some(number) = self.unsaved.iter().next().copied() {
             write_whole(&self.path(number), &self.orders[&number].file())?;
             self.unsaved.remove(&number);
         }
-        self.forget()
+        let over: Vec<u64> = self.over().collect();
+        self.forget(&over[..over.len().saturating_sub(MOST_OVER)])
     }
 
-    /// Forgets the oldest of those that are over.
-    fn forget(&mut self) -> io::Result<()> {
-        let over: Vec<u64> = self
-            .orders
-            .values()
-            .filter(|order| order.state.is_over())
-            .map(|order| order.order)
-            .collect();
-        let surplus = over.len().saturating_sub(MOST_OVER);
-        for number in &over[..surplus] {
+    fn over(&self) -> impl Iterator<Item = u64> + '_ {
+        let over = self.orders.values().filter(|order| order.state.is_over());
+        over.map(|order| order.order)
+    }
+
+    /// Another laboratory gets the line: it is not to see the orders of the last. False: some are not over.
+    pub fn hand_over(&mut self, line: u8) -> io::Result<bool> {
+        let all: Vec<u64> = self.of_lines(&[line]).map(|order| order.order).collect();
+        let is_over = |number: &u64| self.orders[number].state.is_over();
+        if !all.iter().all(is_over) {
+            return Ok(false);
+        }
+        self.forget(&all)?;
+        Ok(true)
+    }
+
+    fn forget(&mut self, numbers: &[u64]) -> io::Result<()> {
+        for number in numbers {
             fs::remove_file(self.path(*number))?;
             self.orders.remove(number);
+            self.unsaved.remove(number);
         }
-        if surplus > 0 {
-            sync_folder(&self.folder)?;
+        match numbers {
+            [] => Ok(()),
+            _ => sync_folder(&self.folder),
         }
-        Ok(())
     }
 }

@@ -5,8 +5,9 @@ use crate::book::{local, now};
 use crate::keeper::{name_of, Damaged, Keeper};
 use crate::orders::MOST_WAITING;
 use crate::settings::Settings;
-use ngachodui::{Answer, Refusal, Speaks, TEXT_LIMIT};
+use ngachodui::{Answer, Refusal, Speaks, LINES, TEXT_LIMIT};
 use serde_json::{json, Value};
+use std::io;
 
 /// A request that the keeper answers. Lines are those of the laboratory that asks.
 pub enum Request {
@@ -191,11 +192,15 @@ impl Keeper {
         if let Err(refusal) = ngachodui::read(text) {
             return not_a_message(&refusal);
         }
-        let order = self.orders.place(line, text);
         let name = name_of(&self.settings, line);
-        self.log
-            .say(format_args!("{}: order {} placed", name, order));
-        Reply::json(202, json!({ "order": order }))
+        match self.orders.place(line, text) {
+            Ok(order) => {
+                self.log
+                    .say(format_args!("{}: order {} placed", name, order));
+                Reply::json(202, json!({ "order": order }))
+            }
+            Err(error) => self.not_kept(&error),
+        }
     }
 
     fn cancel(&mut self, lines: &[u8], number: u64) -> Reply {
@@ -204,22 +209,37 @@ impl Keeper {
             _ => return no_order(),
         }
         match self.orders.cancel(number) {
-            true => Reply::json(200, json!({ "cancelled": true })),
-            false => Reply::error(409, "it does not wait any more"),
+            Ok(true) => Reply::json(200, json!({ "cancelled": true })),
+            Ok(false) => Reply::error(409, "it does not wait any more"),
+            Err(error) => self.not_kept(&error),
         }
+    }
+
+    fn not_kept(&self, error: &io::Error) -> Reply {
+        self.log
+            .say(format_args!("an order is not kept: {}", error));
+        Reply::error(
+            507,
+            "the order cannot be kept, and so nothing is done with it",
+        )
     }
 
     /// Writes every waiting message to the archive, and takes it when the disk has it.
     pub fn archive(&mut self) -> Result<usize, String> {
         let mut messages = Vec::new();
-        for set in &self.settings.lines {
-            let laboratory = &self.settings.laboratories[set.laboratory].name;
-            let entries = self.book.waiting(set.number);
-            for (entry, (serial, text)) in entries.zip(self.gateway.waiting(set.number)) {
-                messages.push((
-                    entry.place,
-                    archived(laboratory, set.number, serial, entry.stored, text),
-                ));
+        // Also what waits on a line that the settings do not name any more.
+        for line in 0..LINES as u8 {
+            let entries = self.book.waiting(line);
+            for (entry, (serial, text)) in entries.zip(self.gateway.waiting(line)) {
+                let laboratory = self.book.laboratory(line).to_string();
+                let message = Archived {
+                    laboratory,
+                    line,
+                    serial,
+                    stored: entry.stored,
+                    text,
+                };
+                messages.push((entry.place, message));
             }
         }
         messages.sort_by_key(|(place, _)| *place);
@@ -248,16 +268,6 @@ impl Keeper {
 
 /// So many serials behind the oldest are known as taken before.
 const MOST_BEHIND: u16 = 0x7FFF;
-
-fn archived(laboratory: &str, line: u8, serial: u16, stored: i64, text: Vec<u8>) -> Archived {
-    Archived {
-        laboratory: laboratory.to_string(),
-        line,
-        serial,
-        stored,
-        text,
-    }
-}
 
 fn no_order() -> Reply {
     Reply::error(404, "no such order")

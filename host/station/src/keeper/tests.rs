@@ -18,6 +18,11 @@ struct Bench {
 }
 
 fn settings(folder: &Path, speaks: &str) -> Arc<Settings> {
+    settings_of(folder, speaks, "north")
+}
+
+/// Line 1 is of this laboratory.
+fn settings_of(folder: &Path, speaks: &str, laboratory: &str) -> Arc<Settings> {
     let text = format!(
         r#"
         folder = "."
@@ -25,17 +30,20 @@ fn settings(folder: &Path, speaks: &str) -> Arc<Settings> {
         [[laboratory]]
         name = "north"
         token = "0123456789abcdef"
+        [[laboratory]]
+        name = "south"
+        token = "0123456789abcdeF"
         [[line]]
         number = 0
         laboratory = "north"
         tcp = "a:1"
         [[line]]
         number = 1
-        laboratory = "north"
+        laboratory = "{}"
         tcp = "a:2"
         speaks = "{}"
         "#,
-        speaks
+        laboratory, speaks
     );
     let path = folder.join("settings.toml");
     fs::create_dir_all(folder).expect("a folder");
@@ -313,4 +321,70 @@ fn when_the_archive_comes_next() {
         assert!(due > at && due <= at + chrono::Duration::hours(25));
         assert_eq!(due.time(), time);
     }
+}
+
+#[test]
+fn a_line_changes_hands_only_where_nothing_waits() {
+    let folder = Folder::new();
+    let mut first = bench(&folder);
+    first.hear(1, ENQ);
+    first.hear(1, FRAME);
+    drop(first);
+    let other = || settings_of(&folder.path, "frames", "south");
+    let refused = |what: &str| {
+        let why = Keeper::open(other(), quiet()).err().expect(what);
+        assert!(why.contains("line 1 was of \"north\""), "{}", why);
+        assert!(why.contains(what), "{}", why);
+    };
+    refused("messages wait");
+    // Archived with the new settings, it still goes to the old laboratory's file.
+    let mut keeper = Keeper::open_to_archive(other(), quiet()).expect("whole");
+    assert_eq!(keeper.archive(), Ok(1));
+    keeper.finish().expect("saved");
+    assert!(folder.path.join("archive/north").is_dir());
+    assert!(!folder.path.join("archive/south").exists());
+
+    let mut second = bench(&folder);
+    let text = texts::order(1, 1);
+    let placed = second.ask(Request::Place { line: 1, text });
+    assert_eq!(placed.status, 202);
+    drop(second);
+    refused("orders wait");
+    let mut third = bench(&folder);
+    let (lines, number) = (vec![0, 1], 1);
+    assert_eq!(third.ask(Request::Cancel { lines, number }).status, 200);
+    drop(third);
+    // What was north's is not south's to see.
+    let keeper = Keeper::open(other(), quiet()).expect("nothing waits");
+    assert_eq!(keeper.orders.of_lines(&[1]).count(), 0);
+}
+
+#[test]
+fn an_order_that_cannot_be_kept_is_not_sent_and_holds_nobody_up() {
+    let folder = Folder::new();
+    let mut bench = bench(&folder);
+    assert_eq!(bench.hear(0, ENQ), ACK);
+    let place = |bench: &mut Bench| {
+        let text = texts::order(1, 1);
+        bench.ask(Request::Place { line: 1, text }).status
+    };
+    assert_eq!(place(&mut bench), 202);
+    fs::remove_dir_all(folder.path.join("orders")).expect("there");
+    assert_eq!(place(&mut bench), 507);
+    bench.keeper.pass(1).expect("sound");
+    assert_eq!(bench.sent(1), b"");
+    assert_eq!(bench.keeper.gateway.state(1), State::Neutral);
+    assert_eq!(bench.hear(0, FRAME), ACK);
+    // It can be kept again, and goes out.
+    fs::create_dir_all(folder.path.join("orders")).expect("made");
+    bench.keeper.pass(1).expect("sound");
+    assert_eq!(bench.sent(1), ENQ);
+    // Once more not: the sending is over even so, and that is kept later.
+    fs::remove_dir_all(folder.path.join("orders")).expect("there");
+    assert_eq!(bench.hear(1, ENQ), b"");
+    assert!(bench.keeper.orders_trouble.is_some());
+    assert_eq!(bench.hear(0, FRAME), ACK);
+    fs::create_dir_all(folder.path.join("orders")).expect("made");
+    bench.keeper.pass(1).expect("sound");
+    assert_eq!(bench.keeper.orders_trouble, None);
 }

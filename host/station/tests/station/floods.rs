@@ -1,6 +1,6 @@
 //! A line that floods, and whose reader takes nothing, leaves the others their share and their time.
 
-use crate::harness::{tcp, Station};
+use crate::harness::{tcp, until, Sets, Station};
 use ngachodui_station::simulated::analyzer::{Analyzer, Fate};
 use ngachodui_station::simulated::cable::Cable;
 use ngachodui_station::simulated::texts::{result, Size};
@@ -45,8 +45,9 @@ fn the_others_keep_their_share() {
     let mut cables = cables.into_iter();
     let flooding = cables.next().expect("eight");
     let slowest = thread::scope(|scope| {
+        let _ends = Sets(&is_over);
         scope.spawn(|| flood(flooding, &is_full, &is_over));
-        crate::harness::until("the flood is refused", || is_full.load(Ordering::SeqCst));
+        until("the flood is refused", || is_full.load(Ordering::SeqCst));
         // Each fills its share: so many messages of so many bytes, four more for each.
         let others: Vec<_> = cables
             .zip(1..)
@@ -55,9 +56,7 @@ fn the_others_keep_their_share() {
         let times = others
             .into_iter()
             .map(|other| other.join().expect("not refused"));
-        let slowest = times.max().expect("seven");
-        is_over.store(true, Ordering::SeqCst);
-        slowest
+        times.max().expect("seven")
     });
     // Each of the seven waited for its own frames' saves, and not for the flood.
     assert!(slowest < Duration::from_secs(5), "{:?}", slowest);

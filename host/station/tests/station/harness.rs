@@ -8,6 +8,7 @@ use std::fs::{self, File};
 use std::net::{SocketAddr, TcpListener};
 use std::path::PathBuf;
 use std::process::{Child, Command, Stdio};
+use std::sync::atomic::{AtomicBool, Ordering};
 use std::thread::sleep;
 use std::time::{Duration, Instant};
 
@@ -197,6 +198,15 @@ fn tail(log: &str) -> String {
 
 pub fn token(laboratory: &str) -> String {
     format!("token-of-the-reader-of-{}", laboratory)
+}
+
+/// Sets a flag when it goes, also where a test fails: what waits for the flag ends then, and the failure is told.
+pub struct Sets<'a>(pub &'a AtomicBool);
+
+impl Drop for Sets<'_> {
+    fn drop(&mut self) {
+        self.0.store(true, Ordering::SeqCst);
+    }
 }
 
 /// Waits until something is so.

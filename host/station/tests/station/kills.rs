@@ -1,7 +1,7 @@
 //! Fifty kills at random moments, under eight devices: nothing that was acknowledged is lost, nothing is stored that
 //! was not sent, and within a transfer nothing is stored twice.
 
-use crate::harness::{line, serial, tcp, until, Station};
+use crate::harness::{line, serial, tcp, until, Sets, Station};
 use ngachodui_station::client::Client;
 use ngachodui_station::simulated::analyzer::{Analyzer, Fate};
 use ngachodui_station::simulated::cable::Cable;
@@ -120,140 +120,162 @@ fn check_line(line: u8, sent: &Sent, taken: &[&Vec<u8>]) {
     );
 }
 
-#[test]
-fn fifty_kills() {
+/// The devices' ends of the eight lines.
+struct Ends {
+    analyzers: Vec<Cable>,
+    takes_orders: Cable,
+    strips: Cable,
+}
+
+/// A station with ports of every kind, and what is connected to them.
+fn station() -> (Station, Ends) {
     let (line0, cable0) = serial("north");
     let (line1, cable1) = tcp("north");
     let (line2, cable2) = serial("south");
     let line3 = line("south", "terminal = \"ports/line3\"".to_string());
     let line4 = line("east", "terminal = \"ports/line4\"".to_string());
     let (line5, cable5) = tcp("east");
-    let (line6, cable6) = tcp("west");
-    let (line7, cable7) = tcp("west");
+    let (line6, takes_orders) = tcp("west");
+    let (line7, strips) = tcp("west");
     let line7 = line7.speaking("strips-10");
     let lines = [line0, line1, line2, line3, line4, line5, line6, line7];
     let orders = "orders = { pause = 0, again = 0, tries = 1000 }";
-    let mut station = Station::with(orders, &lines);
+    let station = Station::with(orders, &lines);
     let made = |name: &str| Cable::terminal(station.folder.path.join("state/ports").join(name));
-    let cables = [cable0, cable1, cable2, made("line3"), made("line4"), cable5];
+    let analyzers = vec![cable0, cable1, cable2, made("line3"), made("line4"), cable5];
+    let ends = Ends {
+        analyzers,
+        takes_orders,
+        strips,
+    };
+    (station, ends)
+}
 
-    let (is_over, readers_are_over) = (AtomicBool::new(false), AtomicBool::new(false));
-    let places = AtomicBool::new(true);
-    let names = ["north", "south", "east", "west"];
-    let readers = names.map(|name| station.reader(name));
+/// When devices, readers and the desk are to end.
+#[derive(Default)]
+struct Over {
+    devices: AtomicBool,
+    readers: AtomicBool,
+    desk: AtomicBool,
+}
+
+/// What has come of it.
+struct Outcome {
+    sent: Vec<Sent>,
+    findings: u32,
+    placed: u32,
+    /// The orders that have arrived.
+    orders: Vec<Vec<u8>>,
+    taken: Vec<(u8, u16, Vec<u8>)>,
+}
+
+/// Sends results, and listens for orders in between; what was sent, and which orders have arrived.
+fn take_orders(cable: Cable, is_over: &AtomicBool) -> (Sent, Vec<Vec<u8>>) {
+    let mut taker = OrderTaker::new(analyzer(cable));
+    let mut orders = Vec::new();
+    let sent = send(6, is_over, |texts| {
+        let fates = taker.transfer(texts);
+        taker.run(Instant::now() + Duration::from_millis(300));
+        orders.extend(taker.arrived());
+        fates
+    });
+    (sent, orders)
+}
+
+/// Places orders until it is over; how many there are.
+fn place_all(desk: &Client, is_over: &AtomicBool) -> u32 {
+    let mut number = 0;
+    while !is_over.load(Ordering::SeqCst) {
+        number += place(desk, number);
+        thread::sleep(Duration::from_millis(1_500));
+    }
+    number
+}
+
+/// Everybody at once, and kills.
+fn run(station: &mut Station, ends: Ends) -> Outcome {
+    let over = &Over::default();
+    let readers = ["north", "south", "east", "west"].map(|name| station.reader(name));
     let desk = station.reader("west");
-    let (sent, findings, taken, placed, orders) = thread::scope(|scope| {
-        let taking: Vec<_> = readers
-            .into_iter()
-            .map(|reader| {
-                let over = &readers_are_over;
-                scope.spawn(move || take(&reader, over))
-            })
-            .collect();
-        let over = &is_over;
-        let mut devices: Vec<_> = cables
-            .into_iter()
-            .zip(0..)
-            .map(|(cable, line)| {
-                scope.spawn(move || {
-                    let mut analyzer = analyzer(cable);
-                    (
-                        send(line, over, |texts| analyzer.transfer(texts)),
-                        Vec::new(),
-                    )
-                })
-            })
-            .collect();
-        // The analyzer that takes orders: between its transfers it listens.
-        devices.push(scope.spawn(move || {
-            let mut taker = OrderTaker::new(analyzer(cable6));
-            let mut orders = Vec::new();
-            let sent = send(6, over, |texts| {
-                let fates = taker.transfer(texts);
-                taker.run(Instant::now() + Duration::from_millis(300));
-                orders.extend(taker.arrived());
-                fates
-            });
-            (sent, orders)
-        }));
-        let findings = scope.spawn(move || press(cable7, over));
-        let places = &places;
-        let placing = scope.spawn(move || {
-            let mut number = 0;
-            while places.load(Ordering::SeqCst) {
-                number += place(&desk, number);
-                thread::sleep(Duration::from_millis(1_500));
-            }
-            number
-        });
-
-        let mut chance = Chance::seeded(u64::from(std::process::id()));
-        for _ in 0..KILLS {
-            let least = Duration::from_millis(50);
-            thread::sleep(chance.between(least, Duration::from_millis(700)));
-            station.kill();
-            station.start();
+    thread::scope(|scope| {
+        let _ends = [&over.devices, &over.readers, &over.desk].map(Sets);
+        let readers = readers.map(|reader| scope.spawn(move || take(&reader, &over.readers)));
+        let mut devices = Vec::new();
+        for (cable, line) in ends.analyzers.into_iter().zip(0..) {
+            devices.push(scope.spawn(move || {
+                let mut analyzer = analyzer(cable);
+                send(line, &over.devices, |texts| analyzer.transfer(texts))
+            }));
         }
-        places.store(false, Ordering::SeqCst);
-        let placed = placing.join().expect("placed");
+        let taker = scope.spawn(move || take_orders(ends.takes_orders, &over.devices));
+        let strips = scope.spawn(move || press(ends.strips, &over.devices));
+        let desk = scope.spawn(move || place_all(&desk, &over.desk));
+
+        kill_often(station);
+        over.desk.store(true, Ordering::SeqCst);
+        let placed = desk.join().expect("placed");
         until("every order has gone down", || {
             let all = station.reader("west").orders().unwrap_or_default();
             all.len() >= placed as usize && all.iter().all(|order| order.state == "sent")
         });
-        is_over.store(true, Ordering::SeqCst);
-        let sent: Vec<_> = devices
+        over.devices.store(true, Ordering::SeqCst);
+        let sent = devices
             .into_iter()
-            .map(|device| device.join().expect("sent"))
-            .collect();
-        let findings = findings.join().expect("sent");
-        readers_are_over.store(true, Ordering::SeqCst);
-        let taken: Vec<_> = taking
-            .into_iter()
-            .flat_map(|t| t.join().expect("taken"))
-            .collect();
-        let orders = sent[6].1.clone();
-        (sent, findings, taken, placed, orders)
-    });
+            .map(|device| device.join().expect("sent"));
+        let mut sent: Vec<Sent> = sent.collect();
+        let (last, orders) = taker.join().expect("sent");
+        sent.push(last);
+        let findings = strips.join().expect("sent");
+        over.readers.store(true, Ordering::SeqCst);
+        let taken = readers.map(|reader| reader.join().expect("taken"));
+        Outcome {
+            sent,
+            findings,
+            placed,
+            orders,
+            taken: taken.into_iter().flatten().collect(),
+        }
+    })
+}
 
+fn kill_often(station: &mut Station) {
+    let mut chance = Chance::seeded(u64::from(std::process::id()));
+    for _ in 0..KILLS {
+        let (least, most) = (Duration::from_millis(50), Duration::from_millis(700));
+        thread::sleep(chance.between(least, most));
+        station.kill();
+        station.start();
+    }
+}
+
+#[test]
+fn fifty_kills() {
+    let (mut station, ends) = station();
+    let outcome = run(&mut station, ends);
     let of_line = |line: u8| -> Vec<&Vec<u8>> {
-        let own = taken.iter().filter(|(of, ..)| *of == line);
+        let own = outcome.taken.iter().filter(|(of, ..)| *of == line);
         own.map(|(.., text)| text).collect()
     };
-    let mut messages = 0;
-    for ((sent, _), line) in sent.iter().zip(0..) {
+    for (sent, line) in outcome.sent.iter().zip(0..) {
         check_line(line, sent, &of_line(line));
-        messages += sent.len();
     }
+    let told = |text: &Vec<u8>| identity(text).expect("one of ours").1;
     // A strip reader's finding has no attempts: each is there once, in order.
-    let numbers: Vec<u32> = of_line(7)
-        .iter()
-        .map(|text| identity(text).expect("a finding").1)
-        .collect();
-    let expected: Vec<u32> = (0..numbers.len() as u32).collect();
-    assert_eq!(numbers, expected);
-    assert!(numbers.len() as u32 >= findings);
+    let findings: Vec<u32> = of_line(7).into_iter().map(told).collect();
+    assert!(findings.iter().copied().eq(0..findings.len() as u32));
+    assert!(findings.len() as u32 >= outcome.findings);
     // An order may arrive twice where a kill ate its last ACK, but each has arrived.
-    let seen: HashSet<u32> = orders
-        .iter()
-        .map(|text| identity(text).expect("an order").1)
-        .collect();
-    assert_eq!(seen, (0..placed).collect());
-    assert!(
-        messages > 200 && findings > 10 && placed > 5,
-        "{} messages, {} findings, {} orders",
-        messages,
-        findings,
-        placed
-    );
-    let log = station.log();
-    assert_eq!(log.matches("loaded:").count() as u32, KILLS + 1);
+    let orders: HashSet<u32> = outcome.orders.iter().map(told).collect();
+    assert_eq!(orders, (0..outcome.placed).collect());
+
+    let messages: usize = outcome.sent.iter().map(Vec::len).sum();
     println!(
-        "{} messages sent, {} findings, {} orders, {} taken",
-        messages,
-        findings,
-        placed,
-        taken.len()
+        "{} messages, {} findings, {} orders",
+        messages, outcome.findings, outcome.placed
     );
+    assert!(messages > 200 && outcome.findings > 10 && outcome.placed > 5);
+    let starts = station.log().matches("loaded:").count();
+    assert_eq!(starts as u32, KILLS + 1);
 }
 
 /// How many orders there are.
