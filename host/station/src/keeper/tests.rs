@@ -56,7 +56,10 @@ fn quiet() -> Log {
 }
 
 fn bench(folder: &Folder) -> Bench {
-    let settings = settings(&folder.path, "frames");
+    bench_with(settings(&folder.path, "frames"))
+}
+
+fn bench_with(settings: Arc<Settings>) -> Bench {
     let mut keeper = Keeper::open(settings, quiet()).expect("a folder of its own");
     let mut ports = Vec::new();
     for line in [0, 1] {
@@ -136,6 +139,39 @@ fn what_leaves_is_on_the_disk() {
     let confirm = Request::Confirm { line: 0, serial: 0 };
     assert_eq!(bench.ask(confirm).status, 200);
     assert_eq!(on_disk(&folder).gateway.used(0), 0);
+}
+
+/// Whatever it is that leaves, the disk has the very state that it comes from.
+#[test]
+fn everything_that_leaves_is_on_the_disk() {
+    let folder = Folder::new();
+    let mut bench = bench_with(settings(&folder.path, "strips-10"));
+    let saved = |gateway: &Gateway| {
+        let mut bytes = Vec::new();
+        gateway.save(&mut bytes);
+        bytes
+    };
+    let (ack, nak) = (&b"\x06"[..], &b"\x15"[..]);
+    let (mor, rep) = (&b"\x02>\x033?\r"[..], &b"\x02?\x033>\r"[..]);
+    let steps: [(u8, &[u8], &[u8]); 11] = [
+        (0, ENQ, ack),
+        (0, b"\x021H|\\^&\r\x03E5\r\n", ack), // accepted
+        (0, b"\x021H|\\^&\r\x03E5\r\n", ack), // a repeat
+        (0, b"\x022L|1|N\r\x0300\r\n", nak),  // spoilt
+        (0, b"\x022L|1|N\r\x0305\r\n", ack),  // stored
+        (0, ENQ, nak),                        // busy
+        (0, b"\x023L|1|N\r\x0306\r\n", nak),  // no message
+        (1, b"\x02<\x033=\r", mor),           // SPM
+        (1, b"\x02;E 4711\x0300\r", rep),     // of no length
+        (1, rep, rep),                        // REP
+        (0, b"\x04\x05", ack),                // over, and another transfer
+    ];
+    for (line, bytes, reply) in steps {
+        assert_eq!(bench.hear(line, bytes), reply, "{:?}", bytes);
+        let on_disk = on_disk(&folder);
+        assert_eq!(saved(&on_disk.gateway), saved(&bench.keeper.gateway));
+        assert_eq!(on_disk.book, bench.keeper.book);
+    }
 }
 
 #[test]
