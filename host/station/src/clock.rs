@@ -26,12 +26,17 @@ impl Clock {
     }
 
     pub fn now(&self) -> Stamp {
-        let milliseconds = clock_gettime(ClockId::CLOCK_BOOTTIME).map_or(0, |time| {
+        self.ago(0)
+    }
+
+    /// The moment so many seconds ago.
+    pub fn ago(&self, seconds: u64) -> Stamp {
+        let milliseconds: u64 = clock_gettime(ClockId::CLOCK_BOOTTIME).map_or(0, |time| {
             time.tv_sec() as u64 * 1_000 + time.tv_nsec() as u64 / 1_000_000
         });
         Stamp {
             boot: self.boot.clone(),
-            milliseconds,
+            milliseconds: milliseconds.saturating_sub(seconds * 1_000),
         }
     }
 
@@ -56,6 +61,7 @@ mod tests {
         assert!(!clock.boot.is_empty());
         let mut stamp = clock.now();
         assert_eq!(clock.seconds_since(&stamp), 0);
+        assert_eq!(clock.seconds_since(&clock.ago(3)), 3);
         stamp.milliseconds -= 2_500;
         assert_eq!(clock.seconds_since(&stamp), 2);
         stamp.milliseconds += 1_000_000;

@@ -154,6 +154,7 @@ impl Keeper {
                     line
                 ));
                 self.gateway = Gateway::start(wanted);
+                self.orders.stop(|line| self.gateway.state(line));
                 self.owed = 0;
                 Ok(())
             }
@@ -296,7 +297,7 @@ impl Keeper {
             });
         }
         self.book.pass(now());
-        self.archive_when_due();
+        self.archive_when_due()?;
         self.start_orders()?;
         // What nobody waits for is saved within a second even so.
         self.save_orders();
@@ -387,6 +388,10 @@ impl Keeper {
                     continue;
                 }
                 let answer = self.gateway.send(line, &text);
+                if !matches!(answer, Answer::Sending { .. }) {
+                    // Its line has got a strip reader since, say.
+                    self.orders.ended(line, false, &words(&answer), at);
+                }
                 self.saving.is_saved = false;
                 self.lines[usize::from(line)].stir();
                 self.act(line, self.gateway.used(line), &answer)?;
@@ -396,12 +401,15 @@ impl Keeper {
     }
 
     /// At its time of the day. Where that fails it is tried again every minute.
-    fn archive_when_due(&mut self) {
+    fn archive_when_due(&mut self) -> Result<(), Damaged> {
         let at = Local::now();
         if self.archive_due.map_or(false, |due| due <= at) {
-            let next = self.archive().map(|_| next_archive(&self.settings, at));
-            self.archive_due = next.unwrap_or_else(|_| Some(at + chrono::Duration::minutes(1)));
+            self.archive_due = match self.archive()? {
+                Ok(_) => next_archive(&self.settings, at),
+                Err(_) => Some(at + chrono::Duration::minutes(1)),
+            };
         }
+        Ok(())
     }
 
     /// What is in memory is not what the disk has.
@@ -410,9 +418,9 @@ impl Keeper {
     }
 
     /// Saves the gateway and its book.
-    fn save(&mut self) {
+    pub(crate) fn save(&mut self) {
         let began = Instant::now();
-        let saved = self.saving.save(&self.gateway, &self.book);
+        let saved = self.saving.save(&self.gateway, &self.book, self.owed);
         if self.saving.note(&saved, began.elapsed()) {
             self.log.say(match saved {
                 Err(why) => format!("saving fails: {}; nothing is acknowledged", why),

@@ -7,13 +7,23 @@ use std::sync::atomic::{AtomicUsize, Ordering};
 use std::sync::mpsc::{sync_channel, Receiver, SyncSender};
 use std::sync::Arc;
 use std::thread;
+use std::time::Duration;
 
 /// So many lines may wait for a slow reader of the log. Then lines are lost, and how many is said.
 const MOST_WAITING: usize = 4_096;
 
+/// How long a log that is to end may take for what waits.
+const LAST_LINES: Duration = Duration::from_secs(1);
+
+/// A line, or who wants to know when all before it is written.
+pub enum Entry {
+    Line(String),
+    Flush(SyncSender<()>),
+}
+
 #[derive(Clone)]
 pub struct Log {
-    lines: SyncSender<String>,
+    lines: SyncSender<Entry>,
     lost: Arc<AtomicUsize>,
 }
 
@@ -27,7 +37,7 @@ impl Log {
     }
 
     /// A log, and the other end of it.
-    pub fn with(most: usize) -> (Log, Receiver<String>) {
+    pub fn with(most: usize) -> (Log, Receiver<Entry>) {
         let (lines, waiting) = sync_channel(most);
         let lost = Arc::new(AtomicUsize::new(0));
         (Log { lines, lost }, waiting)
@@ -35,14 +45,30 @@ impl Log {
 
     pub fn say(&self, what: impl Display) {
         let at = Local::now().to_rfc3339_opts(SecondsFormat::Millis, false);
-        if self.lines.try_send(format!("{} {}\n", at, what)).is_err() {
+        let line = Entry::Line(format!("{} {}\n", at, what));
+        if self.lines.try_send(line).is_err() {
             self.lost.fetch_add(1, Ordering::Relaxed);
+        }
+    }
+
+    /// Waits a little until what was said is written.
+    pub fn flush(&self) {
+        let (done, written) = sync_channel(1);
+        if self.lines.try_send(Entry::Flush(done)).is_ok() {
+            let _ = written.recv_timeout(LAST_LINES);
         }
     }
 }
 
-fn write_all<W: Write>(waiting: Receiver<String>, lost: &AtomicUsize, out: impl Fn() -> W) {
-    for line in waiting {
+fn write_all<W: Write>(waiting: Receiver<Entry>, lost: &AtomicUsize, out: impl Fn() -> W) {
+    for entry in waiting {
+        let line = match entry {
+            Entry::Line(line) => line,
+            Entry::Flush(done) => {
+                let _ = done.send(());
+                continue;
+            }
+        };
         let many = lost.swap(0, Ordering::Relaxed);
         let mut out = out();
         let said = match many {

@@ -5,6 +5,7 @@ use ngachodui_station::keeper::{Event, Keeper};
 use ngachodui_station::log::Log;
 use ngachodui_station::ports;
 use ngachodui_station::settings::Settings;
+use std::io::Write;
 use std::path::Path;
 use std::process::ExitCode;
 use std::sync::mpsc::{channel, Sender};
@@ -40,10 +41,12 @@ fn main() -> ExitCode {
 fn archive(settings: &Path) -> Result<(), String> {
     // What the lines are to speak does not matter for it, and may have changed.
     let settings = Arc::new(Settings::read(settings)?);
-    let mut keeper = Keeper::open_to_archive(settings, Log::to_stderr())?;
-    let count = keeper.archive()?;
+    let log = Log::to_stderr();
+    let mut keeper = Keeper::open_to_archive(settings, log.clone())?;
+    let archived = keeper.archive().map_err(|damaged| damaged.to_string())?;
     keeper.finish()?;
-    println!("station: {} messages archived", count);
+    log.flush();
+    say(&format!("{} messages archived", archived?));
     Ok(())
 }
 
@@ -71,17 +74,23 @@ fn run(settings: &Path) -> Result<(), String> {
             to_send,
         ));
     }
-    let http = Http::new(settings, keeper.published(), events.clone(), log);
+    let http = Http::new(settings, keeper.published(), events.clone(), log.clone());
     runtime.spawn(Arc::new(http).serve(listener));
     runtime.spawn(stop_when_told(events));
     let keeper = thread::spawn(move || keeper.run(coming));
-    println!("station: board at http://{}/", address);
+    say(&format!("board at http://{}/", address));
     let ended = keeper.join();
     runtime.shutdown_background();
+    log.flush();
     match ended {
         Ok(ended) => ended.map_err(|damaged| damaged.to_string()),
         Err(_) => Err("the keeper has failed; what was saved stands".to_string()),
     }
+}
+
+/// On standard output, if somebody has that.
+fn say(what: &str) {
+    let _ = writeln!(std::io::stdout(), "station: {}", what);
 }
 
 /// Has the keeper save and stop at SIGTERM and SIGINT.

@@ -113,8 +113,7 @@ pub struct UnderWay {
 }
 
 impl Orders {
-    /// Loads what the folder has. `state` says where each line is: an order whose line does not send any more
-    /// waits again.
+    /// Loads what the folder has. `state` says where each line is.
     pub fn load(
         folder: &Path,
         settings: OrderSettings,
@@ -143,22 +142,20 @@ impl Orders {
                 orders.orders.insert(number, order);
             }
         }
+        orders.stop(state);
+        Ok(orders)
+    }
+
+    /// An order whose line does not send any more waits again.
+    pub fn stop(&mut self, state: impl Fn(u8) -> State) {
         let is_stopped =
             |order: &&Order| order.state == Stage::Sending && !state(order.line).is_sending();
-        let stopped: Vec<u64> = orders
-            .orders
-            .values()
-            .filter(is_stopped)
-            .map(|order| order.order)
-            .collect();
+        let stopped = self.orders.values().filter(is_stopped);
+        let stopped: Vec<u64> = stopped.map(|order| order.order).collect();
+        let words = "stopped with the station; tried again";
         for number in stopped {
-            orders.change(
-                number,
-                Stage::Waiting,
-                "stopped with the station; tried again",
-            );
+            self.change(number, Stage::Waiting, words);
         }
-        Ok(orders)
     }
 
     fn path(&self, number: u64) -> PathBuf {

@@ -94,7 +94,7 @@ impl Keeper {
                 _ => no_order(),
             },
             Request::Cancel { lines, number } => self.cancel(&lines, number),
-            Request::Archive => match self.archive() {
+            Request::Archive => match self.archive()? {
                 Ok(count) => Reply::json(200, json!({ "messages": count })),
                 Err(why) => Reply::error(500, &why),
             },
@@ -224,16 +224,46 @@ impl Keeper {
         )
     }
 
-    /// Writes every waiting message to the archive, and takes it when the disk has it.
-    pub fn archive(&mut self) -> Result<usize, String> {
+    /// Writes every waiting message to the archive, and takes it when the disk has it; how many, or why not.
+    pub fn archive(&mut self) -> Result<Result<usize, String>, Damaged> {
+        // The archive is a reader too: what goes there is on the disk as stored.
+        if !self.saving.is_saved {
+            self.save();
+        }
+        let messages = self.all_waiting();
+        self.log
+            .say(format_args!("archive: {} messages wait", messages.len()));
+        let folder = self.settings.folder.join("archive");
+        let written = match &self.saving.trouble {
+            Some(why) => Err(format!("saving fails: {}", why)),
+            None => archive::write(&folder, &messages).map_err(|error| error.to_string()),
+        };
+        if let Err(why) = written {
+            let why = format!("archive: {}; nothing is taken", why);
+            self.log.say(&why);
+            return Ok(Err(why));
+        }
+        for message in &messages {
+            self.take(message.line)?;
+        }
+        self.book.archived = Some((now(), messages.len()));
+        self.has_changed();
+        let count = messages.len();
+        self.log.say(format_args!(
+            "archive: {} messages written and taken",
+            count
+        ));
+        Ok(Ok(count))
+    }
+
+    /// The messages of all lines, in the order of their storing; also of lines that the settings do not name any more.
+    fn all_waiting(&self) -> Vec<Archived> {
         let mut messages = Vec::new();
-        // Also what waits on a line that the settings do not name any more.
         for line in 0..LINES as u8 {
             let entries = self.book.waiting(line);
             for (entry, (serial, text)) in entries.zip(self.gateway.waiting(line)) {
-                let laboratory = self.book.laboratory(line).to_string();
                 let message = Archived {
-                    laboratory,
+                    laboratory: self.book.laboratory(line).to_string(),
                     line,
                     serial,
                     stored: entry.stored,
@@ -243,26 +273,7 @@ impl Keeper {
             }
         }
         messages.sort_by_key(|(place, _)| *place);
-        let messages: Vec<Archived> = messages.into_iter().map(|(_, message)| message).collect();
-        self.log
-            .say(format_args!("archive: {} messages wait", messages.len()));
-        let folder = self.settings.folder.join("archive");
-        archive::write(&folder, &messages).map_err(|error| {
-            let why = format!("archive: {}; nothing is taken", error);
-            self.log.say(&why);
-            why
-        })?;
-        for message in &messages {
-            self.take(message.line)
-                .map_err(|damaged| damaged.to_string())?;
-        }
-        self.book.archived = Some((now(), messages.len()));
-        self.has_changed();
-        self.log.say(format_args!(
-            "archive: {} messages written and taken",
-            messages.len()
-        ));
-        Ok(messages.len())
+        messages.into_iter().map(|(_, message)| message).collect()
     }
 }
 

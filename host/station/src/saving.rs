@@ -53,10 +53,10 @@ impl Saving {
         Ok((saving, loaded))
     }
 
-    /// Saves, and returns when the disk has it.
-    pub fn save(&mut self, gateway: &Gateway, book: &Book) -> io::Result<()> {
+    /// Saves, and returns when the disk has it. So many seconds have passed that the lines were not told yet.
+    pub fn save(&mut self, gateway: &Gateway, book: &Book, owed: u64) -> io::Result<()> {
         let beside = Beside {
-            at: self.clock.now(),
+            at: self.clock.ago(owed),
             book: Cow::Borrowed(book),
         };
         self.store.save(|out| {
@@ -131,14 +131,14 @@ mod tests {
         let (mut saving, loaded) = Saving::open(&folder.path).expect("a folder of its own");
         assert!(loaded.is_none());
         let mut gateway = Gateway::fresh();
-        saving.save(&gateway, &Book::default()).expect("room");
+        saving.save(&gateway, &Book::default(), 7).expect("room");
         drop(saving);
         let (mut saving, loaded) = Saving::open(&folder.path).expect("whole");
-        assert_eq!(loaded.map(|loaded| loaded.seconds), Some(0));
+        assert_eq!(loaded.map(|loaded| loaded.seconds), Some(7));
         for byte in b"\x05\x021H|\\^&\rL|1|N\r\x03B5\r\n" {
             gateway.byte(0, *byte);
         }
-        saving.save(&gateway, &Book::default()).expect("room");
+        saving.save(&gateway, &Book::default(), 0).expect("room");
         drop(saving);
         let why = Saving::open(&folder.path).err().expect("they disagree");
         assert!(why.contains("other messages than wait"), "{}", why);

@@ -267,7 +267,7 @@ fn what_a_line_speaks_changes_only_where_nothing_waits() {
     let why = Keeper::open(settings.clone(), quiet()).err();
     assert!(why.expect("one waits").contains("archive them first"));
     let mut keeper = Keeper::open_to_archive(settings.clone(), quiet()).expect("whole");
-    assert_eq!(keeper.archive(), Ok(1));
+    assert_eq!(keeper.archive().expect("sound"), Ok(1));
     keeper.finish().expect("saved");
     let keeper = Keeper::open(settings, quiet()).expect("nothing waits");
     assert_eq!(keeper.gateway.speaks(1), ngachodui::Speaks::Strips10);
@@ -375,7 +375,7 @@ fn a_line_changes_hands_only_where_nothing_waits() {
     refused("messages wait");
     // Archived with the new settings, it still goes to the old laboratory's file.
     let mut keeper = Keeper::open_to_archive(other(), quiet()).expect("whole");
-    assert_eq!(keeper.archive(), Ok(1));
+    assert_eq!(keeper.archive().expect("sound"), Ok(1));
     keeper.finish().expect("saved");
     assert!(folder.path.join("archive/north").is_dir());
     assert!(!folder.path.join("archive/south").exists());
@@ -423,4 +423,65 @@ fn an_order_that_cannot_be_kept_is_not_sent_and_holds_nobody_up() {
     fs::create_dir_all(folder.path.join("orders")).expect("made");
     bench.keeper.pass(1).expect("sound");
     assert_eq!(bench.keeper.orders_trouble, None);
+}
+
+#[test]
+fn an_order_for_a_line_that_has_a_strip_reader_now() {
+    let folder = Folder::new();
+    let mut first = bench(&folder);
+    for number in [1, 2] {
+        let text = texts::order(1, number);
+        let placed = first.ask(Request::Place { line: 1, text });
+        assert_eq!(placed.status, 202);
+    }
+    first.keeper.pass(1).expect("sound");
+    assert_eq!(first.sent(1), ENQ);
+    drop(first);
+    // One is under way; the gateway begins anew, and both are tried and fail.
+    let mut second = bench_with(settings(&folder.path, "strips-10"));
+    for _ in 0..6 {
+        second.keeper.pass(1).expect("sound");
+    }
+    assert_eq!(second.sent(1), b"");
+    let tally = second.keeper.orders.tally(1);
+    assert_eq!((tally.waiting, tally.sent, tally.failed), (0, 0, 2));
+    assert!(second.keeper.orders.under_way(1).is_none());
+}
+
+/// A kill soon after a start does not lose the seconds before it.
+#[test]
+fn seconds_that_are_owed_are_saved() {
+    let folder = Folder::new();
+    let mut first = bench(&folder);
+    first.keeper.owed = 20;
+    assert_eq!(first.hear(0, ENQ), ACK);
+    let second = first.again(&folder);
+    assert_eq!(second.keeper.owed, 20);
+}
+
+#[test]
+fn what_is_archived_was_saved_as_stored() {
+    let folder = Folder::new();
+    let mut bench = bench(&folder);
+    let (done, _settled) = oneshot::channel();
+    let bytes = [ENQ, FRAME].concat();
+    let event = Event::Bytes {
+        line: 0,
+        bytes,
+        done,
+    };
+    bench.keeper.take_in(event).expect("sound");
+    assert!(!bench.keeper.saving.is_saved);
+    // Nothing is settled yet: the archive saves first, and takes nothing where it cannot.
+    fs::rename(&folder.path, folder.path.with_extension("away")).expect("there");
+    let why = bench
+        .keeper
+        .archive()
+        .expect("sound")
+        .expect_err("no folder");
+    assert!(why.contains("saving fails"), "{}", why);
+    assert_eq!(bench.keeper.book.waiting_count(0), 1);
+    fs::rename(folder.path.with_extension("away"), &folder.path).expect("there");
+    assert_eq!(bench.keeper.archive().expect("sound"), Ok(1));
+    assert_eq!(on_disk(&folder).book.waiting_count(0), 1);
 }
