@@ -114,8 +114,8 @@ fn entry(bytes: &[u8]) -> Option<(&[u8], usize)> {
         .trim_end()
         .rsplit(' ')
         .next()?;
-    let all = end + length.parse::<usize>().ok()? + 1;
-    (bytes.get(all - 1) == Some(&b'\n')).then(|| (head, all))
+    let last = end.checked_add(length.parse().ok()?)?;
+    (bytes.get(last) == Some(&b'\n')).then_some((head, last + 1))
 }
 
 #[cfg(test)]
@@ -156,6 +156,23 @@ mod tests {
             .head()
             .starts_with("line 3 serial 0 stored 2025-10-0"));
         assert!(all[0].head().ends_with(" bytes 14\n"));
+    }
+
+    /// What is no entry ends what is whole, whatever it says of its length.
+    #[test]
+    fn lines_that_are_none() {
+        let entry = message("north", 0, NOON);
+        let whole = [entry.head().as_bytes(), &entry.text, b"\n"].concat();
+        for line in [
+            "bytes 18446744073709551615\n",
+            "bytes -1\n",
+            "\n",
+            "bytes 5\n1234\n",
+        ] {
+            let bytes = [&whole, line.as_bytes()].concat();
+            let (heads, length) = read(&bytes);
+            assert_eq!((heads.len(), length), (1, whole.len()), "{:?}", line);
+        }
     }
 
     /// However far the writing came before a kill, a second writing leaves each message once.

@@ -161,7 +161,7 @@ impl Board {
     }
 
     fn put_lines(&self, out: &mut String) {
-        let each: [(&str, fn(&Line) -> f64); 9] = [
+        let each: [(&str, Measure); 9] = [
             ("connected", |line| flag(line.connected)),
             ("messages_waiting", |line| line.waiting as f64),
             ("messages_stored_today", |line| line.stored_today.into()),
@@ -188,6 +188,9 @@ impl Board {
         }
     }
 }
+
+/// A number of a line.
+type Measure = fn(&Line) -> f64;
 
 fn flag(is: bool) -> f64 {
     f64::from(u8::from(is))

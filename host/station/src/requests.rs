@@ -125,24 +125,21 @@ impl Keeper {
     /// Takes the line's oldest message, if it is this one. A serial that was taken before is no fault: the reader
     /// has not heard our first reply.
     fn confirm(&mut self, line: u8, serial: u16) -> Result<Reply, Damaged> {
-        let mut waiting = self.book.waiting(line).map(|entry| entry.serial);
+        let oldest = self.book.waiting(line).next().map(|entry| entry.serial);
+        let waits = self.book.waiting(line).any(|entry| entry.serial == serial);
         let taken = |is_new: bool| Reply::json(200, json!({ "taken": is_new }));
-        Ok(match waiting.next() {
-            Some(oldest) if oldest == serial => {
-                drop(waiting);
-                self.take(line)?;
-                taken(true)
-            }
-            _ if waiting.any(|other| other == serial) => {
-                Reply::error(409, "an older message of this line waits: it goes first")
-            }
-            oldest => {
-                let next = oldest.unwrap_or_else(|| self.gateway.serial(line));
-                match next.wrapping_sub(serial) {
-                    1..=MOST_BEHIND => taken(false),
-                    _ => Reply::error(404, "no such message"),
-                }
-            }
+        if oldest == Some(serial) {
+            self.take(line)?;
+            return Ok(taken(true));
+        }
+        if waits {
+            let why = "an older message of this line waits: it goes first";
+            return Ok(Reply::error(409, why));
+        }
+        let next = oldest.unwrap_or_else(|| self.gateway.serial(line));
+        Ok(match next.wrapping_sub(serial) {
+            1..=MOST_BEHIND => taken(false),
+            _ => Reply::error(404, "no such message"),
         })
     }
 
@@ -300,5 +297,8 @@ fn not_a_message(refusal: &Refusal) -> Reply {
 /// A line of a laboratory, by what stands in a path.
 pub fn own_line(settings: &Settings, laboratory: usize, text: &str) -> Option<u8> {
     let line: u8 = text.parse().ok()?;
-    settings.lines_of(laboratory).contains(&line).then(|| line)
+    settings
+        .lines_of(laboratory)
+        .contains(&line)
+        .then_some(line)
 }

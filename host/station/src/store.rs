@@ -151,7 +151,7 @@ fn saved_in(place: &[u8]) -> Option<(u64, &[u8])> {
     let checked = place.get(12..HEAD.checked_add(length)?)?;
     let is_whole = &place[..8] == MAGIC && crc32fast::hash(checked) == check;
     let number = u64::from_le_bytes(place[16..24].try_into().ok()?);
-    is_whole.then(|| (number, &place[HEAD..HEAD + length]))
+    is_whole.then_some((number, &place[HEAD..HEAD + length]))
 }
 
 /// The last save: its number, its place, and what was saved.

@@ -4,6 +4,7 @@ use crate::harness::{tcp, Station};
 use ngachodui_station::simulated::analyzer::{Analyzer, Fate};
 use ngachodui_station::simulated::texts::{result, Size};
 use std::fs;
+use std::slice;
 
 /// The one file of a laboratory.
 fn archived(station: &Station, laboratory: &str) -> Vec<u8> {
@@ -40,7 +41,10 @@ fn every_waiting_message_goes_to_its_laboratory() {
     let texts: Vec<Vec<u8>> = (0..3).map(|line| result(line, 0, 0, Size::Long)).collect();
     let mut analyzers = [cable0, cable1, cable2].map(Analyzer::new);
     for (analyzer, text) in analyzers.iter_mut().zip(&texts) {
-        assert_eq!(analyzer.transfer(&[text.clone()]), [Fate::Acknowledged]);
+        assert_eq!(
+            analyzer.transfer(slice::from_ref(text)),
+            [Fate::Acknowledged]
+        );
     }
     let reply = station.operator().post("/archive", b"").expect("a reply");
     assert_eq!(
@@ -67,7 +71,10 @@ fn every_waiting_message_goes_to_its_laboratory() {
 
     // More of the same day goes behind it, also while no station runs.
     let more = result(2, 1, 0, Size::Small);
-    assert_eq!(analyzers[2].transfer(&[more.clone()]), [Fate::Acknowledged]);
+    assert_eq!(
+        analyzers[2].transfer(slice::from_ref(&more)),
+        [Fate::Acknowledged]
+    );
     let mut command = station.command();
     command.arg("archive").arg(station.settings());
     assert_eq!(command.status().expect("it ran").code(), Some(1));
