@@ -195,7 +195,12 @@ mod tests {
 
     /// A text in a frame of this number that ends with ETX.
     fn frame(number: u8, text: &str) -> Vec<u8> {
-        let inside = format!("{}{}\x03", number % 8, text);
+        piece(number, text, '\x03')
+    }
+
+    /// The same with any end.
+    fn piece(number: u8, text: &str, end: char) -> Vec<u8> {
+        let inside = format!("{}{}{}", number % 8, text, end);
         let sum = inside
             .bytes()
             .fold(0, |sum: u8, byte| sum.wrapping_add(byte));
@@ -226,6 +231,31 @@ mod tests {
         // The loaded one takes it for the frame that it accepted last, and acknowledges a message that it has not.
         assert_eq!(hear(&mut loaded, 2, &last), Answer::Repeated);
         assert_eq!(loaded.waiting(2).count(), 1);
+    }
+
+    /// Eight pieces of a record that were acknowledged and not saved are missing in what is stored then.
+    #[test]
+    fn a_record_with_a_gap() {
+        let (etb, etx) = ('\x17', '\x03');
+        let mut gateway = Gateway::fresh();
+        gateway.byte(2, 0x05);
+        hear(&mut gateway, 2, &frame(1, "H|\\^&\r"));
+        hear(&mut gateway, 2, &piece(2, "C|1|G|begins", etb));
+        let bytes = saved(&gateway);
+        for number in 3..11 {
+            let answer = hear(&mut gateway, 2, &piece(number, ", goes on", etb));
+            assert_eq!(answer, Answer::Accepted);
+        }
+        let mut loaded = Gateway::load(&bytes).expect("just saved");
+        for gateway in [&mut gateway, &mut loaded] {
+            let ends = hear(gateway, 2, &piece(11, ", ends\r", etx));
+            assert_eq!(ends, Answer::Accepted);
+            assert_eq!(hear(gateway, 2, &frame(12, "L|1|N\r")), Answer::Stored);
+        }
+        let stored = |gateway: &Gateway| gateway.waiting(2).next().expect("stored").1;
+        let gap = b"H|\\^&\rC|1|G|begins, ends\rL|1|N\r";
+        assert_eq!(stored(&loaded), gap);
+        assert_eq!(stored(&gateway).len(), gap.len() + 8 * ", goes on".len());
     }
 
     /// And before each reply to a strip reader, a REP too: it may ask for our last reply.
