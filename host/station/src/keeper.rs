@@ -382,7 +382,7 @@ impl Keeper {
             let due = is_free.then(|| self.orders.due(line, at)).flatten();
             if let Some((number, text)) = due {
                 if let Err(error) = self.orders.started(number) {
-                    self.orders.rest(number, at);
+                    self.orders.rest(line, at);
                     self.log
                         .say(format_args!("order {} not begun: {}", number, error));
                     continue;

@@ -5,7 +5,9 @@ use ngachodui_station::keeper::{Event, Keeper};
 use ngachodui_station::log::Log;
 use ngachodui_station::ports;
 use ngachodui_station::settings::Settings;
+use std::fs;
 use std::io::Write;
+use std::os::unix::fs::PermissionsExt;
 use std::path::Path;
 use std::process::ExitCode;
 use std::sync::mpsc::{channel, Sender};
@@ -50,9 +52,10 @@ fn archive(settings: &Path) -> Result<(), String> {
     Ok(())
 }
 
-fn run(settings: &Path) -> Result<(), String> {
-    let settings = Arc::new(Settings::read(settings)?);
+fn run(path: &Path) -> Result<(), String> {
+    let settings = Arc::new(Settings::read(path)?);
     let log = Log::to_stderr();
+    warn_of_readers(path, &log);
     let mut keeper = Keeper::open(settings.clone(), log.clone())?;
     let runtime = tokio::runtime::Builder::new_multi_thread()
         .worker_threads(2)
@@ -85,6 +88,18 @@ fn run(settings: &Path) -> Result<(), String> {
     match ended {
         Ok(ended) => ended.map_err(|damaged| damaged.to_string()),
         Err(_) => Err("the keeper has failed; what was saved stands".to_string()),
+    }
+}
+
+/// Every token is in the settings file.
+fn warn_of_readers(path: &Path, log: &Log) {
+    let mode = fs::metadata(path).map_or(0, |found| found.permissions().mode());
+    if mode & 0o004 != 0 {
+        let path = path.display();
+        log.say(format_args!(
+            "{}: everybody on this machine can read it, and has every token",
+            path
+        ));
     }
 }
 

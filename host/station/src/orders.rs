@@ -3,7 +3,7 @@
 use crate::book::{local, now, Moment};
 use crate::settings::OrderSettings;
 use crate::store::{sync_folder, write_whole};
-use ngachodui::State;
+use ngachodui::{State, LINES};
 use serde::{Deserialize, Serialize};
 use serde_json::{json, Value};
 use std::collections::{BTreeMap, BTreeSet};
@@ -44,9 +44,6 @@ pub struct Order {
     words: String,
     #[serde(skip)]
     text: Vec<u8>,
-    /// Not to be tried before then.
-    #[serde(skip)]
-    rests_until: Option<Instant>,
 }
 
 impl Order {
@@ -94,6 +91,8 @@ pub struct Orders {
     settings: OrderSettings,
     orders: BTreeMap<u64, Order>,
     unsaved: BTreeSet<u64>,
+    /// No order is begun on a line before then.
+    rests_until: [Option<Instant>; LINES],
 }
 
 /// What is told of a line's orders.
@@ -126,6 +125,7 @@ impl Orders {
             settings,
             orders: BTreeMap::new(),
             unsaved: BTreeSet::new(),
+            rests_until: [None; LINES],
         };
         let names = fs::read_dir(folder).map_err(|error| told(folder, error.to_string()))?;
         for name in names {
@@ -175,7 +175,6 @@ impl Orders {
             changed: at,
             words: "waits for its line".to_string(),
             text: text.to_vec(),
-            rests_until: None,
         };
         write_whole(&self.path(number), &order.file())?;
         self.orders.insert(number, order);
@@ -229,13 +228,14 @@ impl Orders {
         })
     }
 
-    /// The next order of a line that is due, with its text.
+    /// The oldest waiting order of a line, with its text, if one may be begun now.
     pub fn due(&self, line: u8, at: Instant) -> Option<(u64, Vec<u8>)> {
-        self.of_lines(&[line])
-            .find(|order| {
-                order.state == Stage::Waiting && order.rests_until.map_or(true, |until| until <= at)
-            })
-            .map(|order| (order.order, order.text.clone()))
+        if self.rests_until[usize::from(line)].map_or(false, |until| at < until) {
+            return None;
+        }
+        let waits = |order: &&Order| order.line == line && order.state == Stage::Waiting;
+        let first = self.orders.values().find(waits)?;
+        Some((first.order, first.text.clone()))
     }
 
     /// An order goes out: that is kept before its line sends, so that a line never sends one that is told to wait.
@@ -255,15 +255,15 @@ impl Orders {
             false => Stage::Waiting,
         };
         self.change(number, stage, words);
-        self.rest(number, at);
+        if !acknowledged {
+            self.rest(line, at);
+        }
         Some(number)
     }
 
-    /// An order is not tried again before its time.
-    pub fn rest(&mut self, number: u64, at: Instant) {
-        if let Some(order) = self.orders.get_mut(&number) {
-            order.rests_until = Some(at + self.settings.again);
-        }
+    /// A line begins no order for a while: its analyzer wants to send, or is not ready.
+    pub fn rest(&mut self, line: u8, at: Instant) {
+        self.rests_until[usize::from(line)] = Some(at + self.settings.again);
     }
 
     /// Changes an order and keeps that, or does neither.

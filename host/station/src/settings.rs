@@ -110,6 +110,10 @@ impl Settings {
         lines.sort_by_key(|line| line.number);
         check_apart(&lines)?;
         let orders = file.orders.unwrap_or_default();
+        if orders.again == 0 || orders.tries == 0 {
+            // Who begins at once again meets the analyzer's own ENQ again.
+            return Err("orders: again and tries are at least 1".to_string());
+        }
         Ok(Settings {
             folder,
             listen: file.listen,
@@ -443,75 +447,68 @@ mod tests {
         assert_eq!(settings.speaks()[1].speaks, Speaks::Frames);
     }
 
+    fn refused(rest: &str, why: &str) {
+        let told = read(rest).expect_err(why);
+        assert!(told.contains(why), "{:?} is told as {:?}", why, told);
+    }
+
     #[test]
-    fn what_is_wrong_is_told() {
-        let serial = "serial = \"/dev/ttyS0\"";
-        let twice = line(&format!("number = 1\n{}", serial));
-        for (rest, why) in [
+    fn what_is_wrong_with_a_line_is_told() {
+        let serial = "number = 1\nserial = \"/dev/ttyS0\"";
+        for (more, why) in [
+            ("tcp = \"a:1\"", "line 1: it has to have one of"),
+            ("speed = 9601", "line 1: speed = 9601"),
+            ("data_bits = 9", "line 1: data_bits = 9"),
+            ("stop_bits = 3", "line 1: stop_bits = 3"),
+            ("speaks = \"hl7\"", "line 1: speaks = \"hl7\""),
+            ("baud = 9600", "unknown field `baud`"),
+        ] {
+            refused(&line(&format!("{}\n{}", serial, more)), why);
+        }
+        let beyond = line("number = 8\ntcp = \"a:1\"");
+        refused(&beyond, "line 8: lines are numbered 0 to 7");
+        refused(&line("number = 1"), "line 1: it has to have one of");
+        let fast = line("number = 1\ntcp = \"a:1\"\nspeed = 9600");
+        refused(&fast, "line 1: speed, parity and bits");
+        let nobody = line("number = 1\ntcp = \"a:1\"").replace("north", "west");
+        refused(&nobody, "line 1: there is no laboratory \"west\"");
+        let one = line(serial);
+        refused(&(one.clone() + &one), "line 1 stands there twice");
+        let other = one.replace("number = 1", "number = 2");
+        refused(&(one + &other), "lines 1 and 2 have the same port");
+    }
+
+    #[test]
+    fn what_else_is_wrong_is_told() {
+        let laboratory = |name: &str, token: &str| {
+            format!("[[laboratory]]\nname = {:?}\ntoken = {:?}\n", name, token)
+        };
+        for (name, token, why) in [
             (
-                line(&format!("number = 8\n{}", serial)),
-                "line 8: lines are numbered 0 to 7",
-            ),
-            (line("number = 1"), "line 1: it has to have one of"),
-            (
-                line(&format!("number = 1\n{}\ntcp = \"a:1\"", serial)),
-                "line 1: it has to have one of",
-            ),
-            (
-                line("number = 1\ntcp = \"a:1\"\nspeed = 9600"),
-                "line 1: speed, parity and bits",
-            ),
-            (
-                line(&format!("number = 1\n{}\nspeed = 9601", serial)),
-                "line 1: speed = 9601",
-            ),
-            (
-                line(&format!("number = 1\n{}\ndata_bits = 9", serial)),
-                "line 1: data_bits = 9",
-            ),
-            (
-                line(&format!("number = 1\n{}\nstop_bits = 3", serial)),
-                "line 1: stop_bits = 3",
-            ),
-            (
-                line(&format!("number = 1\n{}\nspeaks = \"hl7\"", serial)),
-                "line 1: speaks = \"hl7\"",
-            ),
-            (
-                line(&format!("number = 1\n{}\nbaud = 9600", serial)),
-                "unknown field `baud`",
-            ),
-            (format!("{0}{0}", twice), "line 1 stands there twice"),
-            (
-                twice.clone() + &line(&format!("number = 2\n{}", serial)),
-                "lines 1 and 2 have the same port",
-            ),
-            (
-                "[[line]]\nnumber = 1\nlaboratory = \"west\"\ntcp = \"a:1\"".to_string(),
-                "line 1: there is no laboratory \"west\"",
-            ),
-            (
-                "[[laboratory]]\nname = \"North\"\ntoken = \"0123456789abcdeg\"".to_string(),
+                "North",
+                "0123456789abcdeg",
                 "laboratory \"North\" stands there twice",
             ),
             (
-                "[[laboratory]]\nname = \"../x\"\ntoken = \"0123456789abcdeg\"".to_string(),
+                "../x",
+                "0123456789abcdeg",
                 "laboratory \"../x\": a name has",
             ),
             (
-                "[[laboratory]]\nname = \"west\"\ntoken = \"0123456789abcdef\"".to_string(),
+                "west",
+                "0123456789abcdef",
                 "the token of \"west\" is another's too",
             ),
-            (
-                "[[laboratory]]\nname = \"west\"\ntoken = \"short\"".to_string(),
-                "the token of \"west\" has to be 16",
-            ),
+            ("west", "short", "the token of \"west\" has to be 16"),
         ] {
-            let told = read(&rest).expect_err(why);
-            assert!(told.contains(why), "{:?} is told as {:?}", why, told);
+            refused(&laboratory(name, token), why);
         }
-        let told = Settings::of("folder = \"f\"\narchive_at = \"25:00\"", Path::new("."))
-            .expect_err("a time");
+        for orders in ["again = 0", "tries = 0"] {
+            let rest = format!("[orders]\n{}", orders);
+            refused(&rest, "orders: again and tries are at least 1");
+        }
+        let told = Settings::of("folder = \"f\"\narchive_at = \"25:00\"", Path::new("."));
+        let told = told.expect_err("a time");
         assert!(told.contains("archive_at = \"25:00\""), "{}", told);
     }
 }

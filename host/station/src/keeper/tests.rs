@@ -26,7 +26,7 @@ fn settings_of(folder: &Path, speaks: &str, laboratory: &str) -> Arc<Settings> {
     let text = format!(
         r#"
         folder = "."
-        orders = {{ pause = 0, again = 0, tries = 2 }}
+        orders = {{ pause = 0, tries = 2 }}
         [[laboratory]]
         name = "north"
         token = "0123456789abcdef"
@@ -48,7 +48,10 @@ fn settings_of(folder: &Path, speaks: &str, laboratory: &str) -> Arc<Settings> {
     let path = folder.join("settings.toml");
     fs::create_dir_all(folder).expect("a folder");
     fs::write(&path, text).expect("written");
-    Arc::new(Settings::read(&path).expect("right settings"))
+    let mut settings = Settings::read(&path).expect("right settings");
+    // A test does not wait.
+    settings.orders.again = Duration::ZERO;
+    Arc::new(settings)
 }
 
 fn quiet() -> Log {
@@ -484,4 +487,25 @@ fn what_is_archived_was_saved_as_stored() {
     fs::rename(folder.path.with_extension("away"), &folder.path).expect("there");
     assert_eq!(bench.keeper.archive().expect("sound"), Ok(1));
     assert_eq!(on_disk(&folder).book.waiting_count(0), 1);
+}
+
+/// Behind a sending that was dropped the line is the analyzer's, whatever else waits to be sent.
+#[test]
+fn a_line_rests_behind_a_sending_that_was_dropped() {
+    let folder = Folder::new();
+    let mut settings = (*settings(&folder.path, "frames")).clone();
+    settings.orders.again = Duration::from_secs(60);
+    let mut bench = bench_with(Arc::new(settings));
+    for number in [1, 2] {
+        let text = texts::order(0, number);
+        assert_eq!(bench.ask(Request::Place { line: 0, text }).status, 202);
+    }
+    bench.keeper.pass(1).expect("sound");
+    assert_eq!(bench.sent(0), ENQ);
+    assert_eq!(bench.hear(0, ENQ), b"");
+    bench.keeper.pass(1).expect("sound");
+    assert_eq!(bench.sent(0), b"");
+    assert_eq!(bench.keeper.orders.tally(0).waiting, 2);
+    // The analyzer asks again, and is heard.
+    assert_eq!(bench.hear(0, ENQ), ACK);
 }

@@ -139,7 +139,7 @@ fn station() -> (Station, Ends) {
     let (line7, strips) = tcp("west");
     let line7 = line7.speaking("strips-10");
     let lines = [line0, line1, line2, line3, line4, line5, line6, line7];
-    let orders = "orders = { pause = 0, again = 0, tries = 1000 }";
+    let orders = "orders = { pause = 0, again = 1, tries = 1000 }";
     let station = Station::with(orders, &lines);
     let made = |name: &str| Cable::terminal(station.folder.path.join("state/ports").join(name));
     let analyzers = vec![cable0, cable1, cable2, made("line3"), made("line4"), cable5];

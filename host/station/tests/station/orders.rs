@@ -44,7 +44,7 @@ fn orders_go_down_in_turn() {
 #[test]
 fn an_order_that_nobody_takes_fails() {
     let (line, mut cable) = tcp("north");
-    let station = Station::with("orders = { pause = 0, again = 0, tries = 2 }", &[line]);
+    let station = Station::with("orders = { pause = 0, again = 1, tries = 2 }", &[line]);
     let desk = station.reader("north");
     let number = desk.order(0, &order(0, 0)).expect("placed");
     let told = || desk.orders().expect("a list").remove(0);

@@ -96,6 +96,7 @@ fn a_second_station_is_refused() {
     assert!(station
         .log()
         .contains("a station runs with this folder already"));
+    assert!(station.log().contains("has every token"));
     let status = station
         .command()
         .arg("no-such-file")
