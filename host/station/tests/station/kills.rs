@@ -139,7 +139,9 @@ fn station() -> (Station, Ends) {
     let (line7, strips) = tcp("west");
     let line7 = line7.speaking("strips-10");
     let lines = [line0, line1, line2, line3, line4, line5, line6, line7];
-    let orders = "orders = { pause = 0, again = 1, tries = 1000 }";
+    // Behind a sending that was dropped the line rests for longer than the analyzer waits for a reply: with less the
+    // two would meet again and again.
+    let orders = "orders = { pause = 0, again = 3, tries = 1000 }";
     let station = Station::with(orders, &lines);
     let made = |name: &str| Cable::terminal(station.folder.path.join("state/ports").join(name));
     let analyzers = vec![cable0, cable1, cable2, made("line3"), made("line4"), cable5];
