@@ -41,10 +41,8 @@ fn send(line: u8, is_over: &AtomicBool, mut transfer: impl FnMut(&[Vec<u8>]) -> 
             let told = identity(&text).expect("a message of ours");
             sent.push((told, text, fate));
             match fate {
-                Fate::Acknowledged => {
-                    number += 1;
-                    attempt = 0;
-                }
+                Fate::Acknowledged => number += 1,
+                // Counted on and on, so that no text is sent in two transfers.
                 _ => {
                     attempt += 1;
                     break;
