@@ -185,8 +185,14 @@ impl Http {
             own_line(&self.settings, laboratory, text)
                 .ok_or_else(|| Reply::error(404, "not a line of this laboratory"))
         };
-        Ok(match (request.method(), parts) {
-            (_, ["message"]) => Request::Message(match request.uri().query() {
+        let (head, sent) = request.into_parts();
+        if let (&Method::POST, ["orders", line]) = (&head.method, parts) {
+            let line = own(line)?;
+            let text = body(sent).await?;
+            return Ok(Request::Place { line, text });
+        }
+        Ok(match (&head.method, parts) {
+            (_, ["message"]) => Request::Message(match head.uri.query() {
                 None => lines,
                 Some(query) => vec![own(asked_line(query)?)?],
             }),
@@ -197,10 +203,6 @@ impl Http {
             (_, ["waiting"]) => Request::Waiting(lines),
             (_, ["refused"]) => Request::Refused(lines),
             (_, ["orders"]) => Request::Orders(lines),
-            (&Method::POST, ["orders", line]) => Request::Place {
-                line: own(line)?,
-                text: body(request.into_body()).await?,
-            },
             (&Method::DELETE, ["orders", order]) => Request::Cancel {
                 lines,
                 number: number(order)?,

@@ -97,7 +97,10 @@ pub async fn attend(
                 if told.is_err() {
                     return;
                 }
-                match serve(line, &mut port, &keeper, &mut outgoing).await {
+                // Its own: a reference to a sender may not cross threads before Rust 1.72.
+                let own = keeper.clone();
+                let lost = serve(line, &mut port, own, &mut outgoing).await;
+                match lost {
                     Some(error) => error,
                     None => return,
                 }
@@ -115,7 +118,7 @@ pub async fn attend(
 async fn serve(
     line: u8,
     port: &mut Port,
-    keeper: &Sender<Event>,
+    keeper: Sender<Event>,
     outgoing: &mut UnboundedReceiver<Vec<u8>>,
 ) -> Option<io::Error> {
     let mut piece = [0; PIECE];
