@@ -1,6 +1,6 @@
 //! Each laboratory sees its own and nothing else; who asks wrongly gets a clear error, and nobody else notices.
 
-use crate::harness::{tcp, token, Station};
+use crate::harness::{tcp, token, Station, PATIENCE};
 use ngachodui_station::client::{Client, Reply};
 use ngachodui_station::simulated::analyzer::{Analyzer, Fate};
 use ngachodui_station::simulated::texts::{faulty, order, result, Size};
@@ -147,10 +147,17 @@ fn who_asks_wrongly_is_told() {
     assert_eq!(page.body, include_bytes!("../../board/board.html"));
 }
 
+/// A connection on which these bytes were sent. Who reads from it does not wait for ever.
+fn sent(station: &Station, bytes: &[u8]) -> TcpStream {
+    let mut stream = TcpStream::connect(station.address).expect("a connection");
+    stream.set_read_timeout(Some(PATIENCE)).expect("a socket");
+    stream.write_all(bytes).expect("taken");
+    stream
+}
+
 /// Sends bytes, and reads what comes back until the other end closes.
 fn raw(station: &Station, bytes: &[u8]) -> String {
-    let mut stream = TcpStream::connect(station.address).expect("a connection");
-    stream.write_all(bytes).expect("taken");
+    let mut stream = sent(station, bytes);
     let mut reply = Vec::new();
     let _ = stream.read_to_end(&mut reply);
     String::from_utf8_lossy(&reply).to_string()
@@ -168,9 +175,7 @@ fn slow_and_broken_readers_disturb_nobody() {
     let mut slow = Vec::new();
     for bytes in [&b"GET /board HTT"[..], head.as_bytes(), &many] {
         for _ in 0..100 {
-            let mut stream = TcpStream::connect(station.address).expect("a connection");
-            stream.write_all(bytes).expect("taken");
-            slow.push(stream);
+            slow.push(sent(&station, bytes));
         }
     }
     let reader = station.reader("north");
