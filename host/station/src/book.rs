@@ -1,5 +1,5 @@
-//! What the station knows of the gateway's messages beside the gateway: when each was stored, and how many today.
-//! It is saved with the gateway, in one piece.
+//! What the station knows beside the gateway: when each message was stored, how many were today, and which order it is
+//! that a line sends. It is saved with the gateway, in one piece.
 
 use chrono::{DateTime, Local, NaiveDate, TimeZone};
 use ngachodui::{Gateway, LINES};
@@ -42,6 +42,8 @@ pub struct Book {
     today: NaiveDay,
     stored_today: [u32; LINES],
     last_stored: [Option<Moment>; LINES],
+    /// The order that each line sends.
+    sending: [Option<u64>; LINES],
     /// When messages were last archived, and how many.
     pub archived: Option<(Moment, usize)>,
 }
@@ -62,6 +64,7 @@ impl Default for Book {
             today: day(local(now()).date_naive()),
             stored_today: [0; LINES],
             last_stored: [None; LINES],
+            sending: [None; LINES],
             archived: None,
         }
     }
@@ -119,9 +122,24 @@ impl Book {
         &self.laboratories[usize::from(line)]
     }
 
-    /// A line is this laboratory's from now on.
+    /// A line is this laboratory's from now on; what it may still send is nobody's order.
     pub fn hand_over(&mut self, line: u8, laboratory: &str) {
         self.laboratories[usize::from(line)] = laboratory.to_string();
+        self.end_sending(line);
+    }
+
+    pub fn begin_sending(&mut self, line: u8, order: u64) {
+        self.sending[usize::from(line)] = Some(order);
+    }
+
+    pub fn end_sending(&mut self, line: u8) {
+        self.sending[usize::from(line)] = None;
+    }
+
+    /// The order that a line of this gateway sends.
+    pub fn sending(&self, gateway: &Gateway, line: u8) -> Option<u64> {
+        let sends = gateway.state(line).is_sending();
+        self.sending[usize::from(line)].filter(|_| sends)
     }
 
     pub fn stored_today(&self, line: u8) -> u32 {

@@ -118,7 +118,8 @@ impl Keeper {
         let waits = gateway.in_use();
         log.say(format_args!("loaded: {} bytes of messages wait", waits));
         let folder = settings.folder.join("orders");
-        let orders = Orders::load(&folder, settings.orders, |line| gateway.state(line))?;
+        let sends = |line| book.sending(&gateway, line);
+        let orders = Orders::load(&folder, settings.orders, sends)?;
         Ok(Keeper {
             log,
             gateway,
@@ -154,7 +155,7 @@ impl Keeper {
                     line
                 ));
                 self.gateway = Gateway::start(wanted);
-                self.orders.stop(|line| self.gateway.state(line));
+                self.orders.follow(|_| None);
                 self.owed = 0;
                 Ok(())
             }
@@ -337,6 +338,7 @@ impl Keeper {
             Answer::SendingEnded { .. } | Answer::GivenUp => {
                 let acknowledged = *answer == Answer::SendingEnded { acknowledged: true };
                 let at = Instant::now();
+                self.book.end_sending(line);
                 let order = self.orders.ended(line, acknowledged, &words(answer), at);
                 self.save_orders();
                 more = order.map_or(String::new(), |number| format!(", order {}", number));
@@ -388,9 +390,10 @@ impl Keeper {
                     continue;
                 }
                 let answer = self.gateway.send(line, &text);
-                if !matches!(answer, Answer::Sending { .. }) {
+                match answer {
+                    Answer::Sending { .. } => self.book.begin_sending(line, number),
                     // Its line has got a strip reader since, say.
-                    self.orders.ended(line, false, &words(&answer), at);
+                    _ => drop(self.orders.ended(line, false, &words(&answer), at)),
                 }
                 self.saving.is_saved = false;
                 self.lines[usize::from(line)].stir();

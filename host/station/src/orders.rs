@@ -3,7 +3,7 @@
 use crate::book::{local, now, Moment};
 use crate::settings::OrderSettings;
 use crate::store::{sync_folder, write_whole};
-use ngachodui::{State, LINES};
+use ngachodui::LINES;
 use serde::{Deserialize, Serialize};
 use serde_json::{json, Value};
 use std::collections::{BTreeMap, BTreeSet};
@@ -15,6 +15,8 @@ use std::time::Instant;
 /// So many orders may wait on a line, and of those that are over so many are kept.
 pub const MOST_WAITING: usize = 100;
 const MOST_OVER: usize = 1_000;
+
+const GOES_OUT: &str = "goes out";
 
 #[derive(Clone, Copy, Debug, PartialEq, Serialize, Deserialize)]
 #[serde(rename_all = "lowercase")]
@@ -112,11 +114,11 @@ pub struct UnderWay {
 }
 
 impl Orders {
-    /// Loads what the folder has. `state` says where each line is.
+    /// Loads what the folder has. `sends` says which order a line sends.
     pub fn load(
         folder: &Path,
         settings: OrderSettings,
-        state: impl Fn(u8) -> State,
+        sends: impl Fn(u8) -> Option<u64>,
     ) -> Result<Orders, String> {
         let told = |path: &Path, why: String| format!("{}: {}", path.display(), why);
         fs::create_dir_all(folder).map_err(|error| told(folder, error.to_string()))?;
@@ -142,19 +144,32 @@ impl Orders {
                 orders.orders.insert(number, order);
             }
         }
-        orders.stop(state);
+        orders.follow(sends);
         Ok(orders)
     }
 
-    /// An order whose line does not send any more waits again.
-    pub fn stop(&mut self, state: impl Fn(u8) -> State) {
-        let is_stopped =
-            |order: &&Order| order.state == Stage::Sending && !state(order.line).is_sending();
-        let stopped = self.orders.values().filter(is_stopped);
-        let stopped: Vec<u64> = stopped.map(|order| order.order).collect();
-        let words = "stopped with the station; tried again";
-        for number in stopped {
-            self.change(number, Stage::Waiting, words);
+    /// What a line sends is the gateway's to say, which was saved before or behind these files: `sends` says it. What
+    /// else was to go out waits again; and an order that goes out is not over, unless it has arrived.
+    pub fn follow(&mut self, sends: impl Fn(u8) -> Option<u64>) {
+        let turn = |order: &Order| {
+            let goes_out = sends(order.line) == Some(order.order);
+            match order.state {
+                Stage::Sending if !goes_out => Some(Stage::Waiting),
+                Stage::Waiting | Stage::Failed | Stage::Cancelled if goes_out => {
+                    Some(Stage::Sending)
+                }
+                _ => None,
+            }
+        };
+        let turns = self.orders.values();
+        let turns = turns.filter_map(|order| Some((order.order, turn(order)?)));
+        let turns: Vec<(u64, Stage)> = turns.collect();
+        for (number, stage) in turns {
+            let words = match stage {
+                Stage::Sending => GOES_OUT,
+                _ => "stopped with the station; tried again",
+            };
+            self.change(number, stage, words);
         }
     }
 
@@ -241,13 +256,17 @@ impl Orders {
     /// An order goes out: that is kept before its line sends, so that a line never sends one that is told to wait.
     pub fn started(&mut self, number: u64) -> io::Result<()> {
         self.change_kept(number, |order| {
-            order.turn(Stage::Sending, "goes out");
+            order.turn(Stage::Sending, GOES_OUT);
             order.tries += 1;
         })
     }
 
     /// The sending on a line is over.
     pub fn ended(&mut self, line: u8, acknowledged: bool, words: &str, at: Instant) -> Option<u64> {
+        if !acknowledged {
+            self.rest(line, at);
+        }
+        // None, if it had arrived already when the station was killed.
         let (number, tries) = self.sending(line).map(|order| (order.order, order.tries))?;
         let stage = match acknowledged {
             true => Stage::Sent,
@@ -255,9 +274,6 @@ impl Orders {
             false => Stage::Waiting,
         };
         self.change(number, stage, words);
-        if !acknowledged {
-            self.rest(line, at);
-        }
         Some(number)
     }
 

@@ -10,6 +10,8 @@ use tokio::sync::mpsc::{unbounded_channel, UnboundedReceiver};
 const ENQ: &[u8] = b"\x05";
 const FRAME: &[u8] = b"\x021H|\\^&\rL|1|N\r\x03B5\r\n";
 const ACK: &[u8] = b"\x06";
+const EOT: &[u8] = b"\x04";
+const STX: u8 = 0x02;
 
 /// A keeper with two lines of one laboratory, and what goes out on each.
 struct Bench {
@@ -103,10 +105,35 @@ impl Bench {
         answered.try_recv().expect("settled")
     }
 
+    fn place(&mut self, line: u8, text: &[u8]) {
+        let text = text.to_vec();
+        assert_eq!(self.ask(Request::Place { line, text }).status, 202);
+    }
+
     /// Its power is cut, and another begins with what the disk has.
     fn again(self, folder: &Folder) -> Bench {
         drop(self);
         bench(folder)
+    }
+
+    /// The same, with what it does last: the files of orders are written, and the gateway is not saved any more.
+    fn again_unsaved(mut self, folder: &Folder, last: impl FnOnce(&mut Bench)) -> Bench {
+        let state = folder.path.join("state");
+        let before = fs::read(&state).expect("saved");
+        last(&mut self);
+        drop(self);
+        fs::write(&state, before).expect("written");
+        bench(folder)
+    }
+
+    /// An analyzer takes what a line sends up to the last frame; that is not acknowledged yet.
+    fn take_all_frames(&mut self, line: u8, text: &[u8]) {
+        let mut frames = [0; ngachodui::CUT_LIMIT];
+        let length = ngachodui::cut(text, &mut frames).expect("a message");
+        let count = frames[..length].iter().filter(|byte| **byte == STX).count();
+        for _ in 0..count {
+            assert_eq!(self.hear(line, ACK)[0], STX);
+        }
     }
 }
 
@@ -224,30 +251,93 @@ fn an_order_goes_out_and_is_kept() {
     let folder = Folder::new();
     let mut bench = bench(&folder);
     let text = texts::order(0, 1);
-    let placed = bench.ask(Request::Place { line: 0, text });
-    assert_eq!(placed.status, 202);
+    bench.place(0, &text);
     // Its line is told its seconds; it asks, and the station is killed before the analyzer replies.
     bench.keeper.pass(1).expect("sound");
     assert_eq!(bench.sent(0), ENQ);
     let mut bench = bench.again(&folder);
     assert!(bench.keeper.orders.under_way(0).is_some());
-    let mut frames = 0;
-    while bench.hear(0, ACK) != b"\x04" {
-        frames += 1;
-    }
-    assert!(frames > 1);
+    bench.take_all_frames(0, &text);
+    assert_eq!(bench.hear(0, ACK), EOT);
     let tally = bench.keeper.orders.tally(0);
     assert_eq!((tally.waiting, tally.sent, tally.failed), (0, 1, 0));
     let bench = bench.again(&folder);
     assert_eq!(bench.keeper.orders.tally(0), tally);
 }
 
+/// What the gateway sends is the order that it was saved with, whatever the next one's file says.
+#[test]
+fn an_order_begun_and_not_saved_waits() {
+    let folder = Folder::new();
+    let mut bench = bench(&folder);
+    let orders = [texts::order(0, 1), texts::order(0, 2)];
+    orders.iter().for_each(|text| bench.place(0, text));
+    bench.keeper.pass(1).expect("sound");
+    assert_eq!(bench.sent(0), ENQ);
+    bench.take_all_frames(0, &orders[0]);
+    let mut bench = bench.again_unsaved(&folder, |bench| {
+        assert_eq!(bench.hear(0, ACK), EOT);
+        bench.keeper.pass(1).expect("sound");
+        assert_eq!(bench.sent(0), ENQ);
+    });
+    let tally = |bench: &Bench| {
+        let tally = bench.keeper.orders.tally(0);
+        (tally.waiting, tally.sent, tally.failed)
+    };
+    assert_eq!(tally(&bench), (1, 1, 0));
+    // The first one's end comes again, and is no news.
+    assert_eq!(bench.hear(0, ACK), EOT);
+    assert_eq!(tally(&bench), (1, 1, 0));
+    bench.keeper.pass(1).expect("sound");
+    assert_eq!(bench.sent(0), ENQ);
+    bench.take_all_frames(0, &orders[1]);
+    assert_eq!(bench.hear(0, ACK), EOT);
+    assert_eq!(tally(&bench), (0, 2, 0));
+}
+
+/// What was told of a sending that was dropped, told before that was saved, is not the last word.
+#[test]
+fn an_order_that_is_still_sent_is_not_over() {
+    let folder = Folder::new();
+    let drops: [fn(&mut Bench); 3] = [
+        |_| {},
+        |bench| {
+            let (lines, number) = (vec![0, 1], 2);
+            assert_eq!(bench.ask(Request::Cancel { lines, number }).status, 200);
+        },
+        |bench| {
+            bench.keeper.pass(1).expect("sound");
+            assert_eq!(bench.sent(0), ENQ);
+            assert_eq!(bench.hear(0, ENQ), b"");
+            assert_eq!(bench.keeper.orders.tally(0).failed, 1);
+        },
+    ];
+    let mut bench = bench(&folder);
+    for (then, sent) in drops.into_iter().zip(0..) {
+        let text = texts::order(0, sent);
+        bench.place(0, &text);
+        bench.keeper.pass(1).expect("sound");
+        assert_eq!(bench.sent(0), ENQ);
+        // The analyzer asks for itself, the sending is dropped, and the kill undoes that.
+        bench = bench.again_unsaved(&folder, |bench| {
+            assert_eq!(bench.hear(0, ENQ), b"");
+            assert!(bench.keeper.orders.under_way(0).is_none());
+            then(bench);
+        });
+        assert!(bench.keeper.orders.under_way(0).is_some());
+        bench.take_all_frames(0, &text);
+        assert_eq!(bench.hear(0, ACK), EOT);
+        let tally = bench.keeper.orders.tally(0);
+        let sent = sent as usize + 1;
+        assert_eq!((tally.waiting, tally.sent, tally.failed), (0, sent, 0));
+    }
+}
+
 #[test]
 fn an_order_that_is_not_taken_fails_in_the_end() {
     let folder = Folder::new();
     let mut bench = bench(&folder);
-    let text = texts::order(1, 1);
-    bench.ask(Request::Place { line: 1, text });
+    bench.place(1, &texts::order(1, 1));
     for sending in 1..=2 {
         bench.keeper.pass(1).expect("sound");
         assert_eq!(bench.sent(1), ENQ, "sending {}", sending);
@@ -297,7 +387,7 @@ fn serials_that_are_confirmed() {
         let length = ngachodui::cut(&text, &mut frames).expect("a message");
         bench.hear(0, ENQ);
         bench.hear(0, &frames[..length]);
-        bench.hear(0, b"\x04");
+        bench.hear(0, EOT);
         assert_eq!(bench.keeper.book.waiting_count(0), number + 1);
     }
     let mut confirm = |serial| {
@@ -384,9 +474,7 @@ fn a_line_changes_hands_only_where_nothing_waits() {
     assert!(!folder.path.join("archive/south").exists());
 
     let mut second = bench(&folder);
-    let text = texts::order(1, 1);
-    let placed = second.ask(Request::Place { line: 1, text });
-    assert_eq!(placed.status, 202);
+    second.place(1, &texts::order(1, 1));
     drop(second);
     refused("orders wait");
     let mut third = bench(&folder);
@@ -433,9 +521,7 @@ fn an_order_for_a_line_that_has_a_strip_reader_now() {
     let folder = Folder::new();
     let mut first = bench(&folder);
     for number in [1, 2] {
-        let text = texts::order(1, number);
-        let placed = first.ask(Request::Place { line: 1, text });
-        assert_eq!(placed.status, 202);
+        first.place(1, &texts::order(1, number));
     }
     first.keeper.pass(1).expect("sound");
     assert_eq!(first.sent(1), ENQ);
@@ -497,8 +583,7 @@ fn a_line_rests_behind_a_sending_that_was_dropped() {
     settings.orders.again = Duration::from_secs(60);
     let mut bench = bench_with(Arc::new(settings));
     for number in [1, 2] {
-        let text = texts::order(0, number);
-        assert_eq!(bench.ask(Request::Place { line: 0, text }).status, 202);
+        bench.place(0, &texts::order(0, number));
     }
     bench.keeper.pass(1).expect("sound");
     assert_eq!(bench.sent(0), ENQ);
