@@ -148,8 +148,8 @@ impl Orders {
         Ok(orders)
     }
 
-    /// What a line sends is the gateway's to say, which was saved before or behind these files: `sends` says it. What
-    /// else was to go out waits again; and an order that goes out is not over, unless it has arrived.
+    /// A kill may leave these files ahead of the gateway, and what a line sends is the gateway's to say: `sends` says it.
+    /// What else was to go out waits again; and an order that goes out is not over, unless it has arrived.
     pub fn follow(&mut self, sends: impl Fn(u8) -> Option<u64>) {
         let turn = |order: &Order| {
             let goes_out = sends(order.line) == Some(order.order);
