@@ -1,21 +1,37 @@
 //! The board's numbers, for its page and for a monitoring system. No text of a message is among them: everybody
 //! looks at the board.
 
-use crate::book::local;
+use crate::book::{local, now, Moment};
 use crate::keeper::Keeper;
 use crate::lines::Told;
 use crate::orders::{Tally, UnderWay};
 use crate::settings::spoken;
 use ngachodui::{State, JOURNAL_SIZE, LINES, SHARE};
-use serde::Serialize;
+use serde::{Serialize, Serializer};
 use serde_json::Value;
 use std::fmt::Write;
 use std::sync::{Arc, RwLock};
 
+/// A moment, which the page gets as people write it, and a monitoring system as seconds since 1970.
+#[derive(Clone, Copy)]
+struct Time(Moment);
+
+impl Time {
+    fn seconds(self) -> f64 {
+        self.0 as f64 / 1_000.0
+    }
+}
+
+impl Serialize for Time {
+    fn serialize<S: Serializer>(&self, serializer: S) -> Result<S::Ok, S::Error> {
+        serializer.serialize_str(&local(self.0).to_rfc3339())
+    }
+}
+
 #[derive(Serialize)]
 pub struct Board {
-    now: String,
-    started: String,
+    now: Time,
+    started: Time,
     saved: Saved,
     journal: Journal,
     archive: Archive,
@@ -25,7 +41,8 @@ pub struct Board {
 
 #[derive(Serialize)]
 struct Saved {
-    at: Option<String>,
+    /// Since the station was started.
+    at: Option<Time>,
     milliseconds: f64,
     count: u64,
     trouble: Option<String>,
@@ -34,7 +51,7 @@ struct Saved {
 #[derive(Serialize)]
 struct Journal {
     size: usize,
-    used: u32,
+    in_use: u32,
     claimed: u32,
     share: u32,
 }
@@ -42,8 +59,9 @@ struct Journal {
 #[derive(Serialize)]
 struct Archive {
     daily: Option<String>,
-    last: Option<String>,
+    last: Option<Time>,
     messages: usize,
+    trouble: Option<String>,
 }
 
 /// Why what became of orders is not kept.
@@ -63,16 +81,13 @@ struct Line {
     state: &'static str,
     waiting: usize,
     stored_today: u32,
-    last_stored: Option<String>,
+    last_stored: Option<Time>,
     used: u32,
     answers: Vec<Told>,
     refused: Vec<Value>,
+    refused_count: u64,
     sending: Option<UnderWay>,
     orders: Tally,
-}
-
-fn written(moment: i64) -> String {
-    local(moment).to_rfc3339()
 }
 
 fn named(state: State) -> &'static str {
@@ -92,17 +107,17 @@ impl Board {
         let saving = &keeper.saving;
         let archived = keeper.book.archived;
         Board {
-            now: written(crate::book::now()),
-            started: written(keeper.started),
+            now: Time(now()),
+            started: Time(keeper.started),
             saved: Saved {
-                at: saving.at.map(written),
+                at: saving.at.map(Time),
                 milliseconds: saving.took.as_micros() as f64 / 1_000.0,
                 count: saving.count(),
                 trouble: saving.trouble.clone(),
             },
             journal: Journal {
                 size: JOURNAL_SIZE,
-                used: keeper.gateway.in_use(),
+                in_use: keeper.gateway.in_use(),
                 claimed: (0..LINES as u8).map(claim).sum(),
                 share: SHARE,
             },
@@ -111,8 +126,9 @@ impl Board {
                     .settings
                     .archive_at
                     .map(|time| time.format("%H:%M").to_string()),
-                last: archived.map(|(at, _)| written(at)),
+                last: archived.map(|(at, _)| Time(at)),
                 messages: archived.map_or(0, |(_, count)| count),
+                trouble: keeper.archive_trouble.clone(),
             },
             orders: Orders {
                 trouble: keeper.orders_trouble.clone(),
@@ -126,74 +142,90 @@ impl Board {
         }
     }
 
-    /// The same numbers as Prometheus reads them.
+    /// The same numbers as Prometheus reads them. What there is not yet is left out.
     fn metrics(&self) -> String {
         let mut out = String::new();
-        self.put_whole(&mut out);
-        self.put_lines(&mut out);
+        for (name, kind, value) in self.whole() {
+            let _ = writeln!(out, "# TYPE station_{} {}", name, kind);
+            if let Some(value) = value {
+                let _ = writeln!(out, "station_{} {}", name, value);
+            }
+        }
+        for (name, kind, value) in EACH_LINE {
+            let _ = writeln!(out, "# TYPE station_line_{} {}", name, kind);
+            for line in &self.lines {
+                if let Some(value) = value(line) {
+                    // A laboratory's name has no character that would have to be escaped.
+                    let _ = writeln!(
+                        out,
+                        "station_line_{}{{line=\"{}\",laboratory=\"{}\"}} {}",
+                        name, line.line, line.laboratory, value
+                    );
+                }
+            }
+        }
         out
     }
 
-    fn put_whole(&self, out: &mut String) {
-        let whole: [(&str, &str, f64); 6] = [
-            ("journal_used_bytes", "gauge", self.journal.used.into()),
+    fn whole(&self) -> [(&'static str, &'static str, Option<f64>); 10] {
+        let (saved, archive) = (&self.saved, &self.archive);
+        let archived = archive.last.map(|_| archive.messages as f64);
+        [
+            ("start_seconds", GAUGE, Some(self.started.seconds())),
+            ("saves_total", COUNTER, Some(saved.count as f64)),
+            ("save_milliseconds", GAUGE, Some(saved.milliseconds)),
+            ("save_trouble", GAUGE, flag(saved.trouble.is_some())),
+            (
+                "journal_in_use_bytes",
+                GAUGE,
+                Some(self.journal.in_use.into()),
+            ),
             (
                 "journal_claimed_bytes",
-                "gauge",
-                self.journal.claimed.into(),
+                GAUGE,
+                Some(self.journal.claimed.into()),
             ),
-            ("saves_total", "counter", self.saved.count as f64),
-            ("save_milliseconds", "gauge", self.saved.milliseconds),
-            ("save_trouble", "gauge", flag(self.saved.trouble.is_some())),
-            (
-                "orders_trouble",
-                "gauge",
-                flag(self.orders.trouble.is_some()),
-            ),
-        ];
-        for (name, kind, value) in whole {
-            let _ = writeln!(
-                out,
-                "# TYPE station_{} {}\nstation_{} {}",
-                name, kind, name, value
-            );
-        }
-    }
-
-    fn put_lines(&self, out: &mut String) {
-        let each: [(&str, Measure); 9] = [
-            ("connected", |line| flag(line.connected)),
-            ("messages_waiting", |line| line.waiting as f64),
-            ("messages_stored_today", |line| line.stored_today.into()),
-            ("used_bytes", |line| line.used.into()),
-            ("refused_kept", |line| line.refused.len() as f64),
-            ("sending", |line| flag(line.sending.is_some())),
-            ("orders_waiting", |line| line.orders.waiting as f64),
-            ("orders_sent", |line| line.orders.sent as f64),
-            ("orders_failed", |line| line.orders.failed as f64),
-        ];
-        for (name, value) in each {
-            let _ = writeln!(out, "# TYPE station_line_{} gauge", name);
-            for line in &self.lines {
-                // A laboratory's name has no character that would have to be escaped.
-                let _ = writeln!(
-                    out,
-                    "station_line_{}{{line=\"{}\",laboratory=\"{}\"}} {}",
-                    name,
-                    line.line,
-                    line.laboratory,
-                    value(line)
-                );
-            }
-        }
+            ("archive_seconds", GAUGE, archive.last.map(Time::seconds)),
+            ("archive_messages", GAUGE, archived),
+            ("archive_trouble", GAUGE, flag(archive.trouble.is_some())),
+            ("orders_trouble", GAUGE, flag(self.orders.trouble.is_some())),
+        ]
     }
 }
 
-/// A number of a line.
-type Measure = fn(&Line) -> f64;
+const GAUGE: &str = "gauge";
+const COUNTER: &str = "counter";
 
-fn flag(is: bool) -> f64 {
-    f64::from(u8::from(is))
+/// A number of a line, if there is one yet.
+type Measure = fn(&Line) -> Option<f64>;
+
+const EACH_LINE: [(&str, &str, Measure); 10] = [
+    ("connected", GAUGE, |line| flag(line.connected)),
+    ("messages_waiting", GAUGE, |line| Some(line.waiting as f64)),
+    ("messages_stored_today", GAUGE, |line| {
+        Some(line.stored_today.into())
+    }),
+    ("last_stored_seconds", GAUGE, |line| {
+        line.last_stored.map(Time::seconds)
+    }),
+    ("used_bytes", GAUGE, |line| Some(line.used.into())),
+    ("messages_refused_total", COUNTER, |line| {
+        Some(line.refused_count as f64)
+    }),
+    ("sending", GAUGE, |line| flag(line.sending.is_some())),
+    ("orders_waiting", GAUGE, |line| {
+        Some(line.orders.waiting as f64)
+    }),
+    ("orders_sent_today", GAUGE, |line| {
+        Some(line.orders.sent_today as f64)
+    }),
+    ("orders_failed_today", GAUGE, |line| {
+        Some(line.orders.failed_today as f64)
+    }),
+];
+
+fn flag(is: bool) -> Option<f64> {
+    Some(f64::from(u8::from(is)))
 }
 
 impl Line {
@@ -211,10 +243,11 @@ impl Line {
             state: named(keeper.gateway.state(line)),
             waiting: keeper.book.waiting_count(line),
             stored_today: keeper.book.stored_today(line),
-            last_stored: keeper.book.last_stored(line).map(written),
+            last_stored: keeper.book.last_stored(line).map(Time),
             used: keeper.gateway.used(line),
             answers: view.answers(),
             refused: view.refused_on_board(),
+            refused_count: view.refused_count(),
             sending: keeper.orders.under_way(line),
             orders: keeper.orders.tally(line),
         }

@@ -1,7 +1,7 @@
 //! What the station knows beside the gateway: when each message was stored, how many were today, and which order it is
 //! that a line sends. It is saved with the gateway, in one piece.
 
-use chrono::{DateTime, Local, NaiveDate, TimeZone};
+use chrono::{DateTime, Datelike, Local, TimeZone};
 use ngachodui::{Gateway, LINES};
 use serde::{Deserialize, Serialize};
 use std::collections::VecDeque;
@@ -39,7 +39,7 @@ pub struct Book {
     laboratories: [String; LINES],
     /// How many messages were stored, in all and on each line today.
     stored: u64,
-    today: NaiveDay,
+    today: Day,
     stored_today: [u32; LINES],
     last_stored: [Option<Moment>; LINES],
     /// The order that each line sends.
@@ -49,10 +49,20 @@ pub struct Book {
 }
 
 /// A day, by its number.
-type NaiveDay = i32;
+type Day = i32;
 
-fn day(date: NaiveDate) -> NaiveDay {
-    chrono::Datelike::num_days_from_ce(&date)
+/// The day of a moment, in this place.
+pub fn day(moment: Moment) -> Day {
+    local(moment).date_naive().num_days_from_ce()
+}
+
+/// A moment for people: with its day where that is not today.
+pub fn time_of(moment: Moment) -> String {
+    let form = match day(moment) == day(now()) {
+        true => "%H:%M:%S",
+        false => "%-d %b %H:%M:%S",
+    };
+    local(moment).format(form).to_string()
 }
 
 impl Default for Book {
@@ -61,7 +71,7 @@ impl Default for Book {
             waiting: Default::default(),
             laboratories: Default::default(),
             stored: 0,
-            today: day(local(now()).date_naive()),
+            today: day(now()),
             stored_today: [0; LINES],
             last_stored: [None; LINES],
             sending: [None; LINES],
@@ -95,7 +105,7 @@ impl Book {
 
     /// A day may have ended.
     pub fn pass(&mut self, moment: Moment) {
-        let today = day(local(moment).date_naive());
+        let today = day(moment);
         if today != self.today {
             self.today = today;
             self.stored_today = [0; LINES];

@@ -80,7 +80,7 @@ pub struct Order {
     pub order: u64,
     pub line: u8,
     pub state: String,
-    pub tries: u32,
+    pub starts: u32,
     pub placed: String,
     pub changed: String,
     pub words: Option<String>,
@@ -297,7 +297,7 @@ mod tests {
 
     #[test]
     fn orders_over_one_connection() {
-        let orders = r#"{"orders":[{"order":17,"line":3,"state":"sent","tries":1,
+        let orders = r#"{"orders":[{"order":17,"line":3,"state":"sent","starts":1,
             "placed":"then","changed":"now","words":"acknowledged"}]}"#;
         let replies = vec![
             reply("202 Accepted", "", r#"{"order":17}"#),
@@ -309,7 +309,7 @@ mod tests {
         assert_eq!(client.order(3, text).expect("a reply"), 17);
         let order = &client.orders().expect("a reply")[0];
         assert_eq!((order.order, order.line), (17, 3));
-        assert_eq!((&*order.state, order.tries), ("sent", 1));
+        assert_eq!((&*order.state, order.starts), ("sent", 1));
 
         let requests = server.join().expect("the server's end");
         assert_eq!(asked(&requests), ["POST /orders/3", "GET /orders"]);

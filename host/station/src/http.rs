@@ -238,7 +238,7 @@ impl Http {
         match timeout(KEEPER_TIME, answered).await {
             Ok(Ok(reply)) => reply,
             Ok(Err(_)) => Reply::error(503, "the station stops"),
-            Err(_) => Reply::error(504, "the station is busy saving; ask again"),
+            Err(_) => Reply::error(504, "no answer in time; what was asked may still be done"),
         }
     }
 }

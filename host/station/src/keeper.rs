@@ -10,7 +10,7 @@ use crate::book::{now, Book};
 use crate::lines::LineView;
 use crate::log::Log;
 use crate::orders::Orders;
-use crate::requests::{Reply, Request};
+use crate::requests::{cannot_save, Reply, Request};
 use crate::saving::Saving;
 use crate::settings::Settings;
 use crate::words::words;
@@ -90,6 +90,8 @@ pub struct Keeper {
     pub(crate) saving: Saving,
     /// Why what became of orders is not kept.
     pub(crate) orders_trouble: Option<String>,
+    /// Why the last archive was none.
+    pub(crate) archive_trouble: Option<String>,
     pub(crate) started: i64,
     leaving: Leaving,
     ports: Vec<Option<UnboundedSender<Vec<u8>>>>,
@@ -128,6 +130,7 @@ impl Keeper {
             lines: (0..LINES).map(|_| LineView::new()).collect(),
             saving,
             orders_trouble: None,
+            archive_trouble: None,
             started: now(),
             leaving: Leaving::default(),
             ports: (0..LINES).map(|_| None).collect(),
@@ -180,7 +183,7 @@ impl Keeper {
             let is_free = self.orders.hand_over(line);
             if !is_free.map_err(|error| format!("orders: {}", error))? {
                 return Err(format!(
-                    "line {} was of {:?}, whose orders wait: have them taken back first",
+                    "line {} was of {:?}, whose orders wait: have them cancelled first",
                     line, before
                 ));
             }
@@ -195,8 +198,9 @@ impl Keeper {
         self.saving.trouble.map_or(Ok(()), Err)
     }
 
-    /// Where the board's numbers are to be seen.
-    pub fn published(&self) -> Arc<Published> {
+    /// Where the board's numbers are to be seen, from now on.
+    pub fn published(&mut self) -> Arc<Published> {
+        self.publish();
         self.published.clone()
     }
 
@@ -374,13 +378,13 @@ impl Keeper {
         }
     }
 
-    /// Starts the next order of each line that has been quiet for a while.
+    /// Starts the next order of each line that has been silent for a while.
     fn start_orders(&mut self) -> Result<(), Damaged> {
         let at = Instant::now();
         for k in 0..self.settings.lines.len() {
             let line = self.settings.lines[k].number;
             let is_free = self.gateway.state(line) == State::Neutral
-                && self.lines[usize::from(line)].is_quiet(at, self.settings.orders.pause);
+                && self.lines[usize::from(line)].is_silent(at, self.settings.orders.silence);
             let due = is_free.then(|| self.orders.due(line, at)).flatten();
             if let Some((number, text)) = due {
                 if let Err(error) = self.orders.started(number) {
@@ -461,7 +465,7 @@ impl Keeper {
         for (reply, answer) in leaving.replies {
             let answer = match may_leave {
                 true => answer,
-                false => Reply::error(503, "the station cannot save, and so hands nothing out"),
+                false => cannot_save(),
             };
             let _ = reply.send(answer);
         }

@@ -1,6 +1,6 @@
 //! What is told of a line on the board: its port, its last answers, what it refused.
 
-use crate::book::{local, now, Moment};
+use crate::book::{local, now, time_of, Moment};
 use crate::words::{advice, is_told, words};
 use ngachodui::Answer;
 use serde::Serialize;
@@ -32,6 +32,7 @@ struct Refused {
     at: Moment,
     number: u8,
     words: String,
+    advice: &'static str,
     /// The record that is wrong, counted from 1, and its first letter.
     record: Option<u16>,
     kind: Option<char>,
@@ -43,6 +44,8 @@ pub struct LineView {
     closed: Option<(Moment, String)>,
     answers: VecDeque<Told>,
     refused: VecDeque<Refused>,
+    /// How many messages were refused since the station was started.
+    refused_count: u64,
     stirred: Instant,
     logged: u32,
 }
@@ -53,6 +56,7 @@ impl LineView {
             closed: Some((now(), "not open yet".to_string())),
             answers: VecDeque::new(),
             refused: VecDeque::new(),
+            refused_count: 0,
             stirred: Instant::now(),
             logged: 0,
         }
@@ -73,9 +77,7 @@ impl LineView {
     }
 
     pub fn trouble(&self) -> Option<String> {
-        let told = |(since, why): &(Moment, String)| {
-            format!("{}, since {}", why, local(*since).format("%H:%M:%S"))
-        };
+        let told = |(since, why): &(Moment, String)| format!("{}, since {}", why, time_of(*since));
         self.closed.as_ref().map(told)
     }
 
@@ -85,8 +87,8 @@ impl LineView {
     }
 
     /// Whether nothing has come in or gone out for so long, on a port that is open.
-    pub fn is_quiet(&self, at: Instant, pause: Duration) -> bool {
-        self.is_connected() && at.saturating_duration_since(self.stirred) >= pause
+    pub fn is_silent(&self, at: Instant, silence: Duration) -> bool {
+        self.is_connected() && at.saturating_duration_since(self.stirred) >= silence
     }
 
     pub fn note(&mut self, answer: &Answer) {
@@ -125,10 +127,12 @@ impl LineView {
             Answer::NoRoom | Answer::Crowded => "no room".to_string(),
             answer => words(answer),
         };
+        self.refused_count += 1;
         self.refused.push_front(Refused {
             at: now(),
             number: answer.number(),
             words: what,
+            advice: advice(answer),
             record,
             kind,
             text: text.to_vec(),
@@ -140,6 +144,10 @@ impl LineView {
         self.answers.iter().cloned().collect()
     }
 
+    pub fn refused_count(&self) -> u64 {
+        self.refused_count
+    }
+
     /// For the board, which everybody sees: no text.
     pub fn refused_on_board(&self) -> Vec<Value> {
         let told = |refused: &Refused| {
@@ -147,6 +155,7 @@ impl LineView {
                 "at": local(refused.at).to_rfc3339(),
                 "number": refused.number,
                 "words": refused.words,
+                "advice": refused.advice,
                 "record": refused.record,
                 "kind": refused.kind,
                 "bytes": refused.text.len(),
@@ -190,5 +199,65 @@ impl LineView {
 impl Default for LineView {
     fn default() -> LineView {
         LineView::new()
+    }
+}
+
+#[cfg(test)]
+mod tests {
+    use super::*;
+    use ngachodui::Fault;
+
+    #[test]
+    fn a_line_that_floods_has_so_many_lines_of_the_log_in_a_second() {
+        let mut view = LineView::new();
+        let mut logged = || (0..60).filter(|_| view.may_log()).count() as u32;
+        assert_eq!(logged(), MOST_LOGGED);
+        assert_eq!(logged(), 0);
+        let mut lost = 0;
+        view.end_second(|count| lost = count);
+        assert_eq!(lost, 120 - MOST_LOGGED);
+        assert!(view.may_log());
+        view.end_second(|count| panic!("{} were lost", count));
+    }
+
+    #[test]
+    fn refused_messages_are_counted_and_the_last_are_kept() {
+        let mut view = LineView::new();
+        let faulty = |place| Answer::Faulty {
+            fault: Fault::UnknownType,
+            place,
+        };
+        // The second record has no letter, and the third is not there.
+        for place in [1, 2, 3] {
+            view.refuse(&faulty(place), b"H|\\^&\r\r");
+        }
+        let board = view.refused_on_board();
+        let kinds: Vec<&Value> = board.iter().map(|one| &one["kind"]).collect();
+        assert_eq!(kinds, [&Value::Null, &Value::Null, &json!("H")]);
+        assert_eq!(board[2]["advice"], advice(&faulty(1)));
+        for _ in 0..30 {
+            view.refuse(&Answer::NoRoom, b"text");
+        }
+        assert_eq!(view.refused_count(), 33);
+        assert_eq!(view.refused_on_board().len(), MOST_REFUSED_ON_BOARD);
+        let all: Vec<Value> = view.refused_with_text(5).collect();
+        assert_eq!(all.len(), MOST_REFUSED);
+        assert_eq!(
+            (&all[0]["line"], &all[0]["text"]),
+            (&json!(5), &json!("text"))
+        );
+    }
+
+    #[test]
+    fn since_when_a_port_is_closed() {
+        let mut view = LineView::new();
+        assert!(view.see_port(Some("hung up".to_string())));
+        assert!(!view.see_port(Some("hung up".to_string())));
+        let yesterday = now() - 86_400_000;
+        view.closed = Some((yesterday, "hung up".to_string()));
+        let day = local(yesterday).format("%-d %b").to_string();
+        assert!(view.trouble().expect("closed").contains(&day));
+        assert!(view.see_port(None));
+        assert_eq!(view.trouble(), None);
     }
 }

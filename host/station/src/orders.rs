@@ -1,6 +1,6 @@
 //! Work orders: kept in files of their own until their analyzer has acknowledged them, and a while longer.
 
-use crate::book::{local, now, Moment};
+use crate::book::{day, local, now, Moment};
 use crate::settings::OrderSettings;
 use crate::store::{sync_folder, write_whole};
 use ngachodui::LINES;
@@ -40,7 +40,7 @@ pub struct Order {
     order: u64,
     pub line: u8,
     state: Stage,
-    tries: u32,
+    starts: u32,
     placed: Moment,
     changed: Moment,
     words: String,
@@ -54,7 +54,7 @@ impl Order {
             "order": self.order,
             "line": self.line,
             "state": self.state,
-            "tries": self.tries,
+            "starts": self.starts,
             "placed": local(self.placed).to_rfc3339(),
             "changed": local(self.changed).to_rfc3339(),
             "words": self.words,
@@ -97,12 +97,12 @@ pub struct Orders {
     rests_until: [Option<Instant>; LINES],
 }
 
-/// What is told of a line's orders.
+/// What is told of a line's orders: how many wait, and how many of those that were sent or failed did so today.
 #[derive(Clone, Copy, Debug, Default, PartialEq, Serialize)]
 pub struct Tally {
     pub waiting: usize,
-    pub sent: usize,
-    pub failed: usize,
+    pub sent_today: usize,
+    pub failed_today: usize,
 }
 
 /// The order that a line sends.
@@ -110,7 +110,7 @@ pub struct Tally {
 pub struct UnderWay {
     order: u64,
     since: String,
-    tries: u32,
+    starts: u32,
 }
 
 impl Orders {
@@ -185,7 +185,7 @@ impl Orders {
             order: number,
             line,
             state: Stage::Waiting,
-            tries: 0,
+            starts: 0,
             placed: at,
             changed: at,
             words: "waits for its line".to_string(),
@@ -196,12 +196,12 @@ impl Orders {
         Ok(number)
     }
 
-    /// Takes a waiting order back. False: it does not wait.
+    /// Cancels a waiting order. False: it does not wait.
     pub fn cancel(&mut self, number: u64) -> io::Result<bool> {
         let waits = self.orders.get(&number).map(|order| order.state) == Some(Stage::Waiting);
         if waits {
             self.change_kept(number, |order| {
-                order.turn(Stage::Cancelled, "taken back before it was sent")
+                order.turn(Stage::Cancelled, "cancelled before it was sent")
             })?;
         }
         Ok(waits)
@@ -219,12 +219,13 @@ impl Orders {
 
     pub fn tally(&self, line: u8) -> Tally {
         let mut tally = Tally::default();
+        let today = day(now());
         for order in self.of_lines(&[line]) {
             match order.state {
                 Stage::Waiting => tally.waiting += 1,
-                Stage::Sent => tally.sent += 1,
-                Stage::Failed => tally.failed += 1,
-                Stage::Sending | Stage::Cancelled => {}
+                Stage::Sent if day(order.changed) == today => tally.sent_today += 1,
+                Stage::Failed if day(order.changed) == today => tally.failed_today += 1,
+                _ => {}
             }
         }
         tally
@@ -239,7 +240,7 @@ impl Orders {
         self.sending(line).map(|order| UnderWay {
             order: order.order,
             since: local(order.changed).to_rfc3339(),
-            tries: order.tries,
+            starts: order.starts,
         })
     }
 
@@ -257,7 +258,7 @@ impl Orders {
     pub fn started(&mut self, number: u64) -> io::Result<()> {
         self.change_kept(number, |order| {
             order.turn(Stage::Sending, GOES_OUT);
-            order.tries += 1;
+            order.starts += 1;
         })
     }
 
@@ -267,10 +268,12 @@ impl Orders {
             self.rest(line, at);
         }
         // None, if it had arrived already when the station was killed.
-        let (number, tries) = self.sending(line).map(|order| (order.order, order.tries))?;
+        let (number, starts) = self
+            .sending(line)
+            .map(|order| (order.order, order.starts))?;
         let stage = match acknowledged {
             true => Stage::Sent,
-            false if tries >= self.settings.tries => Stage::Failed,
+            false if starts >= self.settings.starts => Stage::Failed,
             false => Stage::Waiting,
         };
         self.change(number, stage, words);

@@ -127,7 +127,7 @@ async fn serve(
             bytes = outgoing.recv() => match timeout(PATIENCE, port.write(&bytes?)).await {
                 Ok(Ok(())) => {}
                 Ok(Err(error)) => return Some(error),
-                Err(_) => return Some(ErrorKind::TimedOut.into()),
+                Err(_) => return Some(ErrorKind::WriteZero.into()),
             },
             count = port.read(&mut piece) => match count {
                 Ok(0) => return Some(ErrorKind::UnexpectedEof.into()),
@@ -147,7 +147,8 @@ async fn serve(
 fn in_words(error: &io::Error) -> String {
     match error.kind() {
         ErrorKind::UnexpectedEof => "hung up".to_string(),
-        ErrorKind::TimedOut => "takes nothing".to_string(),
+        ErrorKind::WriteZero => "takes nothing".to_string(),
+        ErrorKind::TimedOut => "does not answer".to_string(),
         _ => match error.raw_os_error().map(Errno::from_i32) {
             // What a terminal says whose other end was closed.
             Some(Errno::EIO) => "hung up".to_string(),
@@ -270,4 +271,94 @@ pub fn baud_rate(speed: u32) -> Option<BaudRate> {
         115_200 => BaudRate::B115200,
         _ => return None,
     })
+}
+
+#[cfg(test)]
+mod tests {
+    use super::*;
+    use crate::simulated::Cable;
+    use nix::sys::termios::{LocalFlags, OutputFlags};
+    use std::sync::mpsc::channel;
+    use tokio::runtime::Builder;
+    use tokio::sync::mpsc::unbounded_channel;
+
+    const MODE: Mode = Mode {
+        speed: 9_600,
+        parity: Parity::None,
+        data_bits: 8,
+        stop_bits: 1,
+    };
+
+    /// A terminal takes any speed, and is always of 8 bits: the rest is looked at before it is set.
+    #[test]
+    fn a_device_is_set_as_the_settings_say() {
+        let (_cable, path) = Cable::master();
+        let device = open_device(&path).expect("a terminal");
+        for speed in [300, 9_600, 115_200] {
+            set_up(&device, Some(Mode { speed, ..MODE })).expect("a terminal");
+            let set = termios::tcgetattr(device.as_raw_fd()).expect("a terminal");
+            assert_eq!(termios::cfgetospeed(&set), baud_rate(speed).expect("one"));
+            let translates = InputFlags::ICRNL | InputFlags::IXON | InputFlags::ISTRIP;
+            assert!(!set.input_flags.intersects(translates));
+            assert!(!set.output_flags.contains(OutputFlags::OPOST));
+            let cooked = LocalFlags::ICANON | LocalFlags::ECHO | LocalFlags::ISIG;
+            assert!(!set.local_flags.intersects(cooked));
+        }
+        let mut set = termios::tcgetattr(device.as_raw_fd()).expect("a terminal");
+        let mut flags = |mode: Mode| {
+            set_mode(&mut set, mode).expect("a speed");
+            let told = ControlFlags::CSIZE
+                | ControlFlags::CSTOPB
+                | ControlFlags::PARENB
+                | ControlFlags::PARODD;
+            set.control_flags & told
+        };
+        let odd = Mode {
+            parity: Parity::Odd,
+            data_bits: 7,
+            stop_bits: 2,
+            ..MODE
+        };
+        let even = Mode {
+            parity: Parity::Even,
+            ..MODE
+        };
+        let is_odd = ControlFlags::PARENB | ControlFlags::PARODD;
+        assert_eq!(
+            flags(odd),
+            ControlFlags::CS7 | ControlFlags::CSTOPB | is_odd
+        );
+        assert_eq!(flags(even), ControlFlags::CS8 | ControlFlags::PARENB);
+        assert_eq!(flags(MODE), ControlFlags::CS8);
+        assert!(set_mode(&mut set, Mode { speed: 1, ..MODE }).is_err());
+    }
+
+    #[test]
+    fn a_port_that_takes_nothing_is_said_and_opened_again() {
+        let (_cable, device) = Cable::master();
+        let (keeper, events) = channel();
+        let (outgoing, to_send) = unbounded_channel();
+        let runtime = Builder::new_multi_thread().enable_all().build();
+        let runtime = runtime.expect("threads");
+        let settings = PortSettings::Serial { device, mode: MODE };
+        runtime.spawn(attend(3, settings, keeper, to_send));
+        let mut next = || match events.recv_timeout(3 * PATIENCE) {
+            Ok(Event::Port { line: 3, trouble }) => trouble,
+            _ => panic!("nothing is told of the port"),
+        };
+        assert_eq!(next(), None);
+        // More than a terminal holds for who does not read.
+        outgoing.send(vec![b'x'; 1 << 20]).expect("it is attended");
+        assert_eq!(next().as_deref(), Some("takes nothing"));
+        assert_eq!(next(), None);
+        runtime.shutdown_background();
+    }
+
+    #[test]
+    fn troubles_in_words() {
+        let told = |error: io::Error| in_words(&error);
+        assert_eq!(told(ErrorKind::TimedOut.into()), "does not answer");
+        assert_eq!(told(Errno::EIO.into()), "hung up");
+        assert_eq!(told(Errno::ENOENT.into()), "no such file or directory");
+    }
 }

@@ -180,6 +180,10 @@ impl Keeper {
     }
 
     fn place(&mut self, line: u8, text: &[u8]) -> Reply {
+        if self.saving.trouble.is_some() {
+            // It would be kept, and the reply would say that it is not.
+            return cannot_save();
+        }
         if self.gateway.speaks(line) != Speaks::Frames {
             return Reply::error(409, "a strip reader takes no orders");
         }
@@ -235,7 +239,8 @@ impl Keeper {
             Some(why) => Err(format!("saving fails: {}", why)),
             None => archive::write(&folder, &messages).map_err(|error| error.to_string()),
         };
-        if let Err(why) = written {
+        self.archive_trouble = written.err();
+        if let Some(why) = &self.archive_trouble {
             let why = format!("archive: {}; nothing is taken", why);
             self.log.say(&why);
             return Ok(Err(why));
@@ -276,6 +281,11 @@ impl Keeper {
 
 /// So many serials behind the oldest are known as taken before.
 const MOST_BEHIND: u16 = 0x7FFF;
+
+/// To everybody while saving fails.
+pub fn cannot_save() -> Reply {
+    Reply::error(503, "the station cannot save, and so hands nothing out")
+}
 
 fn no_order() -> Reply {
     Reply::error(404, "no such order")

@@ -81,11 +81,11 @@ pub enum Parity {
 /// When an order is sent, and how often it is tried.
 #[derive(Clone, Copy, Debug)]
 pub struct OrderSettings {
-    /// How long a line has been quiet before an order is sent, so that its analyzer can send.
-    pub pause: Duration,
+    /// How long a line has been silent before an order is sent, so that its analyzer can send.
+    pub silence: Duration,
     /// How long after a sending that was not acknowledged the next is tried.
     pub again: Duration,
-    pub tries: u32,
+    pub starts: u32,
 }
 
 impl Settings {
@@ -110,9 +110,9 @@ impl Settings {
         lines.sort_by_key(|line| line.number);
         check_apart(&lines)?;
         let orders = file.orders.unwrap_or_default();
-        if orders.again == 0 || orders.tries == 0 {
+        if orders.again == 0 || orders.starts == 0 {
             // Who begins at once again meets the analyzer's own ENQ again.
-            return Err("orders: again and tries are at least 1".to_string());
+            return Err("orders: again and starts are at least 1".to_string());
         }
         Ok(Settings {
             folder,
@@ -122,9 +122,9 @@ impl Settings {
             laboratories: file.laboratory,
             lines,
             orders: OrderSettings {
-                pause: Duration::from_secs(orders.pause),
+                silence: Duration::from_secs(orders.silence),
                 again: Duration::from_secs(orders.again),
-                tries: orders.tries,
+                starts: orders.starts,
             },
         })
     }
@@ -179,17 +179,17 @@ struct FileLine {
 #[derive(Deserialize)]
 #[serde(deny_unknown_fields, default)]
 struct FileOrders {
-    pause: u64,
+    silence: u64,
     again: u64,
-    tries: u32,
+    starts: u32,
 }
 
 impl Default for FileOrders {
     fn default() -> FileOrders {
         FileOrders {
-            pause: 5,
+            silence: 5,
             again: 30,
-            tries: 5,
+            starts: 5,
         }
     }
 }
@@ -411,12 +411,32 @@ mod tests {
     }
 
     #[test]
+    fn the_example_is_right() {
+        let path = Path::new(env!("CARGO_MANIFEST_DIR")).join("example.toml");
+        let settings = Settings::read(&path).expect("right");
+        let told: Vec<String> = settings.lines.iter().map(|l| l.port.to_string()).collect();
+        assert_eq!(told[0], "serial /dev/ttyS0 9600 8N1");
+        assert_eq!(told[2..], ["tcp 192.0.2.17:4001", "terminal ports/line3"]);
+        assert_eq!(settings.lines[1].speaks, Speaks::Strips10);
+        assert_eq!(settings.archive_at, NaiveTime::from_hms_opt(20, 0, 0));
+        // What it says of what is left out.
+        let usual = read(&line("number = 3\nserial = \"/dev/ttyS0\"")).expect("right");
+        assert_eq!(settings.listen, usual.listen);
+        assert_eq!(settings.lines[0].port, usual.lines[0].port);
+        let orders = |settings: &Settings| {
+            let orders = settings.orders;
+            (orders.silence, orders.again, orders.starts)
+        };
+        assert_eq!(orders(&settings), orders(&usual));
+    }
+
+    #[test]
     fn what_is_not_said_has_its_usual_value() {
         let settings = read(&line("number = 3\nserial = \"/dev/ttyS0\"")).expect("right");
         assert_eq!(settings.folder, Path::new("/etc/station/state"));
         assert_eq!(settings.listen, "127.0.0.1:8917");
         assert_eq!(settings.archive_at, None);
-        assert_eq!((settings.orders.tries, settings.lines.len()), (5, 1));
+        assert_eq!((settings.orders.starts, settings.lines.len()), (5, 1));
         assert_eq!(
             settings.lines[0].port.to_string(),
             "serial /dev/ttyS0 9600 8N1"
@@ -503,9 +523,9 @@ mod tests {
         ] {
             refused(&laboratory(name, token), why);
         }
-        for orders in ["again = 0", "tries = 0"] {
+        for orders in ["again = 0", "starts = 0"] {
             let rest = format!("[orders]\n{}", orders);
-            refused(&rest, "orders: again and tries are at least 1");
+            refused(&rest, "orders: again and starts are at least 1");
         }
         let told = Settings::of("folder = \"f\"\narchive_at = \"25:00\"", Path::new("."));
         let told = told.expect_err("a time");

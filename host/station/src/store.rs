@@ -190,6 +190,7 @@ pub fn write_whole(path: &Path, bytes: &[u8]) -> io::Result<()> {
 mod tests {
     use super::*;
     use crate::testing::Folder;
+    use std::os::unix::fs::MetadataExt;
 
     fn open(folder: &Folder) -> (Store, Option<Vec<u8>>) {
         Store::open(&folder.path).expect("a folder of its own")
@@ -227,6 +228,25 @@ mod tests {
     }
 
     /// A save that is torn at any byte, or has any byte altered, leaves the one before.
+    /// A disk that is full afterwards has it already.
+    #[test]
+    fn the_first_save_has_the_room_of_all() {
+        let folder = Folder::new();
+        let (mut store, _) = Store::open(&folder.path).expect("a folder of its own");
+        let room = || {
+            let found = fs::metadata(folder.path.join("state")).expect("made");
+            (found.len(), found.blocks() * 512)
+        };
+        store.save(|out| out.push(0)).expect("room");
+        let first = room();
+        assert_eq!(first.0, 2 * PLACE as u64);
+        assert!(first.1 >= first.0, "{} of {} bytes", first.1, first.0);
+        for _ in 0..3 {
+            store.save(|out| out.resize(MOST, 1)).expect("room");
+            assert_eq!(room(), first);
+        }
+    }
+
     #[test]
     fn a_torn_save_leaves_the_one_before() {
         let folder = Folder::new();

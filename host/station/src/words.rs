@@ -25,7 +25,7 @@ fn plain(answer: &Answer) -> &'static str {
         Answer::Taken { .. } => "message taken",
         Answer::Sending { .. } => "sending an order",
         Answer::SendingEnded { acknowledged: true } => "order sent and acknowledged",
-        Answer::SendingEnded { .. } => "order sent and not acknowledged",
+        Answer::SendingEnded { .. } => "order not acknowledged",
         Answer::Heard(_) | Answer::Noted => "strip reader heard",
         Answer::Busy => "ENQ while a transfer is open",
         Answer::Unended => "frame too long",
@@ -73,16 +73,16 @@ pub fn advice(answer: &Answer) -> &'static str {
         Answer::NoRoom => "Its messages must be taken: look at the laboratory's reader. The analyzer sends again.",
         Answer::Crowded => "Have its messages taken, then press the reader's send key.",
         Answer::Faulty { fault, .. } => faulty(*fault),
-        Answer::SendingEnded { acknowledged: false } => "It is tried again. Look whether the analyzer is on.",
-        Answer::GivenUp => "It is tried again.",
+        Answer::SendingEnded { acknowledged: false } => {
+            "It is started again, so often as the settings say. Look whether the analyzer is on."
+        }
+        Answer::GivenUp => "It is started again, so often as the settings say.",
         Answer::NotSent(Refusal::Faulty { fault, .. }) => faulty(*fault),
         Answer::OddLength | Answer::OddTest => {
             "Now and then it is noise. Each time: the length of patient numbers, or the kind of test bytes, is set otherwise."
         }
         Answer::OddByte => "Again and again: another reader, or a character that may not be in a patient number.",
-        Answer::NoMessage | Answer::WrongSize | Answer::BeyondLimits | Answer::Broken => {
-            "The station's memory was damaged. It stops and starts from what it saved."
-        }
+        Answer::NoMessage => "No sound station comes to this: its memory was damaged. Start it again.",
         _ => "",
     }
 }

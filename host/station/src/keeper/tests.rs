@@ -28,7 +28,7 @@ fn settings_of(folder: &Path, speaks: &str, laboratory: &str) -> Arc<Settings> {
     let text = format!(
         r#"
         folder = "."
-        orders = {{ pause = 0, tries = 2 }}
+        orders = {{ silence = 0, starts = 2 }}
         [[laboratory]]
         name = "north"
         token = "0123456789abcdef"
@@ -213,6 +213,13 @@ fn nothing_leaves_while_saving_fails() {
     assert_eq!(bench.hear(0, FRAME), b"");
     assert_eq!(bench.ask(Request::Message(vec![0])).status, 503);
     assert!(bench.keeper.saving.trouble.is_some());
+    // An order is not kept that its reader is told is not.
+    let text = texts::order(0, 1);
+    fs::create_dir_all(folder.path.join("orders")).expect("made");
+    fs::create_dir_all(folder.path.join("state")).expect("made");
+    assert_eq!(bench.ask(Request::Place { line: 0, text }).status, 503);
+    assert_eq!(bench.keeper.orders.of_lines(&[0]).count(), 0);
+    fs::remove_dir_all(&folder.path).expect("there");
     // It works again: the analyzer repeats its frame, and only now hears that it is stored.
     fs::create_dir_all(&folder.path).expect("made");
     assert_eq!(bench.hear(0, FRAME), ACK);
@@ -260,7 +267,10 @@ fn an_order_goes_out_and_is_kept() {
     bench.take_all_frames(0, &text);
     assert_eq!(bench.hear(0, ACK), EOT);
     let tally = bench.keeper.orders.tally(0);
-    assert_eq!((tally.waiting, tally.sent, tally.failed), (0, 1, 0));
+    assert_eq!(
+        (tally.waiting, tally.sent_today, tally.failed_today),
+        (0, 1, 0)
+    );
     let bench = bench.again(&folder);
     assert_eq!(bench.keeper.orders.tally(0), tally);
 }
@@ -282,7 +292,7 @@ fn an_order_begun_and_not_saved_waits() {
     });
     let tally = |bench: &Bench| {
         let tally = bench.keeper.orders.tally(0);
-        (tally.waiting, tally.sent, tally.failed)
+        (tally.waiting, tally.sent_today, tally.failed_today)
     };
     assert_eq!(tally(&bench), (1, 1, 0));
     // The first one's end comes again, and is no news.
@@ -309,7 +319,7 @@ fn an_order_that_is_still_sent_is_not_over() {
             bench.keeper.pass(1).expect("sound");
             assert_eq!(bench.sent(0), ENQ);
             assert_eq!(bench.hear(0, ENQ), b"");
-            assert_eq!(bench.keeper.orders.tally(0).failed, 1);
+            assert_eq!(bench.keeper.orders.tally(0).failed_today, 1);
         },
     ];
     let mut bench = bench(&folder);
@@ -329,7 +339,10 @@ fn an_order_that_is_still_sent_is_not_over() {
         assert_eq!(bench.hear(0, ACK), EOT);
         let tally = bench.keeper.orders.tally(0);
         let sent = sent as usize + 1;
-        assert_eq!((tally.waiting, tally.sent, tally.failed), (0, sent, 0));
+        assert_eq!(
+            (tally.waiting, tally.sent_today, tally.failed_today),
+            (0, sent, 0)
+        );
     }
 }
 
@@ -346,7 +359,7 @@ fn an_order_that_is_not_taken_fails_in_the_end() {
     }
     bench.keeper.pass(1).expect("sound");
     assert_eq!(bench.sent(1), b"");
-    assert_eq!(bench.keeper.orders.tally(1).failed, 1);
+    assert_eq!(bench.keeper.orders.tally(1).failed_today, 1);
 }
 
 #[test]
@@ -434,6 +447,87 @@ fn an_archive_that_fails_takes_nothing_and_is_tried_again() {
     let due = bench.keeper.archive_due.expect("in a minute");
     let wait = (due - Local::now()).num_seconds();
     assert!((50..=60).contains(&wait), "{} s", wait);
+    // The board says so until it works again.
+    let mut told = |metric: &str| {
+        let pages = bench.keeper.published().get();
+        assert!(pages.metrics.contains(metric), "{}", pages.metrics);
+        let board: serde_json::Value = serde_json::from_str(&pages.board).expect("JSON");
+        let trouble = board["archive"]["trouble"].is_string();
+        fs::remove_file(folder.path.join("archive")).ok();
+        (trouble, bench.ask(Request::Archive).status)
+    };
+    assert_eq!(told("station_archive_trouble 1\n"), (true, 200));
+    assert_eq!(told("station_archive_trouble 0\n"), (false, 200));
+}
+
+/// Each number of the board has a name for a monitoring system, and the manual has each name.
+#[test]
+fn metrics() {
+    let folder = Folder::new();
+    let mut bench = bench(&folder);
+    bench.hear(0, ENQ);
+    bench.hear(0, FRAME);
+    bench.hear(1, ENQ);
+    bench.hear(1, b"\x021H|\\^&\rX\rL|1|N\r\x031A\r\n");
+    bench.place(0, &texts::order(0, 1));
+    let text = bench.keeper.published().get().metrics.clone();
+    let manual = include_str!("../../README.md");
+    let mut names = 0;
+    for line in text.lines().filter(|line| line.starts_with("# TYPE ")) {
+        let name = line.split(' ').nth(2).expect("a name");
+        assert!(manual.contains(&format!("`{}`", name)), "{}", name);
+        names += 1;
+    }
+    assert_eq!(manual.matches("| `station_").count(), names);
+    let value = |name: &str| -> f64 {
+        let told = text.lines().find_map(|line| line.strip_prefix(name));
+        told.expect(name).trim().parse().expect("a number")
+    };
+    assert_eq!(value("station_journal_in_use_bytes"), 16.0);
+    assert_eq!(value("station_save_trouble"), 0.0);
+    let of_line = |name: &str, line: u8| {
+        let labels = format!("{{line=\"{}\",laboratory=\"north\"}}", line);
+        value(&format!("station_line_{}{}", name, labels))
+    };
+    assert_eq!(of_line("messages_waiting", 0), 1.0);
+    assert_eq!(of_line("used_bytes", 0), 16.0);
+    assert_eq!(of_line("messages_refused_total", 0), 0.0);
+    assert_eq!(of_line("messages_refused_total", 1), 1.0);
+    assert_eq!(of_line("orders_waiting", 0), 1.0);
+    let ago = now() as f64 / 1_000.0 - of_line("last_stored_seconds", 0);
+    assert!((0.0..60.0).contains(&ago), "{} s", ago);
+    // What there is not yet is left out.
+    assert!(!text.contains("last_stored_seconds{line=\"1\""));
+    assert!(!text.contains("\nstation_archive_seconds "));
+}
+
+#[test]
+fn so_many_orders_wait_and_so_many_are_remembered() {
+    let folder = Folder::in_memory();
+    let mut bench = bench(&folder);
+    let text = texts::order(0, 1);
+    for _ in 0..100 {
+        bench.place(0, &text);
+    }
+    let full = Request::Place {
+        line: 0,
+        text: text.clone(),
+    };
+    assert_eq!(bench.ask(full).status, 429);
+    // Another line has its own.
+    bench.place(1, &text);
+    for number in 1..=1_020 {
+        let lines = vec![0, 1];
+        if number != 101 {
+            assert_eq!(bench.ask(Request::Cancel { lines, number }).status, 200);
+            bench.place(0, &text);
+        }
+    }
+    bench.keeper.save_orders();
+    assert_eq!(bench.keeper.orders.tally(0).waiting, 100);
+    assert_eq!(bench.keeper.orders.of_lines(&[0]).count(), 1_100);
+    let files = fs::read_dir(folder.path.join("orders")).expect("there");
+    assert_eq!(files.count(), 1_101);
 }
 
 #[test]
@@ -533,7 +627,10 @@ fn an_order_for_a_line_that_has_a_strip_reader_now() {
     }
     assert_eq!(second.sent(1), b"");
     let tally = second.keeper.orders.tally(1);
-    assert_eq!((tally.waiting, tally.sent, tally.failed), (0, 0, 2));
+    assert_eq!(
+        (tally.waiting, tally.sent_today, tally.failed_today),
+        (0, 0, 2)
+    );
     assert!(second.keeper.orders.under_way(1).is_none());
 }
 

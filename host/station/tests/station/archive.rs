@@ -52,7 +52,7 @@ fn every_waiting_message_goes_to_its_laboratory() {
         (200, Some(3))
     );
     let board = station.next_board();
-    assert_eq!(board["journal"]["used"], 0);
+    assert_eq!(board["journal"]["in_use"], 0);
     assert_eq!(board["archive"]["messages"], 3);
     let north = archived(&station, "north");
     let first = place(&north, "line 0 serial 0 stored 20", &texts[0]);

@@ -141,7 +141,7 @@ fn each_message_arrives_once_and_in_order() {
         }
     }
     let board = station.next_board();
-    assert_eq!(board["journal"]["used"], 0);
+    assert_eq!(board["journal"]["in_use"], 0);
     for line in 0..8 {
         let expected = if line < 6 { MESSAGES } else { FINDINGS };
         assert_eq!(board["lines"][line]["stored_today"], expected);

@@ -62,7 +62,8 @@ fn the_others_keep_their_share() {
     assert!(slowest < Duration::from_secs(5), "{:?}", slowest);
     println!("the others took {:?} at most", slowest);
     let board = station.next_board();
-    assert!(board["lines"][0]["used"].as_u64() > Some(2_048));
+    let used = board["lines"][0]["used"].as_u64();
+    assert!(used.expect("a count") > 2_048);
     let refused = board["lines"][0]["refused"][0]["number"].clone();
     assert_eq!(refused, 31);
     for line in 1..8 {
@@ -74,7 +75,8 @@ fn the_others_keep_their_share() {
             used
         );
     }
-    assert!(board["journal"]["claimed"].as_u64() <= Some(32_768));
+    let claimed = board["journal"]["claimed"].as_u64();
+    assert!(claimed.expect("a count") <= 32_768);
 }
 
 /// Sends small messages as long as they fit into a share; how long that took.

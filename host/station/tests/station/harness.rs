@@ -128,6 +128,15 @@ impl Station {
         }
     }
 
+    /// It is told to stop; whether it ended well.
+    pub fn stop(&mut self, signal: &str) -> bool {
+        let process = self.process().to_string();
+        let told = Command::new("kill").args([signal, &process]).status();
+        assert!(told.expect("kill").success());
+        let mut child = self.child.take().expect("started");
+        child.wait().expect("it ran").success()
+    }
+
     /// Whether it runs still.
     pub fn runs(&mut self) -> bool {
         let child = self.child.as_mut().expect("started");

@@ -139,7 +139,7 @@ fn station() -> (Station, Ends) {
     let lines = [line0, line1, line2, line3, line4, line5, line6, line7];
     // Behind a sending that was dropped the line rests for longer than the analyzer waits for a reply: with less the
     // two would meet again and again.
-    let orders = "orders = { pause = 0, again = 3, tries = 1000 }";
+    let orders = "orders = { silence = 0, again = 3, starts = 1000 }";
     let station = Station::with(orders, &lines);
     let made = |name: &str| Cable::terminal(station.folder.path.join("state/ports").join(name));
     let analyzers = vec![cable0, cable1, cable2, made("line3"), made("line4"), cable5];
@@ -239,7 +239,9 @@ fn run(station: &mut Station, ends: Ends) -> Outcome {
 }
 
 fn kill_often(station: &mut Station) {
-    let mut chance = Chance::seeded(u64::from(std::process::id()));
+    let seed = u64::from(std::process::id());
+    println!("seed {}", seed);
+    let mut chance = Chance::seeded(seed);
     for _ in 0..KILLS {
         let (least, most) = (Duration::from_millis(50), Duration::from_millis(700));
         thread::sleep(chance.between(least, most));

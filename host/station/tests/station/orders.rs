@@ -9,13 +9,13 @@ use std::time::{Duration, Instant};
 #[test]
 fn orders_go_down_in_turn() {
     let (line, cable) = tcp("north");
-    let station = Station::with("orders = { pause = 1, again = 1, tries = 3 }", &[line]);
+    let station = Station::with("orders = { silence = 1, again = 1, starts = 3 }", &[line]);
     let desk = station.reader("north");
     let numbers: Vec<u64> = (0..3)
         .map(|number| desk.order(0, &order(0, number)).expect("placed"))
         .collect();
     assert_eq!(numbers, [1, 2, 3]);
-    // The last is taken back before its turn.
+    // The last is cancelled before its turn.
     assert_eq!(desk.delete("/orders/3").expect("a reply").status, 200);
     let mut taker = OrderTaker::new(Analyzer::new(cable));
     let mut arrived = Vec::new();
@@ -32,7 +32,7 @@ fn orders_go_down_in_turn() {
         states == ["sent", "sent", "cancelled"]
     });
     assert_eq!(desk.delete("/orders/1").expect("a reply").status, 409);
-    assert_eq!(station.next_board()["lines"][0]["orders"]["sent"], 2);
+    assert_eq!(station.next_board()["lines"][0]["orders"]["sent_today"], 2);
     // The line receives as ever.
     let fates = taker.transfer(&[result(0, 0, 0, Size::Small)]);
     assert_eq!(
@@ -44,7 +44,7 @@ fn orders_go_down_in_turn() {
 #[test]
 fn an_order_that_nobody_takes_fails() {
     let (line, mut cable) = tcp("north");
-    let station = Station::with("orders = { pause = 0, again = 1, tries = 2 }", &[line]);
+    let station = Station::with("orders = { silence = 0, again = 1, starts = 2 }", &[line]);
     let desk = station.reader("north");
     let number = desk.order(0, &order(0, 0)).expect("placed");
     let told = || desk.orders().expect("a list").remove(0);
@@ -59,6 +59,6 @@ fn an_order_that_nobody_takes_fails() {
         told().state == "failed"
     });
     let order = told();
-    assert_eq!((order.order, order.tries), (number, 2));
+    assert_eq!((order.order, order.starts), (number, 2));
     assert!(order.words.expect("words").contains("not taken"));
 }

@@ -106,3 +106,16 @@ fn a_second_station_is_refused() {
     let status = station.command().status().expect("it ran");
     assert_eq!(status.code(), Some(2));
 }
+
+#[test]
+fn it_stops_when_it_is_told() {
+    let (line, mut cable) = tcp("north");
+    let mut station = Station::with("", &[line]);
+    for (signal, number) in [("-TERM", 0), ("-INT", 1)] {
+        cable = acknowledged(cable, 0, number);
+        assert!(station.stop(signal), "{}", station.log());
+        station.start();
+        let stored = &station.line(0)["waiting"];
+        assert_eq!(stored, number + 1);
+    }
+}
