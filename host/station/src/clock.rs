@@ -1,8 +1,9 @@
-//! A clock that goes on while no station runs, so that the lines are told the seconds in between.
+//! A clock that goes on while no station runs, so that the lines are told the time in between.
 
 use nix::time::{clock_gettime, ClockId};
 use serde::{Deserialize, Serialize};
 use std::fs;
+use std::time::Duration;
 
 /// Which start of the machine this is.
 #[derive(Clone, Debug)]
@@ -26,28 +27,25 @@ impl Clock {
     }
 
     pub fn now(&self) -> Stamp {
-        self.ago(0)
+        self.ago(Duration::ZERO)
     }
 
-    /// The moment so many seconds ago.
-    pub fn ago(&self, seconds: u64) -> Stamp {
-        let milliseconds: u64 = clock_gettime(ClockId::CLOCK_BOOTTIME).map_or(0, |time| {
+    /// The moment so long ago.
+    pub fn ago(&self, time: Duration) -> Stamp {
+        let now: u64 = clock_gettime(ClockId::CLOCK_BOOTTIME).map_or(0, |time| {
             time.tv_sec() as u64 * 1_000 + time.tv_nsec() as u64 / 1_000_000
         });
         Stamp {
             boot: self.boot.clone(),
-            milliseconds: milliseconds.saturating_sub(seconds * 1_000),
+            milliseconds: now.saturating_sub(time.as_millis() as u64),
         }
     }
 
-    /// The whole seconds since a moment. Over another start of the machine nobody knows, and it is none: an open
-    /// transfer is then ended by the seconds that follow.
-    pub fn seconds_since(&self, stamp: &Stamp) -> u64 {
+    /// The time since a moment. Over another start of the machine nobody knows.
+    pub fn since(&self, stamp: &Stamp) -> Option<Duration> {
         let now = self.now();
-        match now.boot == stamp.boot {
-            true => now.milliseconds.saturating_sub(stamp.milliseconds) / 1_000,
-            false => 0,
-        }
+        let passed = now.milliseconds.saturating_sub(stamp.milliseconds);
+        (now.boot == stamp.boot).then(|| Duration::from_millis(passed))
     }
 }
 
@@ -56,19 +54,18 @@ mod tests {
     use super::*;
 
     #[test]
-    fn seconds_of_one_start_of_the_machine() {
+    fn time_of_one_start_of_the_machine() {
         let clock = Clock::read();
         assert!(!clock.boot.is_empty());
-        let mut stamp = clock.now();
-        assert_eq!(clock.seconds_since(&stamp), 0);
-        assert_eq!(clock.seconds_since(&clock.ago(3)), 3);
-        stamp.milliseconds -= 2_500;
-        assert_eq!(clock.seconds_since(&stamp), 2);
+        let ago = Duration::from_millis(2_500);
+        let mut stamp = clock.ago(ago);
+        let since = clock.since(&stamp).expect("the same start");
+        assert!((ago..2 * ago).contains(&since), "{:?}", since);
         stamp.milliseconds += 1_000_000;
-        assert_eq!(clock.seconds_since(&stamp), 0);
+        assert_eq!(clock.since(&stamp), Some(Duration::ZERO));
         stamp.milliseconds = 0;
-        assert!(clock.seconds_since(&stamp) > 2);
+        assert!(clock.since(&stamp) > Some(ago));
         stamp.boot.push('x');
-        assert_eq!(clock.seconds_since(&stamp), 0);
+        assert_eq!(clock.since(&stamp), None);
     }
 }

@@ -95,8 +95,9 @@ pub struct Keeper {
     pub(crate) started: i64,
     leaving: Leaving,
     ports: Vec<Option<UnboundedSender<Vec<u8>>>>,
-    /// Seconds that passed while no station ran, and that the lines have to be told.
-    owed: u64,
+    /// The lines were told the time up to here, but for so much.
+    told: Instant,
+    owed: Duration,
     archive_due: Option<DateTime<Local>>,
     published: Arc<Published>,
 }
@@ -114,15 +115,18 @@ impl Keeper {
     pub fn open_to_archive(settings: Arc<Settings>, log: Log) -> Result<Keeper, String> {
         let (saving, loaded) = Saving::open(&settings.folder)?;
         let (gateway, book, owed) = match loaded {
-            None => (Gateway::start(settings.speaks()), Book::default(), 0),
-            Some(loaded) => (loaded.gateway, loaded.book, loaded.seconds),
+            None => {
+                let gateway = Gateway::start(settings.speaks());
+                (gateway, Book::default(), Some(Duration::ZERO))
+            }
+            Some(loaded) => (loaded.gateway, loaded.book, loaded.untold),
         };
         let waits = gateway.in_use();
         log.say(format_args!("loaded: {} bytes of messages wait", waits));
         let folder = settings.folder.join("orders");
         let sends = |line| book.sending(&gateway, line);
         let orders = Orders::load(&folder, settings.orders, sends)?;
-        Ok(Keeper {
+        let mut keeper = Keeper {
             log,
             gateway,
             book,
@@ -134,11 +138,30 @@ impl Keeper {
             started: now(),
             leaving: Leaving::default(),
             ports: (0..LINES).map(|_| None).collect(),
-            owed,
+            told: Instant::now(),
+            owed: owed.unwrap_or(Duration::ZERO),
             archive_due: next_archive(&settings, Local::now()),
             published: Arc::new(Published::new()),
             settings,
-        })
+        };
+        if owed.is_none() {
+            let ended = keeper.end_sendings();
+            ended.map_err(|damaged| damaged.to_string())?;
+        }
+        Ok(keeper)
+    }
+
+    /// Nobody knows how long no station ran: what an analyzer says now may be no reply to what was sent then.
+    fn end_sendings(&mut self) -> Result<(), Damaged> {
+        for line in 0..LINES as u8 {
+            // Behind a pause it asks once more.
+            while self.gateway.state(line).is_sending() {
+                let used = self.gateway.used(line);
+                let answer = self.gateway.seconds(line, u8::MAX);
+                self.act(line, used, &answer)?;
+            }
+        }
+        Ok(())
     }
 
     /// What a line speaks is set when a gateway is started, and a start forgets what waits: so where the settings
@@ -159,7 +182,6 @@ impl Keeper {
                 ));
                 self.gateway = Gateway::start(wanted);
                 self.orders.follow(|_| None);
-                self.owed = 0;
                 Ok(())
             }
         }
@@ -211,39 +233,52 @@ impl Keeper {
 
     /// Works until it is told to stop, or until the gateway is found damaged.
     pub fn run(mut self, events: Receiver<Event>) -> Result<(), Damaged> {
-        let mut told = Instant::now();
-        let mut shown = told;
+        let mut shown = Instant::now();
         let mut is_shown = false;
         loop {
-            let mut wait = Duration::from_secs(1).saturating_sub(told.elapsed());
-            if !is_shown {
-                wait = wait.min(BOARD_EVERY.saturating_sub(shown.elapsed()));
-            }
-            let goes_on = match events.recv_timeout(wait) {
-                Ok(event) => {
-                    is_shown = false;
-                    self.round(event, &events)?
-                }
-                Err(RecvTimeoutError::Timeout) => true,
-                Err(RecvTimeoutError::Disconnected) => false,
-            };
-            let passed = told.elapsed().as_secs();
-            if passed > 0 {
-                // The fraction is kept for the next time.
-                told += Duration::from_secs(passed);
-                self.pass(passed)?;
-            }
-            if passed > 0 || (!is_shown && shown.elapsed() >= BOARD_EVERY) {
+            // Before what comes now: it is no reply to what was sent long before a kill.
+            let is_later = self.tell_time()?;
+            if is_later || (!is_shown && shown.elapsed() >= BOARD_EVERY) {
                 shown = Instant::now();
                 is_shown = true;
                 self.publish();
             }
-            if !goes_on {
-                self.save_orders();
-                self.save();
-                return Ok(());
+            let mut wait = Duration::from_secs(1).saturating_sub(self.untold());
+            if !is_shown {
+                wait = wait.min(BOARD_EVERY.saturating_sub(shown.elapsed()));
+            }
+            match events.recv_timeout(wait) {
+                Ok(event) => {
+                    is_shown = false;
+                    if !self.round(event, &events)? {
+                        break;
+                    }
+                }
+                Err(RecvTimeoutError::Timeout) => {}
+                Err(RecvTimeoutError::Disconnected) => break,
             }
         }
+        self.save_orders();
+        self.save();
+        Ok(())
+    }
+
+    /// The time that the lines were not told yet.
+    fn untold(&self) -> Duration {
+        self.owed + self.told.elapsed()
+    }
+
+    /// Tells the lines the whole seconds that have passed, if there are some. The fraction is kept for the next time,
+    /// over kills too: many kills in a row would else stop the lines' clock.
+    fn tell_time(&mut self) -> Result<bool, Damaged> {
+        let untold = self.untold();
+        let seconds = untold.as_secs();
+        if seconds > 0 {
+            self.told = Instant::now();
+            self.owed = untold - Duration::from_secs(seconds);
+            self.pass(seconds)?;
+        }
+        Ok(seconds > 0)
     }
 
     /// Takes in an event and those that wait behind it, and lets go what is to leave. False: it is to stop.
@@ -285,7 +320,6 @@ impl Keeper {
 
     /// Whole seconds have passed: each line is told.
     fn pass(&mut self, seconds: u64) -> Result<(), Damaged> {
-        let seconds = seconds + std::mem::take(&mut self.owed);
         let told = u8::try_from(seconds).unwrap_or(u8::MAX);
         for k in 0..self.settings.lines.len() {
             let line = self.settings.lines[k].number;
@@ -427,7 +461,8 @@ impl Keeper {
     /// Saves the gateway and its book.
     pub(crate) fn save(&mut self) {
         let began = Instant::now();
-        let saved = self.saving.save(&self.gateway, &self.book, self.owed);
+        let untold = self.untold();
+        let saved = self.saving.save(&self.gateway, &self.book, untold);
         if self.saving.note(&saved, began.elapsed()) {
             self.log.say(match saved {
                 Err(why) => format!("saving fails: {}; nothing is acknowledged", why),

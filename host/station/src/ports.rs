@@ -342,7 +342,7 @@ mod tests {
         let runtime = runtime.expect("threads");
         let settings = PortSettings::Serial { device, mode: MODE };
         runtime.spawn(attend(3, settings, keeper, to_send));
-        let mut next = || match events.recv_timeout(3 * PATIENCE) {
+        let next = || match events.recv_timeout(3 * PATIENCE) {
             Ok(Event::Port { line: 3, trouble }) => trouble,
             _ => panic!("nothing is told of the port"),
         };

@@ -1,4 +1,4 @@
-//! What is saved, in one piece: the gateway, its book, and when that was.
+//! What is saved, in one piece: the gateway, its book, and up to when its lines were told the time.
 
 use crate::book::{now, Book, Moment};
 use crate::clock::{Clock, Stamp};
@@ -18,11 +18,11 @@ struct Beside<'a> {
     book: Cow<'a, Book>,
 }
 
-/// What was loaded, and the whole seconds since it was saved.
+/// What was loaded, and the time that its lines were not told, if that is known.
 pub struct Loaded {
     pub gateway: Gateway,
     pub book: Book,
-    pub seconds: u64,
+    pub untold: Option<Duration>,
 }
 
 /// Whether what is in memory is on the disk, and how saving goes.
@@ -53,10 +53,10 @@ impl Saving {
         Ok((saving, loaded))
     }
 
-    /// Saves, and returns when the disk has it. So many seconds have passed that the lines were not told yet.
-    pub fn save(&mut self, gateway: &Gateway, book: &Book, owed: u64) -> io::Result<()> {
+    /// Saves, and returns when the disk has it. The lines were not told so much of the time yet.
+    pub fn save(&mut self, gateway: &Gateway, book: &Book, untold: Duration) -> io::Result<()> {
         let beside = Beside {
-            at: self.clock.ago(owed),
+            at: self.clock.ago(untold),
             book: Cow::Borrowed(book),
         };
         self.store.save(|out| {
@@ -99,7 +99,7 @@ fn load(bytes: &[u8], clock: &Clock) -> Result<Loaded, String> {
     Ok(Loaded {
         gateway,
         book,
-        seconds: clock.seconds_since(&beside.at),
+        untold: clock.since(&beside.at),
     })
 }
 
@@ -131,14 +131,17 @@ mod tests {
         let (mut saving, loaded) = Saving::open(&folder.path).expect("a folder of its own");
         assert!(loaded.is_none());
         let mut gateway = Gateway::fresh();
-        saving.save(&gateway, &Book::default(), 7).expect("room");
+        let ago = Duration::from_secs(7);
+        saving.save(&gateway, &Book::default(), ago).expect("room");
         drop(saving);
         let (mut saving, loaded) = Saving::open(&folder.path).expect("whole");
-        assert_eq!(loaded.map(|loaded| loaded.seconds), Some(7));
+        let untold = loaded.and_then(|loaded| loaded.untold);
+        let untold = untold.expect("the same start of the machine");
+        assert!((ago..2 * ago).contains(&untold), "{:?}", untold);
         for byte in b"\x05\x021H|\\^&\rL|1|N\r\x03B5\r\n" {
             gateway.byte(0, *byte);
         }
-        saving.save(&gateway, &Book::default(), 0).expect("room");
+        saving.save(&gateway, &Book::default(), ago).expect("room");
         drop(saving);
         let why = Saving::open(&folder.path).err().expect("they disagree");
         assert!(why.contains("other messages than wait"), "{}", why);

@@ -2,6 +2,7 @@
 
 use super::*;
 use crate::simulated::texts::{self, Size};
+use crate::store::Store;
 use crate::testing::Folder;
 use std::fs;
 use std::path::Path;
@@ -245,12 +246,58 @@ fn the_seconds_in_between_are_told() {
     let mut bench = bench(&folder);
     bench.hear(0, ENQ);
     let mut bench = bench.again(&folder);
-    assert_eq!(bench.keeper.owed, 0);
-    bench.keeper.owed = 28;
-    bench.keeper.pass(1).expect("sound");
+    assert!(bench.keeper.untold() < Duration::from_secs(1));
+    bench.keeper.owed = Duration::from_secs(29);
+    assert!(bench.keeper.tell_time().expect("sound"));
     assert_eq!(bench.keeper.gateway.state(0), State::Waiting);
-    bench.keeper.pass(1).expect("sound");
+    bench.keeper.owed = Duration::from_secs(1);
+    assert!(bench.keeper.tell_time().expect("sound"));
     assert_eq!(bench.keeper.gateway.state(0), State::Neutral);
+}
+
+/// Many kills in a row, each soon after a start, do not stop the lines' clock.
+#[test]
+fn fractions_of_seconds_add_up_over_kills() {
+    let folder = Folder::in_memory();
+    let mut bench = bench(&folder);
+    bench.hear(0, ENQ);
+    let mut kills = 0;
+    while bench.keeper.gateway.state(0) != State::Neutral {
+        bench.keeper.owed += Duration::from_millis(450);
+        bench.keeper.save();
+        bench = bench.again(&folder);
+        bench.keeper.tell_time().expect("sound");
+        kills += 1;
+    }
+    // 30 seconds, and what the test itself takes.
+    assert!((40..=67).contains(&kills), "{} kills", kills);
+}
+
+/// The machine was started anew: an EOT of the analyzer's own is not taken for the last frame's acknowledgement.
+#[test]
+fn what_was_sent_is_over_where_nobody_knows_how_long_ago() {
+    let folder = Folder::new();
+    let mut bench = bench(&folder);
+    let text = texts::order(0, 1);
+    bench.place(0, &text);
+    bench.keeper.pass(1).expect("sound");
+    assert_eq!(bench.sent(0), ENQ);
+    bench.take_all_frames(0, &text);
+    drop(bench);
+    let told = fs::read_to_string("/proc/sys/kernel/random/boot_id").expect("Linux");
+    let told = told.trim().as_bytes();
+    let (mut store, saved) = Store::open(&folder.path).expect("whole");
+    let mut saved = saved.expect("saved");
+    let place = saved.windows(told.len()).position(|part| part == told);
+    saved[place.expect("with the boot's name")] ^= 1;
+    store.save(|out| out.extend(&saved)).expect("room");
+    drop(store);
+    let mut bench = bench_with(settings(&folder.path, "frames"));
+    assert_eq!(bench.keeper.gateway.state(0), State::Neutral);
+    // What leaves is our own.
+    assert_eq!(bench.hear(0, EOT), EOT);
+    let tally = bench.keeper.orders.tally(0);
+    assert_eq!((tally.waiting, tally.sent_today), (1, 0));
 }
 
 #[test]
@@ -632,17 +679,6 @@ fn an_order_for_a_line_that_has_a_strip_reader_now() {
         (0, 0, 2)
     );
     assert!(second.keeper.orders.under_way(1).is_none());
-}
-
-/// A kill soon after a start does not lose the seconds before it.
-#[test]
-fn seconds_that_are_owed_are_saved() {
-    let folder = Folder::new();
-    let mut first = bench(&folder);
-    first.keeper.owed = 20;
-    assert_eq!(first.hear(0, ENQ), ACK);
-    let second = first.again(&folder);
-    assert_eq!(second.keeper.owed, 20);
 }
 
 #[test]
