@@ -2,13 +2,15 @@
 //!
 //! An entry is a line that tells the message's line, serial, time and length, then its bytes as they came, then a
 //! newline. What a kill has left torn at a file's end is cut off before more is written, and a message that is there
-//! already is not written again: so a kill between the writing and the taking leaves it there once.
+//! already is written where it is: so a kill between the writing and the taking leaves it there once. It is written
+//! even so, since a disk that has failed may not have what is read back. What is no entry is never cut off.
 
 use crate::book::{local, Moment};
 use crate::store::sync_folder;
-use std::collections::{BTreeMap, HashSet};
+use ngachodui::TEXT_LIMIT;
+use std::collections::{BTreeMap, HashMap};
 use std::fs::{self, OpenOptions};
-use std::io;
+use std::io::{self, ErrorKind};
 use std::os::unix::fs::{FileExt, OpenOptionsExt};
 use std::path::{Path, PathBuf};
 
@@ -31,6 +33,10 @@ impl Archived {
             local(self.stored).to_rfc3339(),
             self.text.len()
         )
+    }
+
+    fn entry(&self) -> Vec<u8> {
+        [self.head().as_bytes(), &self.text, b"\n"].concat()
     }
 
     /// The file of its laboratory and of the day on which it was stored.
@@ -64,20 +70,27 @@ fn append(path: &Path, messages: &[&Archived]) -> io::Result<usize> {
         .mode(0o600)
         .open(path)?;
     let bytes = fs::read(path)?;
-    let (heads, whole) = read(&bytes);
-    let mut added = Vec::new();
+    let (places, whole) = read(&bytes);
+    if !is_torn(&bytes[whole..]) {
+        let why = format!(
+            "{}: no entry at byte {}: move it away",
+            path.display(),
+            whole
+        );
+        return Err(io::Error::new(ErrorKind::InvalidData, why));
+    }
+    file.set_len(whole as u64)?;
+    let mut end = whole;
     let mut count = 0;
     for message in messages {
-        let head = message.head();
-        if !heads.contains(head.as_bytes()) {
-            added.extend_from_slice(head.as_bytes());
-            added.extend_from_slice(&message.text);
-            added.push(b'\n');
+        let entry = message.entry();
+        let known = places.get(message.head().as_bytes());
+        file.write_all_at(&entry, *known.unwrap_or(&end) as u64)?;
+        if known.is_none() {
+            end += entry.len();
             count += 1;
         }
     }
-    file.set_len(whole as u64)?;
-    file.write_all_at(&added, whole as u64)?;
     file.sync_all()?;
     sync_folder(near)?;
     Ok(count)
@@ -94,28 +107,44 @@ fn make_folders(folder: &Path) -> io::Result<()> {
     sync_folder(above)
 }
 
-/// The first lines of a file's whole entries, and how many bytes these entries are.
-fn read(bytes: &[u8]) -> (HashSet<&[u8]>, usize) {
-    let mut heads = HashSet::new();
+/// Where each whole entry of a file stands, by its first line, and how many bytes these entries are.
+fn read(bytes: &[u8]) -> (HashMap<&[u8], usize>, usize) {
+    let mut places = HashMap::new();
     let mut whole = 0;
-    while let Some((head, length)) = entry(&bytes[whole..]) {
-        heads.insert(head);
-        whole += length;
+    while let Some((head, last)) = entry(&bytes[whole..]) {
+        if bytes.get(whole + last) != Some(&b'\n') {
+            break;
+        }
+        places.insert(head, whole);
+        whole += last + 1;
     }
-    (heads, whole)
+    (places, whole)
 }
 
-/// The first entry: its line, and how long it is with that; nothing where it is not whole.
+/// Every first line begins so, and is shorter than that.
+const HEAD: &[u8] = b"line ";
+const MOST_HEAD: usize = 128;
+
+/// The first entry's line, and where its last byte has to be.
 fn entry(bytes: &[u8]) -> Option<(&[u8], usize)> {
     let end = bytes.iter().position(|byte| *byte == b'\n')? + 1;
     let head = &bytes[..end];
-    let length = std::str::from_utf8(head)
-        .ok()?
-        .trim_end()
-        .rsplit(' ')
-        .next()?;
-    let last = end.checked_add(length.parse().ok()?)?;
-    (bytes.get(last) == Some(&b'\n')).then_some((head, last + 1))
+    let told = std::str::from_utf8(head).ok()?.trim_end();
+    let length: usize = told.rsplit(' ').next()?.parse().ok()?;
+    let is_head = head.starts_with(HEAD) && length <= TEXT_LIMIT;
+    is_head.then_some((head, end + length))
+}
+
+/// Whether this is what a kill leaves of an entry, the start of it; or a power cut, zeros.
+fn is_torn(bytes: &[u8]) -> bool {
+    match entry(bytes) {
+        Some((_, last)) => bytes.len() <= last,
+        None if bytes.iter().all(|byte| *byte == 0) => true,
+        None => {
+            let start = &bytes[..bytes.len().min(HEAD.len())];
+            bytes.len() < MOST_HEAD && !bytes.contains(&b'\n') && HEAD.starts_with(start)
+        }
+    }
 }
 
 #[cfg(test)]
@@ -158,21 +187,46 @@ mod tests {
         assert!(all[0].head().ends_with(" bytes 14\n"));
     }
 
-    /// What is no entry ends what is whole, whatever it says of its length.
+    /// What is no entry is told, and stays, whatever it says of its length.
     #[test]
     fn lines_that_are_none() {
-        let entry = message("north", 0, NOON);
-        let whole = [entry.head().as_bytes(), &entry.text, b"\n"].concat();
+        let folder = Folder::new();
+        let all = [message("north", 0, NOON), message("north", 1, NOON)];
+        let path = all[0].path(&folder.path);
+        write(&folder.path, &all[..1]).expect("room");
+        let whole = fs::read(&path).expect("written");
         for line in [
-            "bytes 18446744073709551615\n",
-            "bytes -1\n",
+            "line 3 bytes 18446744073709551615\n",
+            "line 3 bytes -1\n",
+            "bytes 5\n",
             "\n",
-            "bytes 5\n1234\n",
+            "line 3 bytes 4\n12345\n",
+            "something else",
         ] {
             let bytes = [&whole, line.as_bytes()].concat();
-            let (heads, length) = read(&bytes);
-            assert_eq!((heads.len(), length), (1, whole.len()), "{:?}", line);
+            fs::write(&path, &bytes).expect("written");
+            let why = write(&folder.path, &all).expect_err(line).to_string();
+            let told = format!("no entry at byte {}: move it away", whole.len());
+            assert!(why.ends_with(&told), "{}", why);
+            assert_eq!(fs::read(&path).expect("there"), bytes);
         }
+    }
+
+    /// What is there already is written again: the disk may have another text than what is read back, or none.
+    #[test]
+    fn an_entry_with_another_text_is_mended() {
+        let folder = Folder::new();
+        let all = [message("north", 0, NOON), message("north", 1, NOON)];
+        let path = all[0].path(&folder.path);
+        write(&folder.path, &all).expect("room");
+        let whole = fs::read(&path).expect("written");
+        let mut spoilt = whole.clone();
+        let text = all[0].head().len();
+        spoilt[text..text + 9].fill(0);
+        spoilt.extend([0; 50]);
+        fs::write(&path, &spoilt).expect("written");
+        assert_eq!(write(&folder.path, &all).expect("room"), 0);
+        assert_eq!(fs::read(&path).expect("written"), whole);
     }
 
     /// However far the writing came before a kill, a second writing leaves each message once.

@@ -131,7 +131,7 @@ impl Board {
                 trouble: keeper.archive_trouble.clone(),
             },
             orders: Orders {
-                trouble: keeper.orders_trouble.clone(),
+                trouble: keeper.orders.trouble(),
             },
             lines: keeper
                 .settings

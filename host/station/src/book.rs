@@ -44,6 +44,8 @@ pub struct Book {
     last_stored: [Option<Moment>; LINES],
     /// The order that each line sends.
     sending: [Option<u64>; LINES],
+    /// The next order's number.
+    next_order: u64,
     /// When messages were last archived, and how many.
     pub archived: Option<(Moment, usize)>,
 }
@@ -75,6 +77,7 @@ impl Default for Book {
             stored_today: [0; LINES],
             last_stored: [None; LINES],
             sending: [None; LINES],
+            next_order: 1,
             archived: None,
         }
     }
@@ -136,6 +139,13 @@ impl Book {
     pub fn hand_over(&mut self, line: u8, laboratory: &str) {
         self.laboratories[usize::from(line)] = laboratory.to_string();
         self.end_sending(line);
+    }
+
+    /// A number for an order, at least this one: none is given twice, whatever was forgotten.
+    pub fn number_order(&mut self, least: u64) -> u64 {
+        let number = self.next_order.max(least);
+        self.next_order = number + 1;
+        number
     }
 
     pub fn begin_sending(&mut self, line: u8, order: u64) {

@@ -27,6 +27,9 @@ use tokio::time::{sleep, timeout};
 /// At most so many connections at a time, so many bytes of a request's head, and of a body that is too large so
 /// many are read before it is refused, so that who sends it hears the refusal.
 const MOST_CONNECTIONS: usize = 512;
+/// So many requests of a laboratory are at the keeper at a time: it waits for the disk for some of them, and the lines
+/// of all wait with it.
+const MOST_ASKED: usize = 4;
 const MOST_HEAD: usize = 16 * 1_024;
 const MOST_DISCARDED: usize = 1_024 * 1_024;
 
@@ -46,6 +49,8 @@ pub struct Http {
     settings: Arc<Settings>,
     published: Arc<Published>,
     keeper: Mutex<Sender<Event>>,
+    /// For each laboratory, and the operator behind them, who may ask at a time.
+    turns: Vec<Semaphore>,
     log: Log,
 }
 
@@ -56,10 +61,12 @@ impl Http {
         keeper: Sender<Event>,
         log: Log,
     ) -> Http {
+        let askers = settings.laboratories.len() + 1;
         Http {
             settings,
             published,
             keeper: Mutex::new(keeper),
+            turns: (0..askers).map(|_| Semaphore::new(MOST_ASKED)).collect(),
             log,
         }
     }
@@ -147,28 +154,31 @@ impl Http {
             ["board"] => text("application/json", pages().board.clone()),
             ["metrics"] => text("text/plain; version=0.0.4", pages().metrics.clone()),
             _ => match self.request(request, &parts).await {
-                Ok(request) => response(self.ask(request).await),
+                Ok((asker, request)) => response(self.ask(asker, request).await),
                 Err(refused) => response(refused),
             },
         }
     }
 
-    /// What is asked of the keeper, and whether who asks may.
+    /// What is asked of the keeper, and by whom, if they may.
     async fn request(
         &self,
         request: hyper::Request<Body>,
         parts: &[&str],
-    ) -> Result<Request, Reply> {
+    ) -> Result<(usize, Request), Reply> {
         let token = bearer(&request).ok_or_else(|| no_token("a token is needed"))?;
         if let ["archive"] = parts {
             let operator = self.settings.operator.as_ref();
             return match operator.map(|own| constant_time_eq(own.as_bytes(), &token)) {
-                Some(true) => Ok(Request::Archive),
+                Some(true) => Ok((self.settings.laboratories.len(), Request::Archive)),
                 _ => Err(no_token("not the operator's token")),
             };
         }
         match self.laboratory(&token) {
-            Some(laboratory) => self.readers_request(laboratory, request, parts).await,
+            Some(laboratory) => {
+                let request = self.readers_request(laboratory, request, parts).await?;
+                Ok((laboratory, request))
+            }
             None => Err(no_token("no laboratory has this token")),
         }
     }
@@ -226,7 +236,12 @@ impl Http {
         found
     }
 
-    async fn ask(&self, request: Request) -> Reply {
+    async fn ask(&self, asker: usize, request: Request) -> Reply {
+        let turn = timeout(KEEPER_TIME, self.turns[asker].acquire()).await;
+        let _turn = match turn {
+            Ok(turn) => turn,
+            Err(_) => return Reply::error(503, "this laboratory asks too much at a time"),
+        };
         let (reply, answered) = oneshot::channel();
         let sent = match self.keeper.lock() {
             Ok(keeper) => keeper.send(Event::Request { request, reply }).is_ok(),

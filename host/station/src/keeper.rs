@@ -14,7 +14,7 @@ use crate::requests::{cannot_save, Reply, Request};
 use crate::saving::Saving;
 use crate::settings::Settings;
 use crate::words::words;
-use chrono::{DateTime, Local};
+use chrono::{DateTime, Local, TimeZone};
 use ngachodui::{Answer, Gateway, State, LINES};
 use std::sync::mpsc::{Receiver, RecvTimeoutError};
 use std::sync::Arc;
@@ -23,6 +23,10 @@ use tokio::sync::{mpsc::UnboundedSender, oneshot};
 
 /// So many events are taken in before what is to leave leaves.
 const MOST_IN_ROUND: usize = 256;
+
+/// Bytes that leave so long after what they reply to are left out: an analyzer waits for 15 seconds, and takes what
+/// comes later for the reply to something else.
+const LATE: Duration = Duration::from_secs(10);
 
 /// The board is told anew no more often than that.
 const BOARD_EVERY: Duration = Duration::from_millis(200);
@@ -33,6 +37,7 @@ pub enum Event {
     Bytes {
         line: u8,
         bytes: Vec<u8>,
+        came: Instant,
         done: oneshot::Sender<()>,
     },
     /// A port is open, or there is trouble with it.
@@ -74,9 +79,16 @@ impl std::fmt::Display for Damaged {
 /// What is to leave at the end of a round.
 #[derive(Default)]
 struct Leaving {
-    bytes: Vec<(u8, Vec<u8>)>,
+    bytes: Vec<Outgoing>,
     replies: Vec<(oneshot::Sender<Reply>, Reply)>,
     done: Vec<oneshot::Sender<()>>,
+}
+
+/// Bytes for a line, and when that came which they follow from.
+struct Outgoing {
+    line: u8,
+    bytes: Vec<u8>,
+    came: Instant,
 }
 
 /// The one owner of the gateway.
@@ -88,12 +100,12 @@ pub struct Keeper {
     pub(crate) orders: Orders,
     pub(crate) lines: Vec<LineView>,
     pub(crate) saving: Saving,
-    /// Why what became of orders is not kept.
-    pub(crate) orders_trouble: Option<String>,
     /// Why the last archive was none.
     pub(crate) archive_trouble: Option<String>,
     pub(crate) started: i64,
     leaving: Leaving,
+    /// When that came which is acted on.
+    came: Instant,
     ports: Vec<Option<UnboundedSender<Vec<u8>>>>,
     /// The lines were told the time up to here, but for so much.
     told: Instant,
@@ -133,10 +145,10 @@ impl Keeper {
             orders,
             lines: (0..LINES).map(|_| LineView::new()).collect(),
             saving,
-            orders_trouble: None,
             archive_trouble: None,
             started: now(),
             leaving: Leaving::default(),
+            came: Instant::now(),
             ports: (0..LINES).map(|_| None).collect(),
             told: Instant::now(),
             owed: owed.unwrap_or(Duration::ZERO),
@@ -161,6 +173,7 @@ impl Keeper {
                 self.act(line, used, &answer)?;
             }
         }
+        self.leaving.bytes.clear();
         Ok(())
     }
 
@@ -189,27 +202,29 @@ impl Keeper {
 
     /// A line may go to another laboratory only where nothing of the last one waits: it is not the new one's to see.
     fn hand_lines_over(&mut self) -> Result<(), String> {
+        let settings = self.settings.clone();
+        let wanted = |line| settings.laboratory_of(line).unwrap_or("");
         for line in 0..LINES as u8 {
-            let set = self.settings.lines.iter().find(|set| set.number == line);
-            let wanted = set.map_or("", |set| &self.settings.laboratories[set.laboratory].name);
             let before = self.book.laboratory(line);
-            if wanted == before {
-                continue;
-            }
-            if self.book.waiting_count(line) > 0 {
+            if before != wanted(line) && self.book.waiting_count(line) > 0 {
                 return Err(format!(
                     "line {} was of {:?}, whose messages wait: archive them first (station archive SETTINGS)",
                     line, before
                 ));
             }
-            let is_free = self.orders.hand_over(line);
-            if !is_free.map_err(|error| format!("orders: {}", error))? {
+            if let Some(other) = self.orders.unfinished_of_others(line, wanted(line)) {
                 return Err(format!(
                     "line {} was of {:?}, whose orders wait: have them cancelled first",
-                    line, before
+                    line, other
                 ));
             }
-            self.book.hand_over(line, wanted);
+        }
+        for line in 0..LINES as u8 {
+            let forgotten = self.orders.hand_over(line, wanted(line));
+            forgotten.map_err(|error| format!("orders: {}", error))?;
+            if self.book.laboratory(line) != wanted(line) {
+                self.book.hand_over(line, wanted(line));
+            }
         }
         Ok(())
     }
@@ -294,10 +309,20 @@ impl Keeper {
 
     fn take_in(&mut self, event: Event) -> Result<bool, Damaged> {
         match event {
-            Event::Bytes { line, bytes, done } => {
+            Event::Bytes {
+                line,
+                bytes,
+                came,
+                done,
+            } => {
+                self.came = came;
+                let before = self.leaving.bytes.len();
                 for byte in bytes {
                     self.hear(line, byte)?;
                 }
+                // Who has sent more has not waited for the replies before the last, and would take them for others.
+                let last = self.leaving.bytes.split_off(before).pop();
+                self.leaving.bytes.extend(last);
                 self.leaving.done.push(done);
             }
             Event::Port { line, trouble } => self.see_port(line, trouble),
@@ -320,6 +345,7 @@ impl Keeper {
 
     /// Whole seconds have passed: each line is told.
     fn pass(&mut self, seconds: u64) -> Result<(), Damaged> {
+        self.came = Instant::now();
         let told = u8::try_from(seconds).unwrap_or(u8::MAX);
         for k in 0..self.settings.lines.len() {
             let line = self.settings.lines[k].number;
@@ -350,8 +376,11 @@ impl Keeper {
     /// What follows from an answer to an event of a line.
     fn act(&mut self, line: u8, used: u32, answer: &Answer) -> Result<(), Damaged> {
         if !answer.outgoing().is_empty() {
-            let bytes = answer.outgoing().to_vec();
-            self.leaving.bytes.push((line, bytes));
+            self.leaving.bytes.push(Outgoing {
+                line,
+                bytes: answer.outgoing().to_vec(),
+                came: self.came,
+            });
         }
         let mut more = String::new();
         match answer {
@@ -415,6 +444,7 @@ impl Keeper {
     /// Starts the next order of each line that has been silent for a while.
     fn start_orders(&mut self) -> Result<(), Damaged> {
         let at = Instant::now();
+        self.came = at;
         for k in 0..self.settings.lines.len() {
             let line = self.settings.lines[k].number;
             let is_free = self.gateway.state(line) == State::Neutral
@@ -444,6 +474,13 @@ impl Keeper {
     /// At its time of the day. Where that fails it is tried again every minute.
     fn archive_when_due(&mut self) -> Result<(), Damaged> {
         let at = Local::now();
+        // The wall's clock was set back.
+        if self
+            .archive_due
+            .map_or(false, |due| due - at > chrono::Duration::days(2))
+        {
+            self.archive_due = next_archive(&self.settings, at);
+        }
         if self.archive_due.map_or(false, |due| due <= at) {
             self.archive_due = match self.archive()? {
                 Ok(_) => next_archive(&self.settings, at),
@@ -473,14 +510,10 @@ impl Keeper {
 
     /// Keeps what became of orders. Where that fails they may be sent again, and nothing else waits for it.
     fn save_orders(&mut self) {
-        let trouble = self.orders.save().err().map(|error| error.to_string());
-        if trouble != self.orders_trouble {
-            self.log.say(match &trouble {
-                Some(why) => format!("orders are not kept: {}", why),
-                None => "orders are kept again".to_string(),
-            });
+        self.orders.save();
+        if let Some(news) = self.orders.news() {
+            self.log.say(news);
         }
-        self.orders_trouble = trouble;
     }
 
     /// Lets go what is to leave, once the disk has what it comes from.
@@ -491,10 +524,14 @@ impl Keeper {
             self.save();
         }
         let may_leave = self.saving.is_saved;
-        for (line, bytes) in leaving.bytes {
-            if let (true, Some(port)) = (may_leave, &self.ports[usize::from(line)]) {
+        for outgoing in leaving.bytes.into_iter().filter(|_| may_leave) {
+            let line = outgoing.line;
+            if outgoing.came.elapsed() > LATE {
+                let name = name_of(&self.settings, line);
+                self.log.say(format_args!("{}: too late to reply", name));
+            } else if let Some(port) = &self.ports[usize::from(line)] {
                 // A port that is gone takes nothing: what is sent to it is lost, as on a cable.
-                let _ = port.send(bytes);
+                let _ = port.send(outgoing.bytes);
             }
         }
         for (reply, answer) in leaving.replies {
@@ -514,14 +551,14 @@ impl Keeper {
     }
 }
 
-/// When the archive's time of the day comes next.
+/// When the archive's time of the day comes next. Where summer time leaves it out, it is an hour later.
 fn next_archive(settings: &Settings, at: DateTime<Local>) -> Option<DateTime<Local>> {
     let time = settings.archive_at?;
-    let today = at.date_naive();
-    [Some(today), today.succ_opt()]
-        .into_iter()
-        .flatten()
-        .filter_map(|day| day.and_time(time).and_local_timezone(Local).earliest())
+    let days = at.date_naive().iter_days().take(3);
+    let due = |time| Local.from_local_datetime(&time).earliest();
+    let later = chrono::Duration::hours(1);
+    days.map(|day| day.and_time(time))
+        .filter_map(|time| due(time).or_else(|| due(time + later)))
         .find(|due| *due > at)
 }
 

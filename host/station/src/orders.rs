@@ -12,7 +12,7 @@ use std::io;
 use std::path::{Path, PathBuf};
 use std::time::Instant;
 
-/// So many orders may wait on a line, and of those that are over so many are kept.
+/// So many orders may wait on a line, and of those that are over so many of each line are kept.
 pub const MOST_WAITING: usize = 100;
 const MOST_OVER: usize = 1_000;
 
@@ -39,6 +39,8 @@ impl Stage {
 pub struct Order {
     order: u64,
     pub line: u8,
+    /// Whose it is: the line may go to another laboratory.
+    laboratory: String,
     state: Stage,
     starts: u32,
     placed: Moment,
@@ -93,6 +95,9 @@ pub struct Orders {
     settings: OrderSettings,
     orders: BTreeMap<u64, Order>,
     unsaved: BTreeSet<u64>,
+    /// Why orders cannot be kept, and what was said of that last.
+    trouble: Option<String>,
+    said: Option<String>,
     /// No order is begun on a line before then.
     rests_until: [Option<Instant>; LINES],
 }
@@ -127,6 +132,8 @@ impl Orders {
             settings,
             orders: BTreeMap::new(),
             unsaved: BTreeSet::new(),
+            trouble: None,
+            said: None,
             rests_until: [None; LINES],
         };
         let names = fs::read_dir(folder).map_err(|error| told(folder, error.to_string()))?;
@@ -177,13 +184,24 @@ impl Orders {
         self.folder.join(number.to_string())
     }
 
+    /// A number that no order here has, nor any behind it.
+    pub fn next(&self) -> u64 {
+        self.orders.keys().last().map_or(1, |last| last + 1)
+    }
+
     /// A text that is a message is to be sent on a line. It is kept when this returns.
-    pub fn place(&mut self, line: u8, text: &[u8]) -> io::Result<u64> {
-        let number = self.orders.keys().last().map_or(1, |last| last + 1);
+    pub fn place(
+        &mut self,
+        number: u64,
+        line: u8,
+        laboratory: String,
+        text: &[u8],
+    ) -> io::Result<u64> {
         let at = now();
         let order = Order {
             order: number,
             line,
+            laboratory,
             state: Stage::Waiting,
             starts: 0,
             placed: at,
@@ -191,9 +209,22 @@ impl Orders {
             words: "waits for its line".to_string(),
             text: text.to_vec(),
         };
-        write_whole(&self.path(number), &order.file())?;
+        if let Err(error) = self.keep(&order) {
+            // It may be there even so, and is told to be not.
+            let _ = fs::remove_file(self.path(number));
+            return Err(error);
+        }
         self.orders.insert(number, order);
         Ok(number)
+    }
+
+    /// Writes an order's file, and returns when the disk has it.
+    fn keep(&mut self, order: &Order) -> io::Result<()> {
+        let kept = write_whole(&self.path(order.order), &order.file());
+        if let Err(error) = &kept {
+            self.trouble = Some(error.to_string());
+        }
+        kept
     }
 
     /// Cancels a waiting order. False: it does not wait.
@@ -289,7 +320,7 @@ impl Orders {
     fn change_kept(&mut self, number: u64, change: impl FnOnce(&mut Order)) -> io::Result<()> {
         let mut changed = self.orders[&number].clone();
         change(&mut changed);
-        write_whole(&self.path(number), &changed.file())?;
+        self.keep(&changed)?;
         self.orders.insert(number, changed);
         Ok(())
     }
@@ -303,29 +334,69 @@ impl Orders {
     }
 
     /// Keeps what has changed, and forgets what has been over for long. What fails is tried again the next time.
-    pub fn save(&mut self) -> io::Result<()> {
+    pub fn save(&mut self) {
+        let saved = self.save_all();
+        self.trouble = saved.err().map(|error| error.to_string());
+    }
+
+    fn save_all(&mut self) -> io::Result<()> {
+        if self.trouble.is_some() {
+            // Whether it is over: nobody may place an order for long.
+            let tried = self.folder.join("tried");
+            write_whole(&tried, &[0; 4_096])?;
+            fs::remove_file(tried)?;
+        }
         while let Some(number) = self.unsaved.iter().next().copied() {
             write_whole(&self.path(number), &self.orders[&number].file())?;
             self.unsaved.remove(&number);
         }
-        let over: Vec<u64> = self.over().collect();
-        self.forget(&over[..over.len().saturating_sub(MOST_OVER)])
-    }
-
-    fn over(&self) -> impl Iterator<Item = u64> + '_ {
-        let over = self.orders.values().filter(|order| order.state.is_over());
-        over.map(|order| order.order)
-    }
-
-    /// Another laboratory gets the line: it is not to see the orders of the last. False: some are not over.
-    pub fn hand_over(&mut self, line: u8) -> io::Result<bool> {
-        let all: Vec<u64> = self.of_lines(&[line]).map(|order| order.order).collect();
-        let is_over = |number: &u64| self.orders[number].state.is_over();
-        if !all.iter().all(is_over) {
-            return Ok(false);
+        for line in 0..LINES as u8 {
+            let over = self.over(line);
+            self.forget(&over[..over.len().saturating_sub(MOST_OVER)])?;
         }
-        self.forget(&all)?;
-        Ok(true)
+        Ok(())
+    }
+
+    /// The orders of a line that are over, by when that was.
+    fn over(&self, line: u8) -> Vec<u64> {
+        let own = self.orders.values().filter(|order| order.line == line);
+        let over = own.filter(|order| order.state.is_over());
+        let mut over: Vec<&Order> = over.collect();
+        over.sort_by_key(|order| order.changed);
+        over.iter().map(|order| order.order).collect()
+    }
+
+    pub fn trouble(&self) -> Option<String> {
+        self.trouble.clone()
+    }
+
+    /// What is to be said of keeping orders, if that is another than the last time.
+    pub fn news(&mut self) -> Option<String> {
+        let is_news = self.trouble != self.said;
+        self.said = self.trouble.clone();
+        is_news.then(|| match &self.trouble {
+            Some(why) => format!("orders are not kept: {}", why),
+            None => "orders are kept again".to_string(),
+        })
+    }
+
+    fn of_others<'a>(&'a self, line: u8, laboratory: &'a str) -> impl Iterator<Item = &'a Order> {
+        let own = self.orders.values().filter(move |order| order.line == line);
+        own.filter(move |order| order.laboratory != laboratory)
+    }
+
+    /// A laboratory other than this one that has an order on the line which is not over.
+    pub fn unfinished_of_others<'a>(&'a self, line: u8, laboratory: &'a str) -> Option<&'a str> {
+        let mut others = self.of_others(line, laboratory);
+        let unfinished = others.find(|order| !order.state.is_over());
+        unfinished.map(|order| &*order.laboratory)
+    }
+
+    /// A line is this laboratory's, which is not to see the orders of others.
+    pub fn hand_over(&mut self, line: u8, laboratory: &str) -> io::Result<()> {
+        let others = self.of_others(line, laboratory);
+        let others: Vec<u64> = others.map(|order| order.order).collect();
+        self.forget(&others)
     }
 
     fn forget(&mut self, numbers: &[u64]) -> io::Result<()> {

@@ -18,7 +18,7 @@ use std::os::unix::fs::{symlink, OpenOptionsExt};
 use std::os::unix::io::{AsRawFd, FromRawFd, IntoRawFd};
 use std::path::Path;
 use std::sync::mpsc::Sender;
-use std::time::Duration;
+use std::time::{Duration, Instant};
 use tokio::io::unix::AsyncFd;
 use tokio::io::{AsyncReadExt, AsyncWriteExt};
 use tokio::net::TcpStream;
@@ -124,6 +124,8 @@ async fn serve(
     let mut piece = [0; PIECE];
     loop {
         tokio::select! {
+            // What is to leave goes first: else replies would gather behind a line that floods.
+            biased;
             bytes = outgoing.recv() => match timeout(PATIENCE, port.write(&bytes?)).await {
                 Ok(Ok(())) => {}
                 Ok(Err(error)) => return Some(error),
@@ -133,8 +135,13 @@ async fn serve(
                 Ok(0) => return Some(ErrorKind::UnexpectedEof.into()),
                 Ok(count) => {
                     let (done, settled) = oneshot::channel();
-                    let bytes = piece[..count].to_vec();
-                    keeper.send(Event::Bytes { line, bytes, done }).ok()?;
+                    let event = Event::Bytes {
+                        line,
+                        bytes: piece[..count].to_vec(),
+                        came: Instant::now(),
+                        done,
+                    };
+                    keeper.send(event).ok()?;
                     settled.await.ok()?;
                 }
                 Err(error) if error.kind() == ErrorKind::Interrupted => {}
@@ -208,7 +215,8 @@ fn make_terminal(link: &Path) -> io::Result<File> {
     if let Some(folder) = link.parent() {
         fs::create_dir_all(folder)?;
     }
-    let made = link.with_extension("new");
+    let mut made = link.as_os_str().to_owned();
+    made.push(".new");
     let _ = fs::remove_file(&made);
     symlink(&other, &made)?;
     fs::rename(&made, link)?;

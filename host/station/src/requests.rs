@@ -194,7 +194,10 @@ impl Keeper {
             return not_a_message(&refusal);
         }
         let name = name_of(&self.settings, line);
-        match self.orders.place(line, text) {
+        let laboratory = self.settings.laboratory_of(line).unwrap_or("").to_string();
+        let number = self.book.number_order(self.orders.next());
+        self.has_changed();
+        match self.orders.place(number, line, laboratory, text) {
             Ok(order) => {
                 self.log
                     .say(format_args!("{}: order {} placed", name, order));

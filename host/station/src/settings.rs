@@ -129,6 +129,12 @@ impl Settings {
         })
     }
 
+    /// Whose a line is, by name.
+    pub fn laboratory_of(&self, line: u8) -> Option<&str> {
+        let set = self.lines.iter().find(|set| set.number == line)?;
+        Some(&self.laboratories[set.laboratory].name)
+    }
+
     /// What each line of the gateway speaks.
     pub fn speaks(&self) -> [ngachodui::Settings; LINES] {
         let mut all = [ngachodui::Settings::default(); LINES];

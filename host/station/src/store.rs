@@ -73,6 +73,11 @@ impl Store {
         file.read_to_end(&mut all)
             .map_err(|error| error.to_string())?;
         let (number, place, saved) = newest(&all)?;
+        // A kill before the disk had it leaves it in memory alone: the next save must not be the only one then.
+        let written = &all[place * PLACE..][..HEAD + saved.len()];
+        file.write_all_at(written, (place * PLACE) as u64)
+            .and_then(|()| file.sync_data())
+            .map_err(|error| error.to_string())?;
         self.number = number;
         self.next = 1 - place;
         self.file = Some(file);

@@ -80,9 +80,18 @@ fn bench_with(settings: Arc<Settings>) -> Bench {
 impl Bench {
     /// Bytes come in on a line; what has gone out on it when they are settled.
     fn hear(&mut self, line: u8, bytes: &[u8]) -> Vec<u8> {
+        self.hear_late(line, bytes, Instant::now())
+    }
+
+    /// The same, of bytes that have come a while ago.
+    fn hear_late(&mut self, line: u8, bytes: &[u8], came: Instant) -> Vec<u8> {
         let (done, mut settled) = oneshot::channel();
-        let bytes = bytes.to_vec();
-        let event = Event::Bytes { line, bytes, done };
+        let event = Event::Bytes {
+            line,
+            bytes: bytes.to_vec(),
+            came,
+            done,
+        };
         self.keeper.take_in(event).expect("sound");
         self.keeper.settle();
         assert_eq!(settled.try_recv(), Ok(()));
@@ -228,6 +237,23 @@ fn nothing_leaves_while_saving_fails() {
     assert_eq!(on_disk(&folder).book.waiting_count(0), 1);
 }
 
+/// An analyzer takes a reply for that to what it sent last: so one that it did not wait for must not come.
+#[test]
+fn replies_that_come_too_late_do_not_leave() {
+    let folder = Folder::new();
+    let mut bench = bench(&folder);
+    // A disk that takes 11 seconds.
+    let came = Instant::now().checked_sub(Duration::from_secs(11));
+    assert_eq!(bench.hear(0, ENQ), ACK);
+    assert_eq!(bench.hear_late(0, FRAME, came.expect("uptime")), b"");
+    assert_eq!(on_disk(&folder).book.waiting_count(0), 1);
+    // It is resent, and known.
+    assert_eq!(bench.hear(0, FRAME), ACK);
+    assert_eq!(bench.keeper.book.waiting_count(0), 1);
+    // The analyzer gives up twice while nobody listens, and asks a third time: one ACK, for that.
+    assert_eq!(bench.hear(0, b"\x04\x05\x04\x05\x04\x05"), ACK);
+}
+
 #[test]
 fn a_frame_resent_after_a_kill_is_a_repeat() {
     let folder = Folder::new();
@@ -294,8 +320,7 @@ fn what_was_sent_is_over_where_nobody_knows_how_long_ago() {
     drop(store);
     let mut bench = bench_with(settings(&folder.path, "frames"));
     assert_eq!(bench.keeper.gateway.state(0), State::Neutral);
-    // What leaves is our own.
-    assert_eq!(bench.hear(0, EOT), EOT);
+    assert_eq!(bench.hear(0, EOT), b"");
     let tally = bench.keeper.orders.tally(0);
     assert_eq!((tally.waiting, tally.sent_today), (1, 0));
 }
@@ -563,18 +588,24 @@ fn so_many_orders_wait_and_so_many_are_remembered() {
     assert_eq!(bench.ask(full).status, 429);
     // Another line has its own.
     bench.place(1, &text);
-    for number in 1..=1_020 {
+    let cancel = |bench: &mut Bench, number| {
         let lines = vec![0, 1];
-        if number != 101 {
-            assert_eq!(bench.ask(Request::Cancel { lines, number }).status, 200);
-            bench.place(0, &text);
-        }
+        assert_eq!(bench.ask(Request::Cancel { lines, number }).status, 200);
+        bench.keeper.save_orders();
+    };
+    for number in (2..=1_020).filter(|number| *number != 101) {
+        cancel(&mut bench, number);
+        bench.place(0, &text);
     }
-    bench.keeper.save_orders();
-    assert_eq!(bench.keeper.orders.tally(0).waiting, 100);
-    assert_eq!(bench.keeper.orders.of_lines(&[0]).count(), 1_100);
+    // The oldest is over last, and is among those that stay; the other line's is too.
+    cancel(&mut bench, 1);
+    cancel(&mut bench, 101);
+    let orders = &bench.keeper.orders;
+    assert!(orders.get(1).is_some() && orders.get(101).is_some());
+    assert_eq!(orders.tally(0).waiting, 99);
+    assert_eq!(orders.of_lines(&[0]).count(), 1_099);
     let files = fs::read_dir(folder.path.join("orders")).expect("there");
-    assert_eq!(files.count(), 1_101);
+    assert_eq!(files.count(), 1_100);
 }
 
 #[test]
@@ -591,6 +622,12 @@ fn when_the_archive_comes_next() {
         assert!(due > at && due <= at + chrono::Duration::hours(25));
         assert_eq!(due.time(), time);
     }
+    // The wall's clock was set back by a year meanwhile.
+    let mut bench = bench_with(Arc::new(settings));
+    bench.keeper.archive_due = Some(at + chrono::Duration::days(365));
+    bench.keeper.pass(1).expect("sound");
+    let due = bench.keeper.archive_due.expect("every day");
+    assert!(due <= Local::now() + chrono::Duration::hours(25));
 }
 
 #[test]
@@ -622,9 +659,19 @@ fn a_line_changes_hands_only_where_nothing_waits() {
     let (lines, number) = (vec![0, 1], 1);
     assert_eq!(third.ask(Request::Cancel { lines, number }).status, 200);
     drop(third);
-    // What was north's is not south's to see.
-    let keeper = Keeper::open(other(), quiet()).expect("nothing waits");
-    assert_eq!(keeper.orders.of_lines(&[1]).count(), 0);
+    // What was north's is not south's to see, and no number is given twice.
+    let mut fourth = bench_with(other());
+    assert_eq!(fourth.keeper.orders.of_lines(&[1]).count(), 0);
+    fourth.place(1, &texts::order(1, 2));
+    assert!(fourth.keeper.orders.get(1).is_none());
+    assert!(fourth.keeper.orders.get(2).is_some());
+    drop(fourth);
+    // A state that was moved away leaves the orders, and they are whose they were.
+    fs::remove_file(folder.path.join("state")).expect("saved");
+    let why = Keeper::open(settings(&folder.path, "frames"), quiet()).err();
+    assert!(why.expect("south's order waits").contains("\"south\""));
+    let fifth = Keeper::open(other(), quiet()).expect("its own order");
+    assert_eq!(fifth.orders.tally(1).waiting, 1);
 }
 
 #[test]
@@ -641,6 +688,7 @@ fn an_order_that_cannot_be_kept_is_not_sent_and_holds_nobody_up() {
     assert_eq!(place(&mut bench), 507);
     bench.keeper.pass(1).expect("sound");
     assert_eq!(bench.sent(1), b"");
+    assert!(bench.keeper.orders.trouble().is_some());
     assert_eq!(bench.keeper.gateway.state(1), State::Neutral);
     assert_eq!(bench.hear(0, FRAME), ACK);
     // It can be kept again, and goes out.
@@ -650,11 +698,11 @@ fn an_order_that_cannot_be_kept_is_not_sent_and_holds_nobody_up() {
     // Once more not: the sending is over even so, and that is kept later.
     fs::remove_dir_all(folder.path.join("orders")).expect("there");
     assert_eq!(bench.hear(1, ENQ), b"");
-    assert!(bench.keeper.orders_trouble.is_some());
+    assert!(bench.keeper.orders.trouble().is_some());
     assert_eq!(bench.hear(0, FRAME), ACK);
     fs::create_dir_all(folder.path.join("orders")).expect("made");
     bench.keeper.pass(1).expect("sound");
-    assert_eq!(bench.keeper.orders_trouble, None);
+    assert_eq!(bench.keeper.orders.trouble(), None);
 }
 
 #[test]
@@ -686,10 +734,10 @@ fn what_is_archived_was_saved_as_stored() {
     let folder = Folder::new();
     let mut bench = bench(&folder);
     let (done, _settled) = oneshot::channel();
-    let bytes = [ENQ, FRAME].concat();
     let event = Event::Bytes {
         line: 0,
-        bytes,
+        bytes: [ENQ, FRAME].concat(),
+        came: Instant::now(),
         done,
     };
     bench.keeper.take_in(event).expect("sound");

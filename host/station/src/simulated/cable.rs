@@ -406,6 +406,8 @@ mod tests {
         is_away(&mut cable);
         let mut station = linked(&path);
         holds(&mut cable, &mut station);
+        // Its number may be another test's terminal soon.
+        fs::remove_file(&path).expect("a link");
         drop(station);
         is_away(&mut cable);
         let mut station = linked(&path);

@@ -120,9 +120,10 @@ impl Station {
         until("the station answers", || anybody.get("/board").is_ok());
     }
 
-    /// SIGKILL, at once.
+    /// SIGKILL, at once. Its terminals may be those of another test then, so that no link leads to them.
     pub fn kill(&mut self) {
         if let Some(mut child) = self.child.take() {
+            let _ = fs::remove_dir_all(self.folder.path.join("state/ports"));
             child.kill().expect("it runs");
             child.wait().expect("it ran");
         }
