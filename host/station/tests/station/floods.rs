@@ -8,6 +8,9 @@ use std::sync::atomic::{AtomicBool, Ordering};
 use std::thread;
 use std::time::{Duration, Instant};
 
+/// What a station may have, in KiB.
+const MOST_MEMORY: u64 = 16 * 1_024;
+
 fn analyzer(cable: Cable) -> Analyzer {
     Analyzer {
         patience: Duration::from_secs(5),
@@ -61,6 +64,8 @@ fn the_others_keep_their_share() {
     // Each of the seven waited for its own frames' saves, and not for the flood.
     assert!(slowest < Duration::from_secs(5), "{:?}", slowest);
     println!("the others took {:?} at most", slowest);
+    // Replies to the flood do not gather.
+    assert!(station.memory() < MOST_MEMORY, "{} KiB", station.memory());
     let board = station.next_board();
     let used = board["lines"][0]["used"].as_u64();
     assert!(used.expect("a count") > 2_048);

@@ -148,6 +148,15 @@ impl Station {
         self.child.as_ref().expect("started").id()
     }
 
+    /// How many KiB of memory it has.
+    pub fn memory(&self) -> u64 {
+        let path = format!("/proc/{}/status", self.process());
+        let status = fs::read_to_string(path).expect("it runs");
+        let line = status.lines().find(|line| line.starts_with("VmRSS:"));
+        let size = line.and_then(|line| line.split_whitespace().nth(1)?.parse().ok());
+        size.expect("a size in KiB")
+    }
+
     pub fn log(&self) -> String {
         fs::read_to_string(self.folder.path.join("log")).unwrap_or_default()
     }

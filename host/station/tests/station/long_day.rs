@@ -6,7 +6,6 @@ use ngachodui_station::simulated::analyzer::{Analyzer, Fate};
 use ngachodui_station::simulated::cable::Cable;
 use ngachodui_station::simulated::texts::{identity, result, Size};
 use ngachodui_station::testing::Folder;
-use std::fs;
 use std::sync::atomic::{AtomicBool, AtomicU32, Ordering};
 use std::thread;
 use std::time::Duration;
@@ -38,14 +37,6 @@ fn send_all(line: u8, cable: Cable, is_over: &AtomicBool) {
     }
 }
 
-/// How many KiB of memory a process has.
-fn resident(process: u32) -> u64 {
-    let status = fs::read_to_string(format!("/proc/{}/status", process)).expect("it runs");
-    let line = status.lines().find(|line| line.starts_with("VmRSS:"));
-    let size = line.and_then(|line| line.split_whitespace().nth(1)?.parse().ok());
-    size.expect("a size in KiB")
-}
-
 /// Takes a line's messages, each as it comes, and counts them.
 fn take_all(reader: &Client, taken: &AtomicU32) {
     for number in 0..EACH {
@@ -69,7 +60,6 @@ fn a_hundred_thousand_messages() {
     // In memory: what is looked at here is not the disk.
     let mut station = Station::in_folder(Folder::in_memory(), "", &lines);
     let readers = names.map(|name| station.reader(name));
-    let process = station.process();
     let taken = &AtomicU32::new(0);
     let is_over = &AtomicBool::new(false);
     let early = thread::scope(|scope| {
@@ -82,14 +72,14 @@ fn a_hundred_thousand_messages() {
             assert!(!readers.iter().any(|reader| reader.is_finished()));
             thread::sleep(Duration::from_millis(50));
         }
-        let early = resident(process);
+        let early = station.memory();
         for reader in readers {
             reader.join().expect("it has taken all");
         }
         early
     });
     assert_eq!(taken.load(Ordering::Relaxed), MESSAGES);
-    let late = resident(process);
+    let late = station.memory();
     assert!(station.runs());
     println!("{} KiB behind a tenth, {} KiB at the end", early, late);
     assert!(late < early + MOST_GROWN);
