@@ -33,11 +33,11 @@ const MOST_ASKED: usize = 4;
 const MOST_HEAD: usize = 16 * 1_024;
 const MOST_DISCARDED: usize = 1_024 * 1_024;
 
-/// How long a request's head may take, how long its body, how long the keeper, and all that follows the head.
+/// How long a request's head may take, how long its body, its turn and the keeper each, and all that follows the head.
 const HEAD_TIME: Duration = Duration::from_secs(5);
 const BODY_TIME: Duration = Duration::from_secs(5);
 const KEEPER_TIME: Duration = Duration::from_secs(10);
-const REQUEST_TIME: Duration = Duration::from_secs(20);
+const REQUEST_TIME: Duration = Duration::from_secs(30);
 
 const PAGE: &str = include_str!("../board/board.html");
 
@@ -50,7 +50,7 @@ pub struct Http {
     published: Arc<Published>,
     keeper: Mutex<Sender<Event>>,
     /// For each laboratory, and the operator behind them, who may ask at a time.
-    turns: Vec<Semaphore>,
+    turns: Vec<Arc<Semaphore>>,
     log: Log,
 }
 
@@ -66,7 +66,9 @@ impl Http {
             settings,
             published,
             keeper: Mutex::new(keeper),
-            turns: (0..askers).map(|_| Semaphore::new(MOST_ASKED)).collect(),
+            turns: (0..askers)
+                .map(|_| Arc::new(Semaphore::new(MOST_ASKED)))
+                .collect(),
             log,
         }
     }
@@ -237,17 +239,19 @@ impl Http {
     }
 
     async fn ask(&self, asker: usize, request: Request) -> Reply {
-        let turn = timeout(KEEPER_TIME, self.turns[asker].acquire()).await;
-        let _turn = match turn {
-            Ok(turn) => turn,
+        let turn = self.turns[asker].clone().acquire_owned();
+        let turn = match timeout(KEEPER_TIME, turn).await {
+            Ok(turn) => turn.ok(),
             Err(_) => return Reply::error(503, "this laboratory asks too much at a time"),
         };
         let (reply, answered) = oneshot::channel();
-        let sent = match self.keeper.lock() {
-            Ok(keeper) => keeper.send(Event::Request { request, reply }).is_ok(),
-            Err(_) => false,
+        let event = Event::Request {
+            request,
+            reply,
+            turn,
         };
-        if !sent {
+        let keeper = self.keeper.lock().map(|keeper| keeper.clone());
+        if !keeper.map_or(false, |keeper| keeper.send(event).is_ok()) {
             return Reply::error(503, "the station stops");
         }
         match timeout(KEEPER_TIME, answered).await {
@@ -364,4 +368,60 @@ async fn refuse(mut stream: TcpStream, reply: Reply) {
     let all = [head.as_bytes(), &reply.body].concat();
     let _ = timeout(HEAD_TIME, stream.write_all(&all)).await;
     let _ = stream.shutdown().await;
+}
+
+#[cfg(test)]
+mod tests {
+    use super::*;
+    use crate::settings::{Laboratory, OrderSettings};
+    use std::sync::mpsc::channel;
+    use tokio::runtime::Builder;
+
+    fn settings() -> Arc<Settings> {
+        let laboratory = |name: &str| Laboratory {
+            name: name.to_string(),
+            token: format!("token of {}", name),
+        };
+        Arc::new(Settings {
+            folder: "state".into(),
+            listen: "127.0.0.1:0".to_string(),
+            archive_at: None,
+            operator: None,
+            laboratories: vec![laboratory("north"), laboratory("south")],
+            lines: Vec::new(),
+            orders: OrderSettings {
+                silence: Duration::ZERO,
+                again: Duration::ZERO,
+                starts: 1,
+            },
+        })
+    }
+
+    /// Also of a laboratory whose readers do not wait for the reply; and the other's are not held up.
+    #[test]
+    fn so_many_requests_of_a_laboratory_are_at_the_keeper() {
+        let (events, coming) = channel();
+        let log = Log::with(0).0;
+        let http = Http::new(settings(), Arc::new(Published::new()), events, log);
+        let http = Arc::new(http);
+        let runtime = Builder::new_multi_thread().enable_all().build();
+        let runtime = runtime.expect("threads");
+        let ask = |laboratory| {
+            let http = http.clone();
+            runtime.spawn(async move { http.ask(laboratory, Request::Waiting(vec![])).await })
+        };
+        let next = |wait| coming.recv_timeout(Duration::from_millis(wait)).ok();
+        let asked: Vec<_> = (0..10).map(|_| ask(0)).collect();
+        let mut there: Vec<Event> = (0..MOST_ASKED).filter_map(|_| next(5_000)).collect();
+        assert_eq!(there.len(), MOST_ASKED);
+        assert!(next(100).is_none());
+        let _other = ask(1);
+        assert!(next(5_000).is_some());
+        asked.iter().for_each(|task| task.abort());
+        let _again = ask(0);
+        assert!(next(100).is_none());
+        drop(there.pop());
+        assert!(next(5_000).is_some());
+        runtime.shutdown_background();
+    }
 }

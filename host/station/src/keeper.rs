@@ -19,7 +19,7 @@ use ngachodui::{Answer, Gateway, State, LINES};
 use std::sync::mpsc::{Receiver, RecvTimeoutError};
 use std::sync::Arc;
 use std::time::{Duration, Instant};
-use tokio::sync::{mpsc::UnboundedSender, oneshot};
+use tokio::sync::{mpsc::UnboundedSender, oneshot, OwnedSemaphorePermit};
 
 /// So many events are taken in before what is to leave leaves.
 const MOST_IN_ROUND: usize = 256;
@@ -30,6 +30,10 @@ const LATE: Duration = Duration::from_secs(10);
 
 /// The board is told anew no more often than that.
 const BOARD_EVERY: Duration = Duration::from_millis(200);
+
+/// Held by a request until its round is over: so many of a laboratory are there at a time, also of those that do not
+/// wait for the reply.
+pub type Turn = Option<OwnedSemaphorePermit>;
 
 /// What comes to the keeper.
 pub enum Event {
@@ -46,6 +50,7 @@ pub enum Event {
     Request {
         request: Request,
         reply: oneshot::Sender<Reply>,
+        turn: Turn,
     },
     /// The station is to stop.
     Stop,
@@ -80,7 +85,7 @@ impl std::fmt::Display for Damaged {
 #[derive(Default)]
 struct Leaving {
     bytes: Vec<Outgoing>,
-    replies: Vec<(oneshot::Sender<Reply>, Reply)>,
+    replies: Vec<(oneshot::Sender<Reply>, Reply, Turn)>,
     done: Vec<oneshot::Sender<()>>,
 }
 
@@ -280,16 +285,21 @@ impl Keeper {
 
     /// The time that the lines were not told yet.
     fn untold(&self) -> Duration {
-        self.owed + self.told.elapsed()
+        self.untold_at(Instant::now())
+    }
+
+    fn untold_at(&self, at: Instant) -> Duration {
+        self.owed + at.saturating_duration_since(self.told)
     }
 
     /// Tells the lines the whole seconds that have passed, if there are some. The fraction is kept for the next time,
     /// over kills too: many kills in a row would else stop the lines' clock.
     fn tell_time(&mut self) -> Result<bool, Damaged> {
-        let untold = self.untold();
+        let at = Instant::now();
+        let untold = self.untold_at(at);
         let seconds = untold.as_secs();
         if seconds > 0 {
-            self.told = Instant::now();
+            self.told = at;
             self.owed = untold - Duration::from_secs(seconds);
             self.pass(seconds)?;
         }
@@ -326,9 +336,13 @@ impl Keeper {
                 self.leaving.done.push(done);
             }
             Event::Port { line, trouble } => self.see_port(line, trouble),
-            Event::Request { request, reply } => {
+            Event::Request {
+                request,
+                reply,
+                turn,
+            } => {
                 let answer = self.serve(request)?;
-                self.leaving.replies.push((reply, answer));
+                self.leaving.replies.push((reply, answer, turn));
             }
             Event::Stop => return Ok(false),
         }
@@ -534,7 +548,7 @@ impl Keeper {
                 let _ = port.send(outgoing.bytes);
             }
         }
-        for (reply, answer) in leaving.replies {
+        for (reply, answer, _turn) in leaving.replies {
             let answer = match may_leave {
                 true => answer,
                 false => cannot_save(),

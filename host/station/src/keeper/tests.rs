@@ -109,7 +109,11 @@ impl Bench {
 
     fn ask(&mut self, request: Request) -> Reply {
         let (reply, mut answered) = oneshot::channel();
-        let event = Event::Request { request, reply };
+        let event = Event::Request {
+            request,
+            reply,
+            turn: None,
+        };
         self.keeper.take_in(event).expect("sound");
         self.keeper.settle();
         answered.try_recv().expect("settled")
