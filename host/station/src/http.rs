@@ -238,6 +238,12 @@ impl Http {
         found
     }
 
+    /// Hands an event to the keeper. False: there is none any more.
+    fn hand_on(&self, event: Event) -> bool {
+        let keeper = self.keeper.lock();
+        keeper.map_or(false, |keeper| keeper.send(event).is_ok())
+    }
+
     async fn ask(&self, asker: usize, request: Request) -> Reply {
         let turn = self.turns[asker].clone().acquire_owned();
         let turn = match timeout(KEEPER_TIME, turn).await {
@@ -250,8 +256,7 @@ impl Http {
             reply,
             turn,
         };
-        let keeper = self.keeper.lock().map(|keeper| keeper.clone());
-        if !keeper.map_or(false, |keeper| keeper.send(event).is_ok()) {
+        if !self.hand_on(event) {
             return Reply::error(503, "the station stops");
         }
         match timeout(KEEPER_TIME, answered).await {
