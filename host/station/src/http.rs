@@ -27,11 +27,12 @@ use tokio::time::{sleep, timeout};
 /// At most so many connections at a time, so many bytes of a request's head, and of a body that is too large so
 /// many are read before it is refused, so that who sends it hears the refusal.
 const MOST_CONNECTIONS: usize = 512;
+const MOST_HEAD: usize = 16 * 1_024;
+const MOST_DISCARDED: usize = 1_024 * 1_024;
+
 /// So many requests of a laboratory are at the keeper at a time: it waits for the disk for some of them, and the lines
 /// of all wait with it.
 const MOST_ASKED: usize = 4;
-const MOST_HEAD: usize = 16 * 1_024;
-const MOST_DISCARDED: usize = 1_024 * 1_024;
 
 /// How long a request's head may take, how long its body, its turn and the keeper each, and all that follows the head.
 const HEAD_TIME: Duration = Duration::from_secs(5);

@@ -24,8 +24,8 @@ use tokio::sync::{mpsc::UnboundedSender, oneshot, OwnedSemaphorePermit};
 /// So many events are taken in before what is to leave leaves.
 const MOST_IN_ROUND: usize = 256;
 
-/// Bytes that leave so long after what they reply to are left out: an analyzer waits for 15 seconds, and takes what
-/// comes later for the reply to something else.
+/// A reply that would leave so long after what it replies to is left out: an analyzer waits for 15 seconds, and takes
+/// what comes later for the reply to something else.
 const LATE: Duration = Duration::from_secs(10);
 
 /// The board is told anew no more often than that.
@@ -89,11 +89,12 @@ struct Leaving {
     done: Vec<oneshot::Sender<()>>,
 }
 
-/// Bytes for a line, and when that came which they follow from.
+/// Bytes for a line. A reply has the time at which that came which it replies to; what a sending sends has none, and
+/// leaves whatever comes in between, as the line counts on it.
 struct Outgoing {
     line: u8,
     bytes: Vec<u8>,
-    came: Instant,
+    replies_to: Option<Instant>,
 }
 
 /// The one owner of the gateway.
@@ -109,7 +110,7 @@ pub struct Keeper {
     pub(crate) archive_trouble: Option<String>,
     pub(crate) started: i64,
     leaving: Leaving,
-    /// When that came which is acted on.
+    /// When the bytes came that are acted on.
     came: Instant,
     ports: Vec<Option<UnboundedSender<Vec<u8>>>>,
     /// The lines were told the time up to here, but for so much.
@@ -330,9 +331,7 @@ impl Keeper {
                 for byte in bytes {
                     self.hear(line, byte)?;
                 }
-                // Who has sent more has not waited for the replies before the last, and would take them for others.
-                let last = self.leaving.bytes.split_off(before).pop();
-                self.leaving.bytes.extend(last);
+                self.leave_out_unheard(before);
                 self.leaving.done.push(done);
             }
             Event::Port { line, trouble } => self.see_port(line, trouble),
@@ -349,6 +348,16 @@ impl Keeper {
         Ok(true)
     }
 
+    /// Of what was gathered behind this place for one piece of bytes: who has sent more has not waited for the replies
+    /// before the last, and would take them for others.
+    fn leave_out_unheard(&mut self, before: usize) {
+        let gathered = self.leaving.bytes.split_off(before);
+        let count = gathered.len();
+        let heard = |(one, place): &(Outgoing, usize)| one.replies_to.is_none() || *place == count;
+        let heard = gathered.into_iter().zip(1..).filter(heard);
+        self.leaving.bytes.extend(heard.map(|(one, _)| one));
+    }
+
     fn hear(&mut self, line: u8, byte: u8) -> Result<(), Damaged> {
         let used = self.gateway.used(line);
         let answer = self.gateway.byte(line, byte);
@@ -359,7 +368,6 @@ impl Keeper {
 
     /// Whole seconds have passed: each line is told.
     fn pass(&mut self, seconds: u64) -> Result<(), Damaged> {
-        self.came = Instant::now();
         let told = u8::try_from(seconds).unwrap_or(u8::MAX);
         for k in 0..self.settings.lines.len() {
             let line = self.settings.lines[k].number;
@@ -390,10 +398,11 @@ impl Keeper {
     /// What follows from an answer to an event of a line.
     fn act(&mut self, line: u8, used: u32, answer: &Answer) -> Result<(), Damaged> {
         if !answer.outgoing().is_empty() {
+            let sends = matches!(answer, Answer::Sending { .. } | Answer::SendingEnded { .. });
             self.leaving.bytes.push(Outgoing {
                 line,
                 bytes: answer.outgoing().to_vec(),
-                came: self.came,
+                replies_to: (!sends).then_some(self.came),
             });
         }
         let mut more = String::new();
@@ -458,7 +467,6 @@ impl Keeper {
     /// Starts the next order of each line that has been silent for a while.
     fn start_orders(&mut self) -> Result<(), Damaged> {
         let at = Instant::now();
-        self.came = at;
         for k in 0..self.settings.lines.len() {
             let line = self.settings.lines[k].number;
             let is_free = self.gateway.state(line) == State::Neutral
@@ -540,7 +548,8 @@ impl Keeper {
         let may_leave = self.saving.is_saved;
         for outgoing in leaving.bytes.into_iter().filter(|_| may_leave) {
             let line = outgoing.line;
-            if outgoing.came.elapsed() > LATE {
+            let is_late = |came: Instant| came.elapsed() > LATE;
+            if outgoing.replies_to.map_or(false, is_late) {
                 let name = name_of(&self.settings, line);
                 self.log.say(format_args!("{}: too late to reply", name));
             } else if let Some(port) = &self.ports[usize::from(line)] {
@@ -578,12 +587,8 @@ fn next_archive(settings: &Settings, at: DateTime<Local>) -> Option<DateTime<Loc
 
 /// A line with its laboratory, for the log.
 pub(crate) fn name_of(settings: &Settings, line: u8) -> String {
-    let found = settings.lines.iter().find(|set| set.number == line);
-    match found {
-        Some(set) => format!(
-            "line {} ({})",
-            line, settings.laboratories[set.laboratory].name
-        ),
+    match settings.laboratory_of(line) {
+        Some(laboratory) => format!("line {} ({})", line, laboratory),
         None => format!("line {}", line),
     }
 }

@@ -174,7 +174,7 @@ impl Orders {
         for (number, stage) in turns {
             let words = match stage {
                 Stage::Sending => GOES_OUT,
-                _ => "stopped with the station; tried again",
+                _ => "stopped with the station; started again",
             };
             self.change(number, stage, words);
         }
@@ -184,7 +184,7 @@ impl Orders {
         self.folder.join(number.to_string())
     }
 
-    /// A number that no order here has, nor any behind it.
+    /// The number behind those of all orders here.
     pub fn next(&self) -> u64 {
         self.orders.keys().last().map_or(1, |last| last + 1)
     }

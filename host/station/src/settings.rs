@@ -78,12 +78,12 @@ pub enum Parity {
     Odd,
 }
 
-/// When an order is sent, and how often it is tried.
+/// When an order is started, and how often.
 #[derive(Clone, Copy, Debug)]
 pub struct OrderSettings {
-    /// How long a line has been silent before an order is sent, so that its analyzer can send.
+    /// How long a line has been silent before an order is started, so that its analyzer can send.
     pub silence: Duration,
-    /// How long after a sending that was not acknowledged the next is tried.
+    /// How long after a sending that was not acknowledged the next is started.
     pub again: Duration,
     pub starts: u32,
 }

@@ -232,7 +232,6 @@ mod tests {
         assert_eq!(open(&folder).1.as_deref(), Some(&b"one"[..]));
     }
 
-    /// A save that is torn at any byte, or has any byte altered, leaves the one before.
     /// A disk that is full afterwards has it already.
     #[test]
     fn the_first_save_has_the_room_of_all() {
@@ -252,6 +251,7 @@ mod tests {
         }
     }
 
+    /// A save that is torn at any byte, or has any byte altered, leaves the one before.
     #[test]
     fn a_torn_save_leaves_the_one_before() {
         let folder = Folder::new();

@@ -119,6 +119,12 @@ impl Bench {
         answered.try_recv().expect("settled")
     }
 
+    /// A second passes, and the line begins an order.
+    fn asks(&mut self, line: u8) {
+        self.keeper.pass(1).expect("sound");
+        assert_eq!(self.sent(line), ENQ);
+    }
+
     fn place(&mut self, line: u8, text: &[u8]) {
         let text = text.to_vec();
         assert_eq!(self.ask(Request::Place { line, text }).status, 202);
@@ -258,6 +264,26 @@ fn replies_that_come_too_late_do_not_leave() {
     assert_eq!(bench.hear(0, b"\x04\x05\x04\x05\x04\x05"), ACK);
 }
 
+/// A line counts each frame that it has to send as sent: none of them stays here.
+#[test]
+fn frames_leave_whatever_comes_in_between() {
+    let folder = Folder::new();
+    let mut bench = bench(&folder);
+    bench.place(0, &texts::order(0, 1));
+    bench.asks(0);
+    let came = Instant::now().checked_sub(Duration::from_secs(11));
+    let first = bench.hear_late(0, ACK, came.expect("uptime"));
+    assert_eq!(first[..2], [STX, b'1']);
+    // Two at a time, of which one is noise.
+    let sent = bench.hear(0, &[ACK, ACK].concat());
+    let numbers: Vec<u8> = sent
+        .split(|byte| *byte == STX)
+        .skip(1)
+        .map(|f| f[0])
+        .collect();
+    assert_eq!(numbers, b"23");
+}
+
 #[test]
 fn a_frame_resent_after_a_kill_is_a_repeat() {
     let folder = Folder::new();
@@ -310,8 +336,7 @@ fn what_was_sent_is_over_where_nobody_knows_how_long_ago() {
     let mut bench = bench(&folder);
     let text = texts::order(0, 1);
     bench.place(0, &text);
-    bench.keeper.pass(1).expect("sound");
-    assert_eq!(bench.sent(0), ENQ);
+    bench.asks(0);
     bench.take_all_frames(0, &text);
     drop(bench);
     let told = fs::read_to_string("/proc/sys/kernel/random/boot_id").expect("Linux");
@@ -336,8 +361,7 @@ fn an_order_goes_out_and_is_kept() {
     let text = texts::order(0, 1);
     bench.place(0, &text);
     // Its line is told its seconds; it asks, and the station is killed before the analyzer replies.
-    bench.keeper.pass(1).expect("sound");
-    assert_eq!(bench.sent(0), ENQ);
+    bench.asks(0);
     let mut bench = bench.again(&folder);
     assert!(bench.keeper.orders.under_way(0).is_some());
     bench.take_all_frames(0, &text);
@@ -358,13 +382,11 @@ fn an_order_begun_and_not_saved_waits() {
     let mut bench = bench(&folder);
     let orders = [texts::order(0, 1), texts::order(0, 2)];
     orders.iter().for_each(|text| bench.place(0, text));
-    bench.keeper.pass(1).expect("sound");
-    assert_eq!(bench.sent(0), ENQ);
+    bench.asks(0);
     bench.take_all_frames(0, &orders[0]);
     let mut bench = bench.again_unsaved(&folder, |bench| {
         assert_eq!(bench.hear(0, ACK), EOT);
-        bench.keeper.pass(1).expect("sound");
-        assert_eq!(bench.sent(0), ENQ);
+        bench.asks(0);
     });
     let tally = |bench: &Bench| {
         let tally = bench.keeper.orders.tally(0);
@@ -374,8 +396,7 @@ fn an_order_begun_and_not_saved_waits() {
     // The first one's end comes again, and is no news.
     assert_eq!(bench.hear(0, ACK), EOT);
     assert_eq!(tally(&bench), (1, 1, 0));
-    bench.keeper.pass(1).expect("sound");
-    assert_eq!(bench.sent(0), ENQ);
+    bench.asks(0);
     bench.take_all_frames(0, &orders[1]);
     assert_eq!(bench.hear(0, ACK), EOT);
     assert_eq!(tally(&bench), (0, 2, 0));
@@ -392,8 +413,7 @@ fn an_order_that_is_still_sent_is_not_over() {
             assert_eq!(bench.ask(Request::Cancel { lines, number }).status, 200);
         },
         |bench| {
-            bench.keeper.pass(1).expect("sound");
-            assert_eq!(bench.sent(0), ENQ);
+            bench.asks(0);
             assert_eq!(bench.hear(0, ENQ), b"");
             assert_eq!(bench.keeper.orders.tally(0).failed_today, 1);
         },
@@ -402,8 +422,7 @@ fn an_order_that_is_still_sent_is_not_over() {
     for (then, sent) in drops.into_iter().zip(0..) {
         let text = texts::order(0, sent);
         bench.place(0, &text);
-        bench.keeper.pass(1).expect("sound");
-        assert_eq!(bench.sent(0), ENQ);
+        bench.asks(0);
         // The analyzer asks for itself, the sending is dropped, and the kill undoes that.
         bench = bench.again_unsaved(&folder, |bench| {
             assert_eq!(bench.hear(0, ENQ), b"");
@@ -697,8 +716,7 @@ fn an_order_that_cannot_be_kept_is_not_sent_and_holds_nobody_up() {
     assert_eq!(bench.hear(0, FRAME), ACK);
     // It can be kept again, and goes out.
     fs::create_dir_all(folder.path.join("orders")).expect("made");
-    bench.keeper.pass(1).expect("sound");
-    assert_eq!(bench.sent(1), ENQ);
+    bench.asks(1);
     // Once more not: the sending is over even so, and that is kept later.
     fs::remove_dir_all(folder.path.join("orders")).expect("there");
     assert_eq!(bench.hear(1, ENQ), b"");
@@ -716,8 +734,7 @@ fn an_order_for_a_line_that_has_a_strip_reader_now() {
     for number in [1, 2] {
         first.place(1, &texts::order(1, number));
     }
-    first.keeper.pass(1).expect("sound");
-    assert_eq!(first.sent(1), ENQ);
+    first.asks(1);
     drop(first);
     // One is under way; the gateway begins anew, and both are tried and fail.
     let mut second = bench_with(settings(&folder.path, "strips-10"));
@@ -770,8 +787,7 @@ fn a_line_rests_behind_a_sending_that_was_dropped() {
     for number in [1, 2] {
         bench.place(0, &texts::order(0, number));
     }
-    bench.keeper.pass(1).expect("sound");
-    assert_eq!(bench.sent(0), ENQ);
+    bench.asks(0);
     assert_eq!(bench.hear(0, ENQ), b"");
     bench.keeper.pass(1).expect("sound");
     assert_eq!(bench.sent(0), b"");
