@@ -1,4 +1,5 @@
 // E1381 frames: the shape of a frame that has come.
+#![tactic(auto)]
 ghost use Rattle.std.specs.Prelude.{◌≡◌, List, [], ◌∷◌, ◌++◌};
 ghost use Rattle.frame.specs.Shape.{shape_of};
 

@@ -1,4 +1,5 @@
 // E1381 frames: the writing of one.
+#![tactic(auto)]
 ghost use Rattle.framing.specs.Writing.{FramePut};
 
 use digits::MOST_NUMBER;

@@ -6,6 +6,7 @@
 //            its last stored block, whether there is one (0 or 1 each); two are spare. Behind all lines, for each line 239: the bytes
 //            of that block
 //   counts   each line's used count, then how many bytes of the journal are in use
+#![tactic(auto)]
 ghost use Rattle.std.specs.Prelude.{◌≡◌};
 ghost use Rattle.layout.specs.Inner.Speaks.{all_put};
 ghost use Rattle.layout.specs.Layout.{layout, is_spoken, can_start, Fresh, Started};

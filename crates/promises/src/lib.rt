@@ -1,1 +1,2 @@
 // The users' demands as theorems of the gateway. No functions: see specs/ and proofs/.
+#![tactic(auto)]

@@ -1,4 +1,5 @@
 // One event on its line alone: look, then act; and what a line is left with once its complete text is decided.
+#![tactic(auto)]
 ghost use Rattle.std.specs.Prelude.{◌≡◌};
 ghost use Rattle.receiving.specs.Alone.{SteppingAlone};
 ghost use Rattle.receiving.specs.Closing.{test_of, Closing};
