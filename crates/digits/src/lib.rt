@@ -1,5 +1,6 @@
 // The digits of a frame: the sum that checks it, that sum in two digits, and the numbers of frames.
 #![tactic(auto)]
+
 ghost use Rattle.std.specs.Prelude.{◌≡◌};
 ghost use Rattle.digits.specs.Check.{check_of, digits_of};
 ghost use Rattle.digits.specs.Number.{next_number};

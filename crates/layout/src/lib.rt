@@ -7,6 +7,7 @@
 //            of that block
 //   counts   each line's used count, then how many bytes of the journal are in use
 #![tactic(auto)]
+
 ghost use Rattle.std.specs.Prelude.{◌≡◌};
 ghost use Rattle.layout.specs.Inner.Speaks.{all_put};
 ghost use Rattle.layout.specs.Layout.{layout, is_spoken, can_start, Fresh, Started};

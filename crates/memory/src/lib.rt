@@ -1,5 +1,6 @@
 // Bytes in lent memory. Every function is total: where the bytes do not fit, it changes nothing and says so.
 #![tactic(auto)]
+
 ghost use Rattle.memory.specs.Moves.{Copied, ClosedUp};
 
 mod moving; // moving.rt: pieces of memory moved at once

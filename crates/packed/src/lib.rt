@@ -1,6 +1,7 @@
 // Packed fields: a number as bytes of lent memory, the highest first. Every function is total: where there is no such field, or where it does
 // not hold the number, it changes nothing and says so.
 #![tactic(auto)]
+
 ghost use Rattle.std.specs.Prelude.{◌≡◌, ◌<◌, ◌^◌, leb};
 ghost use Rattle.packed.specs.Fields.{octets, width, field_at, FieldWritten};
 

@@ -1,5 +1,6 @@
 // The room rule, over any shares; and today's.
 #![tactic(auto)]
+
 ghost use Rattle.std.specs.Prelude.{◌≡◌, max};
 ghost use Rattle.room.specs.Room.{todays_shares, fits};
 

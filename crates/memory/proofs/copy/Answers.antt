@@ -10,14 +10,8 @@ use lib.Seq.{take-length, length-take-le}
 use Rattle.memory.specs.Parts.{part, splice}
 use Rattle.memory.proofs.Parts.{length_part, part_lent, length_splice, splice_nil}
 use Rattle.memory.proofs.Moves.{copy_on, laid_back, copied_no, copied_yes}
-use Rattle.memory.proofs.copy.Statement.{statement}
-use Rattle.memory.proofs.copy.Tie as tie
-
-record Done (dst₀ src dst : List ℕ) (done : ℕ) : Type 0 where
-  fits : length src ≤ length dst₀
-  within : done ≤ length src
-  same : dst ≡ splice dst₀ 0 (take done src)
-  long : length dst ≡ length dst₀
+use Rattle.memory.proofs.copy.Invariants.{Done}
+use Rattle.memory.proofs.copy.Goals as goal
 
 -- a turn: the next n bytes of src are laid over the part of dst that was lent from `done` on, which is back in its place
 turn : (dst₀ src dst : List ℕ) (done n : ℕ) {b : List ℕ} → Done dst₀ src dst done → n ≤ length src - done
@@ -32,62 +26,28 @@ turn dst₀ src dst done n v h laid =
     let same = laid_back dst done (part src done n) _ _ (omega (arith, v.long)) refl (laid ∙ ap (splice _ 0) (part_lent src done n)) ∙ more in
     record { fits = fits; within = end; same = same; long = ap length same ∙ length_splice dst₀ 0 (take (done + n) src) (omega arith) }
 
-abbrev invariant-loop : tie.invariant-loop
-invariant-loop dst₀ src done₀ dst done = Done dst₀ src dst done
+pub returns-then-dst-src : goal.returns-then-dst-src
+returns-then-dst-src c = let a = c.args in copied_no a.dst.now 0 a.src.now (omega arith)
 
-abbrev decreases-loop : tie.decreases-loop
-decreases-loop dst₀ src done₀ dst done = length src - done
-
-abbrev start : tie.At-loop invariant-loop decreases-loop → tie.Start invariant-loop decreases-loop
-start c = c.before.before.before.before
-
-returns : tie.Need-returns invariant-loop decreases-loop
-returns c = let a = c.before.before.before.args in copied_no a.dst.now 0 a.src.now (omega arith)
-
-loop-holds : tie.Need-loop-init invariant-loop decreases-loop
-loop-holds c =
-    let a = c.before.before.before.args in
+pub loop-done-init : goal.loop-done-init
+loop-done-init c =
+    let a = c.args in
     record { fits = omega arith; within = omega arith; same = sym (splice_nil a.dst.now 0); long = refl }
 
-carry-requires : tie.Need-carry-requires invariant-loop decreases-loop
-carry-requires c κs = simp (length-take, length-drop) (omega arith)
+pub carry-requires : goal.carry-requires
+carry-requires c = simp (length-take, length-drop) (omega arith)
 
-loop-again : tie.Need-loop-preserved invariant-loop decreases-loop
-loop-again c =
-    let y = c.before.before in
-    let p = y.before.before.before in
-    let l = p.before.before.loop in
-    let a = (start p.before.before).args in
-    let moved = p.piece.ensures in
-    turn a.dst.now a.src.now l.dst l.done p.piece.result l.invariant moved.1 y.carry.ensures
+pub loop-done-preserved : goal.loop-done-preserved
+loop-done-preserved c =
+    let l = c.loop-done in
+    let a = c.args in
+    let moved = c.piece.ensures in
+    turn a.dst.now a.src.now l.dst l.done c.piece.result l.invariant moved.1 c.carry.ensures
 
-returns-2 : tie.Need-returns-2 invariant-loop decreases-loop
-returns-2 c =
-    let l = c.before.loop in
-    let a = (start c.before).args in
+pub returns : goal.returns
+returns c =
+    let l = c.loop-done in
+    let a = c.args in
     let all : l.done ≡ length a.src.now = omega arith in
     let whole : take l.done a.src.now ≡ a.src.now = ap (λ (n : ℕ). take n a.src.now) all ∙ take-length a.src.now in
     copied_yes a.dst.now 0 a.src.now (omega arith) refl (l.invariant.same ∙ ap (splice a.dst.now 0) whole)
-
-pub copy_spec : {M : Type 1} → statement M
-copy_spec =
-    tie.close
-    (tie.spec
-    invariant-loop
-    decreases-loop
-    returns
-    loop-holds
-    (λ c. omega arith)
-    (λ c κs. omega arith)
-    (λ c. omega arith)
-    (λ c. omega arith)
-    (λ c. omega arith)
-    (λ c. omega arith)
-    (λ c. omega arith)
-    (λ c. omega arith)
-    (λ c. omega arith)
-    carry-requires
-    (λ c. omega arith)
-    loop-again
-    (λ c. omega arith)
-    returns-2)

@@ -3,8 +3,7 @@
 use Rattle.std.proofs.Common.{◌≡◌, ℕ, ◌/◌, ◌%◌, ◌<◌, List, get_or, arith}
 use Rattle.memory.proofs.Table.{values, entry}
 use Rattle.digits.specs.Check.{hex_digit, digits_of}
-use Rattle.digits.proofs.check_digits.Statement.{statement}
-use Rattle.digits.proofs.check_digits.Tie as tie
+use Rattle.digits.proofs.check_digits.Goals as goal
 
 -- the rule's values at the numbers below 16
 abbrev list : List ℕ
@@ -15,9 +14,6 @@ at_halves : (check : ℕ) → check < 256 → record { high = get_or list (check
 unfolding digits_of
 at_halves check h = rw (entry hex_digit 0 16 (check / 16) (omega (arith, h)), entry hex_digit 0 16 (check % 16) (omega arith))
 
-returns : tie.Need-returns
+pub returns : goal.returns
 unfolding hex_digit
 returns c = at_halves c.args.check (omega arith)
-
-pub check-digits-spec : {M : Type 1} → statement M
-check-digits-spec = tie.close (tie.spec (λ c. omega arith) (λ c. omega arith) returns)
