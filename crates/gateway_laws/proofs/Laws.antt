@@ -87,6 +87,14 @@ module _ (shares : List ℕ) (l : Line) (d : Ledger) (e : Event) (m : Memory) wh
       row Begin p begins = absurd (n (sym answered ∙ goes Begin p))
       row (Count k) p (counts c) = absurd (n (sym answered ∙ goes (Count k) p))
       row Collect p collects = absurd (n (sym answered ∙ goes Collect p))
+      row Open p x = elim x [ ]
+      row Close p x = elim x [ ]
+      row Refuse p x = elim x [ ]
+      row (Accept _) p x = elim x [ ]
+      row (Store _) p x = elim x [ ]
+      row (Object _) p x = elim x [ ]
+      row (Await _) p x = elim x [ ]
+      row (Go _ _) p x = elim x [ ]
 
   -- only 4 changes the ledger and the journal
   pub only_stored : (step_of shares l d e m).stepped.answer ≢ Stored
@@ -113,6 +121,17 @@ module _ (shares : List ℕ) (l : Line) (d : Ledger) (e : Event) (m : Memory) wh
         journal = ap (λ (x : AfterStep). x.memory.journal) (step_by (Store k) p);
         verdict = ap₂ verdict p (goes (Store k) p);
       }
+      row Leave p x = elim x [ ]
+      row Open p x = elim x [ ]
+      row Close p x = elim x [ ]
+      row Begin p x = elim x [ ]
+      row (Count _) p x = elim x [ ]
+      row Collect p x = elim x [ ]
+      row Refuse p x = elim x [ ]
+      row (Accept _) p x = elim x [ ]
+      row (Object _) p x = elim x [ ]
+      row (Await _) p x = elim x [ ]
+      row (Go _ _) p x = elim x [ ]
 
   -- a refused frame, a repeat among them, changes only what every judged frame changes
   pub refused_frame : (a : Answer) → (step_of shares l d e m).stepped.answer ≡ a → class_of a ≡ refusing
@@ -121,6 +140,17 @@ module _ (shares : List ℕ) (l : Line) (d : Ledger) (e : Event) (m : Memory) wh
     where
       row : (x : Act) → found.act ≡ x → Of refusing x → step_of shares l d e m ≡ judged l d e m a
       row Refuse p refuses = step_by Refuse p ∙ ap (judged l d e m) (sym answer_is ∙ h)
+      row Leave p x = elim x [ ]
+      row Open p x = elim x [ ]
+      row Close p x = elim x [ ]
+      row Begin p x = elim x [ ]
+      row (Count _) p x = elim x [ ]
+      row Collect p x = elim x [ ]
+      row (Accept _) p x = elim x [ ]
+      row (Store _) p x = elim x [ ]
+      row (Object _) p x = elim x [ ]
+      row (Await _) p x = elim x [ ]
+      row (Go _ _) p x = elim x [ ]
 
   -- sizes and limits are kept
   pub sizes_kept : (length (step_of shares l d e m).memory.unfinished ≡ length m.unfinished) × (length (step_of shares l d e m).memory.frames ≡ length m.frames)

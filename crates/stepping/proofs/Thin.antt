@@ -5,9 +5,9 @@ use mathlib.Core.Path.{◌≡◌, refl}
 use Prim.Native.Nat.{ℕ}
 use mathlib.Core.List.{[], ◌∷◌, List}
 use seplogic.Ra.Ura.{Ura}
-use seplogic.Ra.TreeShare.{full_share}
+use base.Fraction.{full_share}
 use lib.Dec.{T}
-use mir.Syntax.{Name, Sym, Lifetime, named, erased, mut, w8, w64, Ty, ty_int, ty_ref, ty_struct, tcons, tnil, deref, field, place, copy, rv_opd, addr_of, aggregate, Body, seq, assign, call, return, Local, local, value_local, Fn}
+use mir.Syntax.{Callee, Sym, Lifetime, named, erased, mut, w8, w64, Ty, ty_int, ty_ref, ty_struct, tcons, tnil, deref, field, place, copy, rv_opd, addr_of, aggregate, Body, seq, assign, call, return, Local, local, value_local, Fn}
 use mir.Val.{Val, vptr, vstruct, vcons, vnil, WT, has_ty}
 use base.Logic.{SProp, ent}
 use base.Fml.{fat}
@@ -59,15 +59,15 @@ module _ (τ : Types) where
       (seq (assign (place 2 (deref τ.ledger ∷ [])) (rv_opd (copy (place 7 (field 1 ∷ [])))))
       (seq (assign (place 0 []) (rv_opd (copy (place 7 (field 2 ∷ []))))) return))
 
-  abbrev body : Name → Body
+  abbrev body : Callee → Body
   body callee =
       seq (assign (place 8 []) (rv_opd (copy (place 1 (deref τ.line ∷ [])))))
       (seq (assign (place 9 []) (rv_opd (copy (place 2 (deref τ.ledger ∷ [])))))
       (relent 4 10 11 (relent 5 12 13 (relent 6 14 15
       (seq (call callee (copy (place 8 []) ∷ copy (place 9 []) ∷ copy (place 3 []) ∷ copy (place 11 []) ∷ copy (place 13 []) ∷ copy (place 15 []) ∷ []) (place 7 [])) stores)))))
 
-  abbrev pub function : Name → Fn
-  function callee = record { lifetimes = 5; outlives = []; params = 6; locals = locals; body = body callee }
+  abbrev pub function : Callee → Fn
+  function callee = record { lifetimes = 5; outlives = []; ty_params = []; givens = 0; params = 6; locals = locals; body = body callee }
 
 abbrev pub Fits : Ty → Val → Type 0
 Fits τ v = T (has_ty τ v) × WT v
@@ -130,7 +130,7 @@ module _ {M : Type 1} {𝓤 : Ura M} (𝓛 : Logic 𝓤) (C : Calls 𝓤 𝓛.H)
   -- from the cells with the new parts, what is left and the frame the function's end follows.
   open 𝓛 use {H}
 
-  pub record Around (callee : Name) (Before : SProp 𝓤) (Post : Val → SProp 𝓤) : Type 2 where
+  pub record Around (callee : Callee) (Before : SProp 𝓤) (Post : Val → SProp 𝓤) : Type 2 where
     pub Opened : Type 0
     pub Pre : SProp 𝓤
     pub Frame : SProp 𝓤
@@ -146,7 +146,7 @@ module _ {M : Type 1} {𝓤 : Ura M} (𝓛 : Logic 𝓤) (C : Calls 𝓤 𝓛.H)
     pub told : (w : Val) → ent 𝓤 (Back w) (H.⇛ (mean 𝓛 (some (λ (x : Outcome w). raw (Left w x)))))
     pub ended : (w : Val) (x : Outcome w) → ent 𝓤 (⋆ 𝓛 (line_cell 𝓤 τ a (parts w x).line ∷ ledger_cell 𝓤 τ a (parts w x).ledger ∷ raw (Left w x) ∷ raw Frame ∷ [])) (Post (parts w x).answer)
 
-  pub walk : FmC 𝓤 H 𝓛.laws C → Fitting τ a → (callee : Name) (Before : SProp 𝓤) (Post : Val → SProp 𝓤) → Around callee Before Post → ent 𝓤 Before (WpFn 𝓤 H C Λ (function τ callee) (arguments a) Post)
+  pub walk : FmC 𝓤 H 𝓛.laws C → Fitting τ a → (callee : Callee) (Before : SProp 𝓤) (Post : Val → SProp 𝓤) → Around callee Before Post → ent 𝓤 Before (WpFn 𝓤 H C Λ (function τ callee) (arguments a) Post)
   walk fm fits callee Before Post g =
       qed 𝓛 (raw Before ∷ []) ∵ enter ! C Λ (function τ callee) (arguments a) _ $
       alloc1 ! (λ l0. alloc1 ! (λ l1. alloc1 ! (λ l2. alloc1 ! (λ l3. alloc1 ! (λ l4. alloc1 ! (λ l5. alloc1 ! (λ l6. alloc1 ! (λ l7. alloc1 ! (λ l8. alloc1 ! (λ l9. alloc1 ! (λ l10. alloc1 ! (λ l11. alloc1 ! (λ l12. alloc1 ! (λ l13. alloc1 ! (λ l14. alloc1 ! (λ l15. alloc0 ! $ params1 ! $
