@@ -88,6 +88,7 @@ keeps_store : (x : Deed) → Keeps x → (i : ℕ) (text : List ℕ) (j : Store)
 keeps_store leave h i text j = refl
 keeps_store add h i text j = refl
 keeps_store (settle r) h i text j = refl
+keeps_store file h i text j = elim h [ ]
 
 module _ (s : State) (w : Intact s) (i : ℕ) (k : Kind) (line : i < lines) (p : Patient) (speaks : dialogue_at s.gateway i ≡ Blocks p) where
   abbrev own : Parts
