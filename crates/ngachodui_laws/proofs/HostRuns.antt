@@ -86,6 +86,8 @@ never_gives accepting x o = refl
 never_gives storing x o = refl
 never_gives against x o = refl
 never_gives sending x o = refl
+never_gives gives x o = elim o [ ]
+never_gives hearing x o = elim o [ ]
 
 event_answer : (a : Answer) → is_giving (class_of a) ≡ false → in_numbers a ≡ answer_in_numbers a
 unfolding in_numbers

@@ -17,7 +17,7 @@ use Rattle.settings.specs.Settings.{by_dialogue}
 use Rattle.settings.specs.declared.Patient.{Patient}
 use Rattle.settings.specs.declared.Dialogue.{Dialogue}
 use Rattle.settings.specs.declared.Dialogue.TheVariants.{Frames, Blocks}
-use Rattle.characters.specs.Control.{stx, eot}
+use Rattle.characters.specs.Control.{enq, stx, eot}
 use Rattle.pieces.specs.Pieces.{pieces_of}
 use Rattle.header.specs.Header.{entry_size}
 use Rattle.room.specs.Room.{todays_shares}
@@ -77,7 +77,7 @@ use Rattle.ngachodui_laws.specs.HostRuns.{gateway_state, InOrder, HostResponse, 
 use Rattle.ngachodui_laws.specs.Outcomes.{line_in}
 use Rattle.ngachodui_laws.specs.Sound.{Holds}
 use Rattle.ngachodui_laws.specs.Sending.{CanSend, says, to_frames}
-use Rattle.ngachodui_laws.specs.Orders.{CanStart, sent_on, SentWhole, OrderTaken, enquiries, frames_at, SentSparingly, acknowledgements, neutral_along, FetchedAs}
+use Rattle.ngachodui_laws.specs.Orders.{CanStart, sent_on, SentWhole, OrderTaken, begins, enquiries, frames_at, SentSparingly, acknowledgements, neutral_along, FetchedAs}
 use Rattle.ngachodui_laws.specs.Inner.Hosting.{in_numbers_of, seen_of}
 use Rattle.ngachodui_laws.proofs.PutBack.{line_at_law}
 use Rattle.ngachodui_laws.proofs.Hosts.{step_for, upload_for}
@@ -362,11 +362,15 @@ module _ (r : Run) (i : ℕ) (h : i < lines) (m : List ℕ) (asks : number_to (e
   asks_there = sym (ap (λ (x : HostResponse). x.answered.number) (one_call (end_of r) (end_in_order r) (starting i m)).response) ∙ asks
 
   enquiries_are : enquiries i began es ≡ there.enquiries i there_began es
-  enquiries_are = counts_alike _ _ _ _ (λ e x. refl) (λ e x t q. refl) began began_in_order es ∙ ap (λ (x : State). there.enquiries i x es) began_is
+  enquiries_are =
+      counts_alike (begins i) (λ e x t. sends_on enq i e x.answered.number x.answered.reply) (there.begins i)
+      (λ e x t. sends_on enq i e (answered x) (first_of x)) (λ e x. refl) (λ e x t q. refl) began began_in_order es
+      ∙ ap (λ (x : State). there.enquiries i x es) began_is
 
   frames_are : (at : ℕ) → frames_at i at began es ≡ there.frames_at i at there_began es
   frames_are at =
-      counts_alike _ _ _ _ (λ e x. refl) (λ e x t q. ap (λ (l : Line). sends_on stx i e (answered x) (first_of x) && offers_at at l.state) (state_alike t i h)) began began_in_order es
+      counts_alike (begins i) (λ e x t. sends_on stx i e x.answered.number x.answered.reply && offers_at at (line_of t.numbers i).state) (there.begins i)
+      (λ e x t. sends_on stx i e (answered x) (first_of x) && offers_at at (line_at t.gateway i).state) (λ e x. refl) (λ e x t q. ap (λ (l : Line). sends_on stx i e (answered x) (first_of x) && offers_at at l.state) (state_alike t i h)) began began_in_order es
       ∙ ap (λ (x : State). there.frames_at i at x es) began_is
 
   pub six_sends : SentSparingly i began es
@@ -375,7 +379,10 @@ module _ (r : Run) (i : ℕ) (h : i < lines) (m : List ℕ) (asks : number_to (e
       record { asked = omega (arith, few.asked, enquiries_are); offered = λ at. omega (arith, few.offered at, frames_are at) }
 
   acknowledgements_are : (fs : List GatewayItem) → acknowledgements i began fs ≡ there.acknowledgements i there_began fs
-  acknowledgements_are fs = counts_alike _ _ _ _ (λ e x. refl) (λ e x t q. refl) began began_in_order fs ∙ ap (λ (x : State). there.acknowledgements i x fs) began_is
+  acknowledgements_are fs =
+      counts_alike (begins i) (λ e x t. there.acknowledges i e x.answered.number x.answered.reply) (there.begins i)
+      (λ e x t. there.acknowledges i e (answered x) (first_of x)) (λ e x. refl) (λ e x t q. refl) began began_in_order fs
+      ∙ ap (λ (x : State). there.acknowledgements i x fs) began_is
 
   neutral_is : neutral_along i began es ≡ there.neutral_along i there_began es
   neutral_is = neutral_alike i h began began_in_order es ∙ ap (λ (x : State). there.neutral_along i x es) began_is

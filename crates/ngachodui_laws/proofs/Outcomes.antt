@@ -178,8 +178,8 @@ seconds_ignored (Out (Offering m at)) n x y o h = clash cc
 
 look_ignored : (l : Line) (k : Kind) (texts frames : List ℕ) → ignored_in_frames l.state k ≡ true → look_of l k texts frames ≡ Done (Left Nothing)
 unfolding byte_look seconds_look
-look_ignored l (Byte b) texts frames h = byte_ignored l.state l b _ _ h
-look_ignored l (Seconds n) texts frames h = seconds_ignored l.state n _ _ _ h
+look_ignored l (Byte b) texts _ h = byte_ignored l.state l b _ _ h
+look_ignored l (Seconds n) texts _ h = seconds_ignored l.state n _ _ _ h
 
 verdict_ignored : (l : Line) (d : Ledger) (e : Event) (m : Memory) → ignored_in_frames l.state e.kind ≡ true
     → (a : Answer) × (verdict_of todays_shares l d e m.journal m.unfinished m.frames ≡ Left a)
@@ -211,9 +211,9 @@ sight_ignored p l b h = by (is_inside l.state || is stx b) h
 work_ignored : (p : Patient) (l : Line) (w : Memo) (d : Ledger) (i : ℕ) (k : Kind) (journal frames : List ℕ) → ignored_in_blocks l.state k ≡ true
     → (ruling_of todays_shares p l w d i k journal frames).deed ≡ leave
 unfolding ruling_of
-work_ignored p l w d i (Byte b) journal frames h =
-    ap (λ (x : Sight). (seen_as x (judged_block todays_shares p l w d i (block_bytes l b frames) journal)).deed) (sight_ignored p l b h)
-work_ignored p l w d i (Seconds n) journal frames h = refl
+work_ignored p l w d i (Byte b) journal f h =
+    ap (λ (x : Sight). (seen_as x (judged_block todays_shares p l w d i (block_bytes l b f) journal)).deed) (sight_ignored p l b h)
+work_ignored p l w d i (Seconds n) journal _ h = refl
 
 ruling_ignored : (p : Patient) (l : Line) (w : Memo) (d : Ledger) (e : Event) (m : Memory) → ignored_in_blocks l.state e.kind ≡ true
     → (ruling_on todays_shares p l w d e m).deed ≡ leave

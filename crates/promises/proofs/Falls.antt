@@ -23,7 +23,7 @@ use Rattle.journal_laws.specs.Held.{Held}
 use Rattle.journal_laws.specs.Runs.{Operation, put, get, State as Store, next, goes_in}
 use Rattle.journal_laws.proofs.Cases.{Stores, Stays, Gives, Keeps, store_cases, take_cases}
 use Rattle.room.proofs.Totals.{lowered_own}
-use Rattle.serial.specs.Serial.{taking, final, Every}
+use Rattle.serial.specs.Serial.{final, Every}
 use Rattle.promises.specs.Machine.{State, GatewayItem, step, store_of, Sound, May}
 use Rattle.promises.specs.Runs.{used_by}
 use Rattle.promises.specs.Queue.{stored_on, all_stored}

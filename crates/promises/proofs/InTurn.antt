@@ -22,7 +22,7 @@ use Rattle.line.specs.Line.{fresh_line}
 use Rattle.answers.specs.declared.Answer.TheVariants.{Taken}
 use Rattle.gateway.specs.Events.{line_at, take_of}
 use Rattle.taking.specs.Taking.{took_answer}
-use Rattle.serial.specs.Serial.{taking, final, Every}
+use Rattle.serial.specs.Serial.{final, Every}
 use Rattle.promises.specs.Machine.{State, response, GatewayItem, step, store_of, Sound, May}
 use Rattle.promises.specs.Queue.{all_taken}
 use Rattle.promises.specs.Sending.{bytes_on, sending, HasRoom, Intact, GivesBack}
