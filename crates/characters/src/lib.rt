@@ -1,5 +1,6 @@
 // The bytes of E1381 and E1394: the control bytes, and which bytes a text may have.
 #![tactic(auto)]
+
 ghost use Rattle.std.specs.Prelude.{◌≡◌, not, slice_index};
 ghost use Rattle.memory.specs.Tests.{is, all};
 ghost use Rattle.characters.specs.Allowed.{allowed, ordinary, plus, dash, class_table};

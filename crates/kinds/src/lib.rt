@@ -1,5 +1,6 @@
 // The delimiters of a message, the types of its records, and what may follow what.
 #![tactic(auto)]
+
 ghost use Rattle.std.specs.Prelude.{◌≡◌, get_or};
 ghost use Rattle.kinds.specs.Delimiters.{four_at, delimiters_of, is_delimiter, different, are_delimiters};
 ghost use Rattle.kinds.specs.Kinds.{kind_of, may_follow};

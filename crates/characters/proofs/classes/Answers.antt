@@ -2,12 +2,8 @@
 -- Assumes nothing.
 use Rattle.std.proofs.Common.{refl}
 use Rattle.characters.specs.Allowed.{allowed, class_table}
-use Rattle.characters.proofs.classes.Statement.{statement}
-use Rattle.characters.proofs.classes.Tie as tie
+use Rattle.characters.proofs.classes.Goals as goal
 
-returns : tie.Need-returns
+pub returns : goal.returns
 unfolding class_table allowed
 returns c = refl
-
-pub classes-spec : {M : Type 1} → statement M
-classes-spec = tie.close (tie.spec returns)
