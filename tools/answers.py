@@ -136,6 +136,11 @@ class Function:
                 self.steps.setdefault(new, new)
                 if callee and callee in names["params"]:
                     self.params_of[new] = names["params"][callee]
+        self.arms = {}
+        for arm in names["arms"]:
+            for field, old, path in arm[2] if arm else []:
+                if not field.endswith("-own") and path:
+                    self.arms.setdefault(plain(old), []).append((path, arm[0], field))
         self.needs = {}
         for old, new in names["needs"]:
             self.needs[plain(old)] = new
@@ -209,7 +214,14 @@ class Function:
                     # the step after it
                     if k + 1 < n and toks[k] == ".":
                         step = toks[k + 1]
-                        new = self.steps.get(plain(step), step)
+                        key = plain(step)
+                        arm = next(((p_, a_, f_) for p_, a_, f_ in self.arms.get(key, []) if toks[k + 2 : k + 2 + 2 * len(p_)] == [x for q in p_ for x in (".", q)]), None)
+                        if arm:
+                            out += [".", arm[1], ".", arm[2]]
+                            k += 2 + 2 * len(arm[0])
+                            continue
+                        new = self.steps.get(key) or self.steps.get(key[:-4] if key.endswith("-law") else key, step)
+                        new = {"well-formed": "well_formed", "type-inv": "type_inv"}.get(new, new)
                         out += [".", new]
                         k += 2
                         if k + 1 < n and toks[k] == "." and toks[k + 1] == "new" and new in self.params_of:

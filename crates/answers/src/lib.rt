@@ -12,7 +12,7 @@ pub const ACK: u8 = 0x06;
 pub const NAK: u8 = 0x15;
 
 // What can be wrong with the records of a text, in the order of their numbers.
-#[derive(Drop)]
+#[derive(Clone, Copy)]
 pub enum Fault {
     NoHeader,
     UnknownType,
@@ -39,7 +39,7 @@ impl Fault {
 }
 
 // What is to be sent in a sending: nothing, our ENQ, our EOT, or the frame that the line offers.
-#[derive(Drop)]
+#[derive(Clone, Copy)]
 pub enum Parcel {
     Empty,
     Enquiry,
@@ -50,7 +50,7 @@ pub enum Parcel {
 // The answers in the order of their numbers, which are those of their rules: 22 is [A22]. A fault comes with its record's place:
 // `Faulty` of a text that a line has received, `Unsendable` of one that is to be sent. The last seven are those of a strip reader's
 // line, where 4 and 31 have other replies than on a line of frames: `Filed` and `Crowded`; 11 is `Heard` with a reply, `Noted` without.
-#[derive(Drop)]
+#[derive(Clone, Copy)]
 pub enum Answer {
     Nothing,
     Opened,
@@ -96,7 +96,7 @@ pub enum Answer {
 }
 
 // The byte that goes to the analyzer, if any.
-#[derive(Drop)]
+#[derive(Clone, Copy)]
 pub enum Reply {
     Silence,
     Byte(u8),
@@ -223,7 +223,7 @@ pub fn reply_to(number: u8) -> Reply
 // The case of check digits is 0 in this version. With it no byte is left unnamed, so that an answer is made in registers: bytes
 // without a name are left out of stores, and a load over such a store waits for it.
 #[repr(C)]
-#[derive(Drop)]
+#[derive(Clone, Copy)]
 pub struct Answered {
     pub number: u8,
     pub reply: u8,
@@ -274,7 +274,7 @@ fn reply_byte(reply: Reply) -> u8
 // What became of a text: 0 and how much was written (bytes, or records that were read); or the number of a refusal, the place of the
 // record that is wrong, and 0. The other fields are 0 in this version: as in an answer, no byte is left unnamed.
 #[repr(C)]
-#[derive(Drop)]
+#[derive(Clone, Copy)]
 pub struct Made {
     pub number: u8,
     pub spare: u8,

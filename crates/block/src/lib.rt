@@ -23,7 +23,7 @@ pub const END: u8 = 0x3a;
 pub const MOR: u8 = 0x3e;
 
 // A whole block of a strip reader, judged.
-#[derive(Drop)]
+#[derive(Clone, Copy)]
 pub enum Judged {
     OddLength,
     OddTest,

@@ -8,7 +8,7 @@ ghost use Rattle.component.specs.ResultFields.{result_number};
 use kinds::Delimiters;
 
 // The fields of a result record (R): test, value, units, flag, status and completion time.
-#[derive(Drop)]
+#[derive(Clone, Copy)]
 pub enum ResultField {
     Test,
     Value,

@@ -11,7 +11,7 @@ mod measuring; // measuring.rt: where pieces end, and how long the frames are
 mod writing; // writing.rt: the frames in lent memory
 
 // The frames' length, or why there are none: of a text that is no message its first fault and the place of that record.
-#[derive(Drop)]
+#[derive(Clone, Copy)]
 pub enum Framed {
     Length(usize),
     Malformed,

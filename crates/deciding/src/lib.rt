@@ -10,7 +10,7 @@ use faults::Checked;
 use journal::Ledger;
 
 // What becomes of a text: it is stored or decided against, or everything is left as it was.
-#[derive(Drop)]
+#[derive(Clone, Copy)]
 pub enum Fate {
     Store,
     Object,
@@ -18,13 +18,13 @@ pub enum Fate {
 }
 
 // What a decision comes to.
-#[derive(Drop)]
+#[derive(Clone, Copy)]
 pub struct Outcome {
     pub fate: Fate,
     pub answer: Answer,
 }
 
-#[derive(Drop)]
+#[derive(Clone, Copy)]
 pub struct Decided {
     pub outcome: Outcome,
     pub ledger: Ledger,

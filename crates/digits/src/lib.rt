@@ -14,7 +14,7 @@ pub const MOST_NUMBER: u8 = 7;
 const HEX_DIGITS: [u8; 16] = *b"0123456789ABCDEF";
 
 // The two digits of a check.
-#[derive(Drop)]
+#[derive(Clone, Copy)]
 pub struct Digits {
     pub high: u8,
     pub low: u8,

@@ -19,7 +19,7 @@ const ESCAPE_LETTER: u8 = b'E';
 
 // What becomes of a text that is escaped or unescaped: it is put out, with this length; it has a wrong escape; the memory is too short; the
 // four that were handed over are not allowed.
-#[derive(Drop)]
+#[derive(Clone, Copy)]
 pub enum Put {
     Done(usize),
     Malformed,
@@ -28,7 +28,7 @@ pub enum Put {
 }
 
 // The length of a component without its escapes, if they are right.
-#[derive(Drop)]
+#[derive(Clone, Copy)]
 enum Measured {
     Of(usize),
     Wrong,

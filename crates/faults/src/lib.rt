@@ -10,7 +10,7 @@ mod judging; // judging.rt: one record
 mod walk; // walk.rt: the records of a text, up to the first that is wrong
 
 // What one record leads to.
-#[derive(Drop)]
+#[derive(Clone, Copy)]
 pub enum Step {
     Fine(Counts),
     Wrong(Fault),
@@ -18,7 +18,7 @@ pub enum Step {
 
 // What the check of a text finds: a message; no text at all, since it is too long or has a byte that is not allowed; or its first
 // fault and the place of that record, counted from 1.
-#[derive(Drop)]
+#[derive(Clone, Copy)]
 pub enum Checked {
     Message,
     NotText,

@@ -11,7 +11,7 @@ mod writing; // writing.rt: the finding in lent memory
 pub const FINDING_LIMIT: usize = 557;
 
 // Where a datum stands in a block, and how many bytes it has there.
-#[derive(Drop)]
+#[derive(Clone, Copy)]
 struct Spot {
     at: usize,
     width: usize,

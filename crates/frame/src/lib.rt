@@ -11,14 +11,14 @@ mod judging; // judging.rt: the parts of a frame's shape
 pub const AROUND_TEXT: usize = 7;
 
 // What ends a frame's text: ETB where more of the record follows, ETX at its end.
-#[derive(Drop)]
+#[derive(Clone, Copy)]
 pub enum End {
     Etb,
     Etx,
 }
 
 // A frame that has come: why it is refused, or its number, its end and the length of its text, which starts behind the digit.
-#[derive(Drop)]
+#[derive(Clone, Copy)]
 pub enum Shape {
     Unended,
     Torn,

@@ -8,7 +8,7 @@ use frame::End;
 mod writing; // writing.rt: the parts of a frame in lent memory
 
 // A frame written: why there is none, or its length.
-#[derive(Drop)]
+#[derive(Clone, Copy)]
 pub enum Written {
     Malformed,
     NotFitting,

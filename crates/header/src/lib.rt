@@ -7,7 +7,7 @@ ghost use Rattle.header.specs.Header.{head_widths, serial_count, head_size, entr
 ghost use Rattle.header.specs.Inner.Entry.{whole_head};
 ghost use Rattle.header.specs.Entry.{first_head};
 
-#[derive(Drop)]
+#[derive(Clone, Copy)]
 pub struct Header {
     pub line: usize,
     pub spare: u8,

@@ -5,7 +5,7 @@ ghost use Rattle.journal.specs.Chain.{every};
 ghost use Rattle.journal.specs.Inner.Walks.{Walked, Seen};
 
 // Whether bytes are a whole chain of entries; and if so, the room of each line's entries, and where a line's oldest entry stands.
-#[derive(Drop)]
+#[derive(Clone, Copy)]
 struct Sums {
     whole: bool,
     sums: [u32; 8],
@@ -59,7 +59,7 @@ fn agrees(a: [u32; 8], b: [u32; 8]) -> bool
 }
 
 // Whether the journal is what the ledger says of it; and if so, where the line's oldest entry stands, or the end in use where it has none.
-#[derive(Drop)]
+#[derive(Clone, Copy)]
 pub struct Found {
     pub whole: bool,
     pub oldest: usize,

@@ -12,7 +12,7 @@ mod chain;
 mod entry;
 
 // What is known of the journal's bytes: how many are in use, and each line's used count and next serial.
-#[derive(Drop)]
+#[derive(Clone, Copy)]
 pub struct Ledger {
     pub in_use: usize,
     pub used: [u32; 8],
@@ -32,7 +32,7 @@ impl Ledger {
 }
 
 // 4, 31, 40, 41, 43 and 46.
-#[derive(Drop)]
+#[derive(Clone, Copy)]
 pub enum Verdict {
     Fits,
     NoRoom,
@@ -43,7 +43,7 @@ pub enum Verdict {
 }
 
 // 8 with the text's length and the serial, 40, 41, 43, 44 and 45.
-#[derive(Drop)]
+#[derive(Clone, Copy)]
 pub enum Took {
     Taken(usize, u16),
     NothingWaiting,
@@ -53,13 +53,13 @@ pub enum Took {
     WrongSize,
 }
 
-#[derive(Drop)]
+#[derive(Clone, Copy)]
 pub struct Storing {
     pub ledger: Ledger,
     pub answer: Verdict,
 }
 
-#[derive(Drop)]
+#[derive(Clone, Copy)]
 pub struct Taking {
     pub ledger: Ledger,
     pub answer: Took,

@@ -11,7 +11,7 @@ ghost use Rattle.kinds.specs.Inner.Rows.{row_of};
 pub const DELIMITERS: usize = 4;
 
 // The delimiters of a message: between fields, between repeats, between components, and around an escape.
-#[derive(Drop)]
+#[derive(Clone, Copy)]
 pub struct Delimiters {
     pub field: u8,
     pub repeat: u8,
@@ -106,7 +106,7 @@ pub fn are_delimiters(d: Delimiters) -> bool
 }
 
 // The record types, in the order of their rows: H P O R Q L C M.
-#[derive(Drop)]
+#[derive(Clone, Copy)]
 pub enum Kind {
     Header,
     Patient,
@@ -119,7 +119,7 @@ pub enum Kind {
 }
 
 // What a letter names.
-#[derive(Drop)]
+#[derive(Clone, Copy)]
 pub enum Letter {
     Known(Kind),
     Unknown,

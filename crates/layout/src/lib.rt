@@ -61,7 +61,7 @@ const VERSION: u32 = 3;
 
 // The layout that the library was compiled for: its version, how many numbers and counts, and the sizes of the three memories.
 #[repr(C)]
-#[derive(Drop)]
+#[derive(Clone, Copy)]
 pub struct Layout {
     pub version: u32,
     pub numbers: u32,

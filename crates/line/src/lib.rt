@@ -9,7 +9,7 @@ use settings::{Dialogue, Settings};
 
 // Where a sending is: our ENQ awaits its reply, refused so often by now; the pause behind that many refusals; a frame was sent so
 // often, its text starts at this place, and it awaits its reply.
-#[derive(Drop)]
+#[derive(Clone, Copy)]
 pub enum Sending {
     Asking(u8),
     Pausing(u8),
@@ -17,7 +17,7 @@ pub enum Sending {
 }
 
 // Between transfers, between frames, inside a frame, or sending.
-#[derive(Drop)]
+#[derive(Clone, Copy)]
 pub enum State {
     Neutral,
     Waiting,
@@ -26,14 +26,14 @@ pub enum State {
 }
 
 // The number of the last accepted frame of a transfer.
-#[derive(Drop)]
+#[derive(Clone, Copy)]
 pub enum Last {
     NoneYet,
     Number(u8),
 }
 
 // What is kept of a line between its events; its frame bytes and unfinished text lie in lent memory.
-#[derive(Drop)]
+#[derive(Clone, Copy)]
 pub struct Line {
     pub state: State,
     pub collected: u16,
@@ -46,14 +46,14 @@ pub struct Line {
 }
 
 // What a line's seconds come to: a count below 30, or the time has run out.
-#[derive(Drop)]
+#[derive(Clone, Copy)]
 pub enum Passed {
     Counted(u8),
     RanOut,
 }
 
 // How a frame's number stands to the line's, and its text to the room for it.
-#[derive(Drop)]
+#[derive(Clone, Copy)]
 pub enum Turn {
     Refused,
     Again,

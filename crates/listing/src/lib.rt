@@ -10,7 +10,7 @@ mod reading; // reading.rt: what stands behind a line's letter
 mod rows; // rows.rt: the columns of an event's row
 
 // One line of a trace: an event, a taking (its line, and its buffer's length), or neither.
-#[derive(Drop)]
+#[derive(Clone, Copy)]
 pub enum Item {
     Event(Event),
     Taking(u8, usize),
@@ -18,7 +18,7 @@ pub enum Item {
 }
 
 // Where a text written ends, or no room for it.
-#[derive(Drop)]
+#[derive(Clone, Copy)]
 pub enum Written {
     To(usize),
     NotFitting,

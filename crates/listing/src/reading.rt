@@ -7,7 +7,7 @@ use super::Item;
 use looking::{Event, Kind};
 
 // A number up to a limit, or none.
-#[derive(Drop)]
+#[derive(Clone, Copy)]
 pub enum Amount {
     Is(usize),
     NotANumber,

@@ -12,14 +12,14 @@ mod judging; // judging.rt: the frame that a byte ends
 mod states; // states.rt: a byte or seconds, by the line's state
 
 // A byte that has come, or seconds that have passed.
-#[derive(Drop)]
+#[derive(Clone, Copy)]
 pub enum Kind {
     Byte(u8),
     Seconds(u8),
 }
 
 // What happens on a line.
-#[derive(Drop)]
+#[derive(Clone, Copy)]
 pub struct Event {
     pub line: u8,
     pub kind: Kind,
@@ -27,7 +27,7 @@ pub struct Event {
 
 // What is done with a line: one row of "What is left" for each. The numbers are seconds, lengths of a frame's text, and the number of
 // the frame that a sending offers.
-#[derive(Drop)]
+#[derive(Clone, Copy)]
 pub enum Act {
     Leave,
     Open,
@@ -44,14 +44,14 @@ pub enum Act {
 }
 
 // What an event comes to: what is done with its line, and the answer.
-#[derive(Drop)]
+#[derive(Clone, Copy)]
 pub struct Verdict {
     pub act: Act,
     pub answer: Answer,
 }
 
 // What the line alone tells of an event: its verdict, or that a message is complete.
-#[derive(Drop)]
+#[derive(Clone, Copy)]
 pub enum Look {
     Done(Verdict),
     Decides(usize),

@@ -36,7 +36,7 @@ const LONGEST_OF_13: u16 = 239;
 const MOST_REPLY: u16 = 2;
 
 // A state in numbers: its own, its tries and its place.
-#[derive(Drop)]
+#[derive(Clone, Copy)]
 struct Stated {
     state: u16,
     tries: u16,

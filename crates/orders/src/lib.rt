@@ -12,7 +12,7 @@ mod fetching; // fetching.rt: the frame that a line offers
 mod starting; // starting.rt: a start is looked at, and done
 
 // What a start comes to: our ENQ is to be sent, or it is refused.
-#[derive(Drop)]
+#[derive(Clone, Copy)]
 pub enum Start {
     Asks,
     Refused(Answer),

@@ -12,7 +12,7 @@ mod runs; // runs.rt: owners, by the runs of records that they own
 
 // What becomes of a text that is read: so many records; it is too long or has a byte that is not allowed; a memory is too short; it
 // is no message, with its first fault and the place of that record.
-#[derive(Drop)]
+#[derive(Clone, Copy)]
 pub enum Reading {
     Read(usize),
     Malformed,

@@ -6,7 +6,7 @@ ghost use Rattle.std.specs.Prelude.{◌≡◌, ◌<◌, ◌^◌, leb};
 ghost use Rattle.packed.specs.Fields.{octets, width, field_at, FieldWritten};
 
 // A number read from a packed field, or no such field in the memory.
-#[derive(Drop)]
+#[derive(Clone, Copy)]
 pub enum Field {
     Value(u64),
     Outside,

@@ -14,7 +14,7 @@ mod settling; // settling.rt: what a look and a decision leave
 mod testing; // testing.rt: whether a frame's text fits its line
 
 // The line's record and the ledger after an event, with its answer.
-#[derive(Drop)]
+#[derive(Clone, Copy)]
 pub struct Stepped {
     pub line: Line,
     pub ledger: Ledger,
@@ -22,7 +22,7 @@ pub struct Stepped {
 }
 
 // The line's record after an event, as far as its line alone goes, and the look at it: where that comes to a decision nothing has changed yet.
-#[derive(Drop)]
+#[derive(Clone, Copy)]
 pub struct Alone {
     pub line: Line,
     pub look: Look,
@@ -54,7 +54,7 @@ pub fn step_alone(
 }
 
 // What 40, 41 and 42 say of an event that is to complete a text.
-#[derive(Drop)]
+#[derive(Clone, Copy)]
 pub enum Tested {
     Ready,
     Refused(Answer),

@@ -39,7 +39,7 @@ pub fn count_records(text: &[u8]) -> usize
 }
 
 // How a text ends: without CR, with a record that begins with L, or with another record.
-#[derive(Drop)]
+#[derive(Clone, Copy)]
 pub enum Ending {
     WithoutCr,
     WithL,

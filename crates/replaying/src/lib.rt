@@ -9,7 +9,7 @@ mod asking; // asking.rt: what a line asks, done, and its row written
 mod lines; // lines.rt: the next line of a trace
 
 // Why a piece is left: no whole line of it is left, no room is left for a row, or its next line is not an event.
-#[derive(Drop)]
+#[derive(Clone, Copy)]
 pub enum Stop {
     Input,
     Output,
@@ -17,7 +17,7 @@ pub enum Stop {
 }
 
 // Where a run stands: the events and takings run since the start, how much of the piece is read and of the listing written, and why it stopped.
-#[derive(Drop)]
+#[derive(Clone, Copy)]
 pub struct Progress {
     pub events: u64,
     pub read: usize,
@@ -26,7 +26,7 @@ pub struct Progress {
 }
 
 // What comes next, in numbers: the letter of the next line, or what stands in its place; its line, its byte or seconds, the length of its buffer, and where the line behind it starts.
-#[derive(Drop)]
+#[derive(Clone, Copy)]
 pub struct Asks {
     pub letter: u8,
     pub line: u8,

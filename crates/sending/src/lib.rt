@@ -17,7 +17,7 @@ const PAUSE_SECONDS: u8 = 10;
 
 // What an event makes of a sending: nothing; so many seconds waited by now; it goes on, with the number of its frame; our EOT ends it;
 // it is dropped, and nothing is sent.
-#[derive(Drop)]
+#[derive(Clone, Copy)]
 pub enum Onward {
     Stays,
     Waits(u8),

@@ -6,7 +6,7 @@ ghost use Rattle.sequence.specs.Numbers.{number_of, count_of, restarted, counted
 use kinds::Kind;
 
 // The last record that is neither C nor M, and the number that each type has reached.
-#[derive(Drop)]
+#[derive(Clone, Copy)]
 pub struct Counts {
     pub other: Kind,
     pub patients: u32,

@@ -7,20 +7,20 @@ ghost use Rattle.settings.specs.Settings.{results_length, colours_length, speaks
 pub const BLOCK_LIMIT: usize = 239;
 
 // How many bytes the patient number has in a strip reader's blocks.
-#[derive(Drop)]
+#[derive(Clone, Copy)]
 pub enum Patient {
     Ten,
     Thirteen,
 }
 
 // Frames of E1381; or the blocks of a strip reader.
-#[derive(Drop)]
+#[derive(Clone, Copy)]
 pub enum Dialogue {
     Frames,
     Blocks(Patient),
 }
 
-#[derive(Drop)]
+#[derive(Clone, Copy)]
 pub struct Settings {
     pub dialogue: Dialogue,
 }

@@ -12,7 +12,7 @@ mod handing; // handing.rt: what waits, before a run and behind it
 mod saying; // saying.rt: the lines of a listing that are no rows
 
 // What comes next: the header, a run of what waits, a read, one of the two lines that close a listing, or nothing.
-#[derive(Drop)]
+#[derive(Clone, Copy)]
 pub enum Stage {
     Begins,
     Runs,
@@ -24,7 +24,7 @@ pub enum Stage {
 
 // What is kept of a trace between two calls: the bytes of the input that wait, from one place to another, the events run,
 // whether the trace is read to its end, how much of the output is to be written, and what comes next.
-#[derive(Drop)]
+#[derive(Clone, Copy)]
 pub struct Kept {
     pub from: usize,
     pub end: usize,

@@ -16,7 +16,7 @@ use line::{Line, State};
 use settings::Patient;
 
 // Our last reply to the reader: none yet, that it may send more, or that it is to send again.
-#[derive(Drop)]
+#[derive(Clone, Copy)]
 pub enum Replied {
     NoneYet,
     More,
@@ -25,7 +25,7 @@ pub enum Replied {
 
 // What is kept of a reader beside its line's record: our last reply, whether it asked or wanted that reply again since its last stored
 // block, and whether there is such a block.
-#[derive(Drop)]
+#[derive(Clone, Copy)]
 pub struct Reader {
     pub reply: Replied,
     pub since: bool,
@@ -33,7 +33,7 @@ pub struct Reader {
 }
 
 // What a byte does: it is ignored, added to the block, or ends the block, which is judged.
-#[derive(Drop)]
+#[derive(Clone, Copy)]
 pub enum Sight {
     Ignores,
     Adds,
@@ -41,7 +41,7 @@ pub enum Sight {
 }
 
 // What a whole block comes to: the answer and what is kept of the reader then; and whether its finding is to be stored first.
-#[derive(Drop)]
+#[derive(Clone, Copy)]
 pub struct Hearing {
     pub answer: Answer,
     pub reader: Reader,
