@@ -220,7 +220,7 @@ class Function:
                             out += [".", arm[1], ".", arm[2]]
                             k += 2 + 2 * len(arm[0])
                             continue
-                        new = self.steps.get(key) or self.steps.get(key[:-4] if key.endswith("-law") else key, step)
+                        new = self.steps.get(key) or self.steps.get(re.sub("-(law|lem)$", "", key)) or self.steps.get(re.sub(r"\d+$", "", key), step)
                         new = {"well-formed": "well_formed", "type-inv": "type_inv"}.get(new, new)
                         out += [".", new]
                         k += 2
@@ -256,7 +256,8 @@ class Function:
         text = re.sub(r"\((c(?:\.[\w'-]+)+)\)", r"\1", text)
         text = re.sub(r"\(([\w'-]+)\)", lambda m: m.group(1) if m.group(1) in self.helpers else m.group(0), text)
         text = re.sub(r"\bc\.pre\b", "c.requires", text)
-        text = re.sub(r"not-(?:true|false) _ (c\.if-not-[\w'-]+\.(?:true|false))", r"\1", text)
+        text = re.sub(r"not-(?:true|false) (?:_|[\w.'-]+|\([^()]*\)) (c\.if-not-[\w'-]+\.(?:true|false))", r"\1", text)
+        text = re.sub(r"\.inv\b(?!-)", ".invariant", text)
         text = re.sub(r", c\.[\w-]+\.type-inv\b", "", text)
         text = re.sub(r"\((omega|search|grind) \(arith\)\)", r"(\1 arith)", text).replace("omega (arith)", "omega arith")
         return text

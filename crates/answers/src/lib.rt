@@ -1,5 +1,6 @@
 // The answers, their numbers, and the byte that goes out with each.
 #![tactic(auto)]
+
 ghost use Rattle.std.specs.Prelude.{◌≡◌};
 ghost use Rattle.answers.specs.Paper.{fault_number, number_of, place_of, reply_of, parcel_byte, first_out};
 ghost use Rattle.answers.specs.declared.Answer.TheVariants.{Nothing};

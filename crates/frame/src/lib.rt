@@ -1,5 +1,6 @@
 // E1381 frames: the shape of a frame that has come.
 #![tactic(auto)]
+
 ghost use Rattle.std.specs.Prelude.{◌≡◌, List, [], ◌∷◌, ◌++◌};
 ghost use Rattle.frame.specs.Shape.{shape_of};
 

@@ -1,6 +1,6 @@
 -- One entry: its size, what was written is read back, and what follows it does not matter. All that laws of chains use of it.
 -- Assumes nothing.
-use mathlib.Core.Path.{◌≡◌, refl, sym, ap, ◌∙◌}
+use mathlib.Core.Path.{◌≡◌, sym, ap, ◌∙◌}
 use mathlib.Core.List.{List, ◌++◌}
 use mathlib.Core.Bool.{Bool, true, false}
 use Prim.Native.Nat.{ℕ, ◌+◌, ◌<◌, ◌≤◌}
@@ -18,7 +18,7 @@ use Rattle.header.specs.Header.{serial_count, least_head, head_size, entry_size,
 use Rattle.header.specs.Entry.{Entry, encode, size, starts, first, first_head}
 use Rattle.header.specs.Inner.Entry.{Bytes}
 use Rattle.header.proofs.Heads.{head_size_low, head_size_high, head_number_below, head_header, head_append, length_header, line_below, serial_below, respelt}
-use Rattle.header.proofs.Starts.{Starts, starts_facts, starts_of}
+use Rattle.header.proofs.Starts.{Starts, starts_facts}
 
 -- an entry that a chain can hold
 pub record Sound (e : Entry) : Type 0 where

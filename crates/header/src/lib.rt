@@ -1,6 +1,7 @@
 // The header of an entry, read and spelt; and the room that an entry takes. Nothing else knows how a header is laid out.
 // Every function that another crate can call is total: it is given a text's length as a u32, so that no sum can overflow.
 #![tactic(auto)]
+
 ghost use Rattle.std.specs.Prelude.{◌≡◌, ◌+◌, ◌≤◌, ◌<◌};
 ghost use Rattle.packed.specs.Fields.{unpack, longest_field};
 ghost use Rattle.header.specs.Header.{head_widths, serial_count, head_size, entry_size, head_number, fields_of};

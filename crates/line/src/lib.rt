@@ -1,5 +1,6 @@
 // The record of a serial line, and what an event makes of it by value.
 #![tactic(auto)]
+
 ghost use Rattle.std.specs.Prelude.{◌≡◌};
 ghost use Rattle.line.specs.Line.{fresh_line, opened_line, closed_line, last_within, sending_within, state_within, within_limits, asked_line, gone_line, begun_line, collected_line, counted_line, waiting_line, accepted_line, refusing_line};
 ghost use Rattle.line.specs.Seconds.{passed_of};

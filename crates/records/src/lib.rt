@@ -1,5 +1,6 @@
 // The records of a text: where one ends, how many there are, and how the text ends.
 #![tactic(auto)]
+
 ghost use Rattle.std.specs.Prelude.{◌≡◌, ◌++◌, length};
 ghost use Rattle.memory.specs.Tests.{is, find};
 ghost use Rattle.records.specs.Records.{records, ending_of};

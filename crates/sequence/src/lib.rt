@@ -1,5 +1,6 @@
 // Sequence numbers: a field that is one, what each type has reached, and what a record makes of that.
 #![tactic(auto)]
+
 ghost use Rattle.std.specs.Prelude.{◌≡◌};
 ghost use Rattle.sequence.specs.Numbers.{number_of, count_of, restarted, counted};
 

@@ -1,0 +1,2 @@
+-- `answers::Answer::place` meets its contract: a fault has its place, and another variant none.
+-- Assumes nothing.
