@@ -1,5 +1,6 @@
 // A strip reader's blocks: a whole one judged, and the control blocks that we send.
 #![tactic(auto)]
+
 ghost use Rattle.std.specs.Prelude.{◌≡◌};
 ghost use Rattle.block.specs.Controls.{control_bytes, ControlPut};
 ghost use Rattle.block.specs.Judged.{is_length, control_of, data_of, judged_of};
