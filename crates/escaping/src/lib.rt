@@ -1,5 +1,6 @@
 // Field text with escapes and without.
 #![tactic(auto)]
+
 ghost use Rattle.escaping.specs.Escape.{Escaping};
 ghost use Rattle.escaping.specs.Unescape.{Unescaping};
 

@@ -12,8 +12,7 @@ use Rattle.escaping.specs.Letters.{meant}
 use Rattle.escaping.specs.Inner.Passes.{letters}
 use Rattle.memory.proofs.Tests.{never_both}
 use Rattle.memory.proofs.Branches.{branches}
-use Rattle.escaping.proofs.without_escapes.meant.Statement.{statement}
-use Rattle.escaping.proofs.without_escapes.meant.Tie as tie
+use Rattle.escaping.proofs.without_escapes.meant.Goals as goal
 
 last_letter : (d : Delimiters) (x : ℕ) → is_one_of letters x ≡ true → (x ≡ 0x46 → ⊥) → (x ≡ 0x53 → ⊥) → (x ≡ 0x52 → ⊥) → meant d x ≡ some d.escape
 unfolding meant
@@ -26,22 +25,17 @@ last_letter d x t f s r =
       | no p ↦ never_both true refl (sym t ∙ rw (n₁, n₂, n₃, ne_eqb x 0x45 p))
     ]
 
-returns : tie.Need-returns
+pub returns-then-letter-eq-FIELD_LETTER : goal.returns-then-letter-eq-FIELD_LETTER
 unfolding meant
-returns c = search branches
+returns-then-letter-eq-FIELD_LETTER c = search branches
 
-returns-2 : tie.Need-returns-2
+pub returns-then-letter-eq-COMPONENT_LETTER : goal.returns-then-letter-eq-COMPONENT_LETTER
 unfolding meant
-returns-2 c = search branches
+returns-then-letter-eq-COMPONENT_LETTER c = search branches
 
-returns-3 : tie.Need-returns-3
+pub returns-then-letter-eq-REPEAT_LETTER : goal.returns-then-letter-eq-REPEAT_LETTER
 unfolding meant
-returns-3 c = search branches
+returns-then-letter-eq-REPEAT_LETTER c = search branches
 
-returns-4 : tie.Need-returns-4
-returns-4 c =
-    let s = c.before.before.before in
-    last_letter s.args.d s.args.letter s.requires c.before.before.if1.false c.before.if2.false c.if3.false
-
-pub meant-spec : {M : Type 1} → statement M
-meant-spec = tie.close (tie.spec returns returns-2 returns-3 returns-4)
+pub returns : goal.returns
+returns c = last_letter c.args.d c.args.letter c.requires c.if-letter-eq-FIELD_LETTER.false c.if-letter-eq-COMPONENT_LETTER.false c.if-letter-eq-REPEAT_LETTER.false
