@@ -1,5 +1,6 @@
 // A number in decimal: how many digits it has, and the digits in lent memory. Both take more than one digit a turn, for speed.
 #![tactic(auto)]
+
 ghost use Rattle.std.specs.Prelude.{◌≡◌, ◌≤◌, leb, length};
 ghost use Rattle.decimal.specs.Decimal.{decimal_of, most_digits};
 ghost use Rattle.decimal.specs.Putting.{DecimalPut};

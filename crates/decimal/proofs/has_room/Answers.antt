@@ -9,16 +9,12 @@ use lib.Dec.{leb}
 use lib.ListN.{length}
 use Rattle.decimal.specs.Decimal.{decimal_of}
 use Rattle.decimal.proofs.Digits.{twenty}
-use Rattle.decimal.proofs.has_room.Statement.{statement}
-use Rattle.decimal.proofs.has_room.Tie as tie
+use Rattle.decimal.proofs.has_room.Goals as goal
 
-returns : tie.Need-returns
-returns c =
-    let a = c.before.args in
+pub returns-then-room-ge-MOST_DIGITS : goal.returns-then-room-ge-MOST_DIGITS
+returns-then-room-ge-MOST_DIGITS c =
+    let a = c.args in
     sym (le-leb (length (decimal_of a.n)) a.room (omega (arith, twenty a.n (search rules))))
 
-returns-2 : tie.Need-returns-2
-returns-2 c = ap (λ (k : ℕ). leb k c.before.before.args.room) c.size.ensures.0
-
-pub has-room-spec : {M : Type 1} → statement M
-has-room-spec = tie.close (tie.spec returns (λ c κs. search rules) returns-2)
+pub returns : goal.returns
+returns c = ap (λ (k : ℕ). leb k c.args.room) c.size.ensures.0
