@@ -130,6 +130,8 @@ class Function:
         self.crate, self.path, self.said = crate, path, []
         self.names = names
         self.steps, self.params_of = {}, {}
+        self.calls = {re.sub(r"-\d+$", "", new) for place, parent, (old, new), callee, extra in names["places"] if callee}
+        self.calls |= {callee.split("::")[-1] for place, parent, step, callee, extra in names["places"] if callee}
         for place, parent, (old, new), callee, extra in names["places"]:
             if old:
                 self.steps[plain(old)] = new
@@ -188,11 +190,25 @@ class Function:
 
     def turn(self, text, ctx, used):
         """The text with every context collapsed to c; adds to `used` the helpers that it cites."""
-        ctx = set(ctx)
+        ctx, hidden, depth = set(ctx), [], 0
         toks = tokens(text)
         out, k, n = [], 0, len(toks)
         while k < n:
             t = toks[k]
+            if t in "([{":
+                depth += 1
+            elif t in ")]}":
+                depth -= 1
+                ctx |= {n for d_, n in hidden if d_ > depth}
+                hidden = [(d_, n) for d_, n in hidden if d_ <= depth]
+            elif t == "λ":
+                # a binder that hides a place's name
+                j = k + 1
+                while j < n and toks[j] != ".":
+                    if toks[j] in ctx:
+                        hidden.append((depth, toks[j]))
+                        ctx.discard(toks[j])
+                    j += 1
             # let x = CONTEXT in
             if t == "let":
                 a = self.skip(toks, k + 1)
@@ -221,7 +237,7 @@ class Function:
                             k += 2 + 2 * len(arm[0])
                             continue
                         new = self.steps.get(key) or self.steps.get(re.sub("-(law|lem)$", "", key)) or self.steps.get(re.sub(r"\d+$", "", key), step)
-                        new = {"well-formed": "well_formed", "type-inv": "type_inv"}.get(new, new)
+                        new = {"well-formed": "well_formed", "type-inv": "type_inv", "good": "well_formed"}.get(new, new)
                         out += [".", new]
                         k += 2
                         if k + 1 < n and toks[k] == "." and toks[k + 1] == "new" and new in self.params_of:
@@ -256,12 +272,17 @@ class Function:
         text = re.sub(r"\((c(?:\.[\w'-]+)+)\)", r"\1", text)
         text = re.sub(r"\(([\w'-]+)\)", lambda m: m.group(1) if m.group(1) in self.helpers else m.group(0), text)
         text = re.sub(r"\bc\.pre\b", "c.requires", text)
-        text = re.sub(r"not-(?:true|false) (?:_|[\w.'-]+|\([^()]*\)) (c\.if-not-[\w'-]+\.(?:true|false))", r"\1", text)
+        text = re.sub(r"not-(?:true|false) (?:_|[\w.'-]+|\([^()]*\)) (c\.if-not-([\w'-]+)\.(?:true|false))", self.test, text)
         text = re.sub(r"\.inv\b(?!-)", ".invariant", text)
         text = re.sub(r"(\.if-[\w'-]+)\.taken\b", r"\1.true", text)
         text = re.sub(r", c\.[\w-]+\.type-inv\b", "", text)
         text = re.sub(r"\((omega|search|grind) \(arith\)\)", r"(\1 arith)", text).replace("omega (arith)", "omega arith")
         return text
+
+    def test(self, m):
+        """A test of `!f(x)` says what f returned; one of `!x.field` says it with `not`."""
+        call = re.sub(r"-\d+$", "", m.group(2))
+        return m.group(1) if call in self.params_of or call in self.calls else m.group(0)
 
     def closure(self, used, done=None):
         done = [] if done is None else done
@@ -364,6 +385,7 @@ class Function:
             for d in moved:
                 body.append(self.public(d))
             out["Invariants.antt"] = "\n".join([comment] + uses + [f"use {mod}.Given as goal"]) + "\n\n" + "\n\n".join(body + inv_text) + "\n"
+        self.pair([n for n, d in answers])
         # ---- answers
         inline = self.inline(answers, {d.name for k, l, d in invariants})
         parts, cites = [], set()
@@ -423,6 +445,17 @@ class Function:
         elif parts:
             self.said.append("lemmas without an answer")
         return out
+
+    def pair(self, olds):
+        """Goals that have another number now: where as many of a kind are left on both sides, they go together in their order."""
+        kind = lambda it: "-".join(plain(it).split("-")[:2])
+        taken = {self.needs[plain(o)] for o in olds if plain(o) in self.needs}
+        left = [o for o in olds if plain(o) not in self.needs]
+        free = [n for n in self.order if n not in taken]
+        for k in {kind(o) for o in left}:
+            a, b = [o for o in left if kind(o) == k], [n for n in free if kind(n) == k]
+            if len(a) == len(b):
+                self.needs.update(zip(map(plain, a), b))
 
     def inline(self, answers, invariants):
         """The answers that the theorem gives in place, by the goals that they must be for: those between two that have names."""

@@ -1,5 +1,6 @@
 // The pieces of a text: each record with its CR, cut so that every piece is the text of one frame.
 #![tactic(auto)]
+
 ghost use Rattle.std.specs.Prelude.{◌≡◌, min, take};
 ghost use Rattle.pieces.specs.Pieces.{piece_size, through_cr, end_after};
 

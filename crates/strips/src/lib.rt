@@ -1,5 +1,6 @@
 // A strip reader's line: what a byte does there, and what a whole block comes to before the journal is asked.
 #![tactic(auto)]
+
 ghost use Rattle.std.specs.Prelude.{◌≡◌, ◌||◌};
 ghost use Rattle.memory.specs.Tests.{is};
 ghost use Rattle.characters.specs.Control.{stx};
