@@ -274,6 +274,7 @@ class Function:
         text = re.sub(r"\bc\.pre\b", "c.requires", text)
         text = re.sub(r"not-(?:true|false) (?:_|[\w.'-]+|\([^()]*\)) (c\.if-not-([\w'-]+)\.(?:true|false))", self.test, text)
         text = re.sub(r"\.inv\b(?!-)", ".invariant", text)
+        text = re.sub(r"(c\.wrapping_[\w-]+)\.ensures\b(?!\.)", r"\1.ensures.value", text)
         text = re.sub(r"(\.if-[\w'-]+)\.taken\b", r"\1.true", text)
         text = re.sub(r", c\.[\w-]+\.type-inv\b", "", text)
         text = re.sub(r"\((omega|search|grind) \(arith\)\)", r"(\1 arith)", text).replace("omega (arith)", "omega arith")

@@ -1,5 +1,6 @@
 // Fields and components of a record.
 #![tactic(auto)]
+
 ghost use Rattle.std.specs.Prelude.{◌≡◌};
 ghost use Rattle.records.specs.Fields.{field_of};
 ghost use Rattle.component.specs.Component.{component_end};

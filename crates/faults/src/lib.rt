@@ -1,5 +1,6 @@
 // The check of a text: whether it is a message, or the first fault of one that is not and the place of its record.
 #![tactic(auto)]
+
 ghost use Rattle.std.specs.Prelude.{◌≡◌};
 ghost use Rattle.faults.specs.Faults.{fault_of};
 

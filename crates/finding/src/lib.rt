@@ -1,5 +1,6 @@
 // The message that a strip reader's block with results becomes: its finding.
 #![tactic(auto)]
+
 ghost use Rattle.finding.specs.Findings.{FindingPut};
 
 use settings::Patient;
