@@ -154,6 +154,7 @@ class Function:
             self.loops[plain(old)] = (new, fields, changed)
             self.steps[plain(old)] = new
         self.known = known
+        self.temps = {old.split(".")[-1]: new.split(".")[-1] for old, new in names["args"] if old.startswith(".args ")}
 
     # ---- contexts
 
@@ -274,6 +275,7 @@ class Function:
         text = re.sub(r"\bc\.pre\b", "c.requires", text)
         text = re.sub(r"not-(?:true|false) (?:_|[\w.'-]+|\([^()]*\)) (c\.if-not-([\w'-]+)\.(?:true|false))", self.test, text)
         text = re.sub(r"\.inv\b(?!-)", ".invariant", text)
+        text = re.sub(r"\.(t\d+)\b", lambda m: "." + self.temps.get(m.group(1), m.group(1)), text)
         text = re.sub(r"(c\.wrapping_[\w-]+)\.ensures\b(?!\.)", r"\1.ensures.value", text)
         text = re.sub(r"(\.if-[\w'-]+)\.taken\b", r"\1.true", text)
         text = re.sub(r", c\.[\w-]+\.type-inv\b", "", text)

@@ -1,6 +1,6 @@
 -- What the shape takes for whole is a frame as it is written: nothing else is accepted.
 -- Assumes nothing.
-use Rattle.std.proofs.Common.{◌≡◌, ℕ, suc, ◌+◌, ◌-◌, ◌<◌, ◌≤◌, Bool, true, false, cond, eqb, List, [], ◌∷◌, ◌++◌, length, take, drop, sym, refl, ap, ◌∙◌, arith, take-append-drop, drop_of_length-le, drop-cons, take-suc, eqb-true}
+use Rattle.std.proofs.Common.{◌≡◌, ℕ, suc, ◌-◌, ◌<◌, ◌≤◌, Bool, true, false, cond, eqb, List, [], ◌∷◌, ◌++◌, length, take, drop, sym, refl, ap, ◌∙◌, arith, take-append-drop, drop_of_length-le, drop-cons, take-suc, eqb-true}
 use Rattle.memory.specs.Parts.{part}
 use Rattle.memory.specs.Tests.{all}
 use Rattle.characters.specs.Control.{lf, etx, etb}

@@ -1,5 +1,6 @@
 // E1381 frames: the writing of one.
 #![tactic(auto)]
+
 ghost use Rattle.framing.specs.Writing.{FramePut};
 
 use digits::MOST_NUMBER;

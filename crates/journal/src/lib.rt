@@ -1,6 +1,7 @@
 // The journal: the entries of eight lines in one lent area, with a guaranteed share for each line.
 // Every public function is total: what it cannot do it answers, and then it changes nothing.
 #![tactic(auto)]
+
 ghost use Rattle.std.specs.Prelude.{◌≡◌};
 ghost use Rattle.journal.specs.Chain.{fresh_ledger};
 ghost use Rattle.journal.specs.Answers.{is_fits};
