@@ -1,5 +1,6 @@
 // What is kept of a strip reader in plain numbers, as a host keeps it (`layout` says where each stands).
 #![tactic(auto)]
+
 ghost use Rattle.std.specs.Prelude.{◌≡◌};
 ghost use Rattle.keeping.specs.Keeping.{yes, reader_at, reader_after, is_kept, block_after};
 

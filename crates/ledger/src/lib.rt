@@ -1,5 +1,6 @@
 // The ledger in plain numbers, as a host keeps it (`layout` says where each stands).
 #![tactic(auto)]
+
 ghost use Rattle.std.specs.Prelude.{◌<◌, ◌^◌, ◌≡◌};
 ghost use Rattle.memory.specs.Sizes.{lines};
 ghost use Rattle.ledger.specs.Ledgers.{used_from, serials_from, LedgerRead, serial_after, counts_after};

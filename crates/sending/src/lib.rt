@@ -1,5 +1,6 @@
 // E1381's sending side, on one line's record: what a byte or seconds make of a sending, and the frame that it offers.
 #![tactic(auto)]
+
 ghost use Rattle.std.specs.Prelude.{◌≡◌};
 ghost use Rattle.sending.specs.Onward.{byte_onward, wait_of, late_onward, seconds_onward};
 ghost use Rattle.sending.specs.Offered.{piece_now, PiecePut};

@@ -1,5 +1,6 @@
 // What a taking from the journal is answered: the one place where a `Took` becomes an `Answer`.
 #![tactic(auto)]
+
 ghost use Rattle.std.specs.Prelude.{◌≡◌};
 ghost use Rattle.taking.specs.Taking.{took_answer};
 
