@@ -148,6 +148,7 @@ class Function:
             self.needs[plain(old)] = new
         for old, new in names["needs"]:
             self.needs.setdefault(plain(new), new)
+            self.needs.setdefault("overflow-" + plain(old), new)
         self.order = [new for old, new in names["needs"]]
         self.loops = {}
         for ((old, new), fields), changed in zip(names["loops"], names["changed"]):
@@ -232,6 +233,7 @@ class Function:
                     if k + 1 < n and toks[k] == ".":
                         step = toks[k + 1]
                         key = plain(step)
+                        key = key if key in self.steps or key in self.arms else key[:1].lower() + key[1:]
                         arm = next(((p_, a_, f_) for p_, a_, f_ in self.arms.get(key, []) if toks[k + 2 : k + 2 + 2 * len(p_)] == [x for q in p_ for x in (".", q)]), None)
                         if arm:
                             out += [".", arm[1], ".", arm[2]]

@@ -1,5 +1,6 @@
 // A message cut into frames in lent memory: each record starts a new frame, and is cut into pieces that fit one.
 #![tactic(auto)]
+
 ghost use Rattle.std.specs.Prelude.{◌≡◌};
 ghost use Rattle.faults.specs.Faults.{fault_of};
 ghost use Rattle.cutting.specs.Frames.{refused_as, CutInto};

@@ -1,5 +1,6 @@
 // Whether a text is a message, in one walk that asks for no fault and no place.
 #![tactic(auto)]
+
 ghost use Rattle.std.specs.Prelude.{◌≡◌};
 ghost use Rattle.faults.specs.Message.{is_message};
 

@@ -4,10 +4,8 @@ use mathlib.Core.Path.{◌≡◌, sym, ap, subst, ◌∙◌}
 use mathlib.Core.List.{List}
 use Prim.Native.Nat.{ℕ, ◌≤◌, ◌<◌}
 use borrow.Author.Tests.{lt-ltb, le-ltb}
-use lib.Dec.{ltb}
 use lib.ListN.{get_or}
 use Rattle.memory.specs.Sizes.{lines}
-use Rattle.memory.specs.Tests.{unless}
 use Rattle.answers.specs.declared.Answer.TheVariants.{NoLine}
 use Rattle.journal.specs.declared.Ledger.{Ledger}
 use Rattle.journal.specs.declared.Taking.{Taking}

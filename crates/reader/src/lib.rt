@@ -1,5 +1,6 @@
 // A reader's call: the oldest entry of its line, over the state that a host keeps in plain numbers (`layout` says where each stands).
 #![tactic(auto)]
+
 ghost use Rattle.std.specs.Prelude.{◌≡◌};
 ghost use Rattle.reader.specs.Takings.{Taken, taking_in_numbers};
 

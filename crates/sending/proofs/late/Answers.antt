@@ -1,6 +1,5 @@
 -- `sending::late` meets its contract.
 -- Assumes nothing.
-use borrow.Author.Rules.{rules}
 use Rattle.sending.proofs.late.Goals as goal
 
 pub returns-in-Pausing : goal.returns-in-Pausing

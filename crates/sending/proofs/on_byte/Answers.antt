@@ -1,6 +1,5 @@
 -- `sending::on_byte` meets its contract.
 -- Assumes nothing.
-use borrow.Author.Rules.{rules}
 use Rattle.sending.proofs.on_byte.Goals as goal
 
 pub returns-in-Asking : goal.returns-in-Asking

@@ -3,7 +3,6 @@
 use mathlib.Core.Path.{◌∙◌}
 use Prim.Native.Nat.{◌+◌, ◌≤◌, ◌<◌}
 use native.Mathlib.Omega.{arith}
-use borrow.Author.Rules.{rules}
 use Rattle.memory.proofs.Branches.{branches}
 use Rattle.sending.specs.Onward.{wait_of, seconds_onward}
 use Rattle.sending.proofs.on_seconds.Goals as goal

@@ -1,6 +1,5 @@
 -- `sending::put_offered` meets its contract.
 -- Assumes nothing.
-use borrow.Author.Rules.{rules}
 use Rattle.sending.proofs.put_offered.Goals as goal
 
 pub returns-in-Out : goal.returns-in-Out

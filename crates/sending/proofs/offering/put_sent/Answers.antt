@@ -1,7 +1,6 @@
 -- `sending::offering::put_sent` meets its contract.
 -- Assumes nothing.
 use mathlib.Core.Path.{refl}
-use borrow.Author.Rules.{rules}
 use borrow.Author.Tests.{le-ltb, lt-ltb}
 use Rattle.sending.proofs.offering.put_sent.Goals as goal
 

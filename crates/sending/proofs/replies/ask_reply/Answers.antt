@@ -1,9 +1,8 @@
 -- `sending::replies::ask_reply` meets its contract.
 -- Assumes nothing.
 use mathlib.Core.Path.{◌∙◌}
-use Prim.Native.Nat.{ℕ, ◌+◌, ◌≤◌, ◌<◌}
+use Prim.Native.Nat.{◌+◌, ◌≤◌, ◌<◌}
 use native.Mathlib.Omega.{arith}
-use borrow.Author.Rules.{rules}
 use Rattle.memory.proofs.Branches.{branches}
 use Rattle.line.specs.Line.{most_tries}
 use Rattle.sending.specs.Onward.{ask_reply}

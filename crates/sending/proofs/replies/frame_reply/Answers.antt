@@ -1,7 +1,6 @@
 -- `sending::replies::frame_reply` meets its contract.
 -- Assumes nothing.
 use mathlib.Core.Path.{◌∙◌}
-use borrow.Author.Rules.{rules}
 use Rattle.memory.proofs.Branches.{branches}
 use Rattle.sending.specs.Onward.{frame_reply}
 use Rattle.sending.proofs.replies.frame_reply.Goals as goal

@@ -2,7 +2,6 @@
 -- Assumes nothing.
 use mathlib.Core.Path.{◌∙◌}
 use native.Mathlib.Omega.{arith}
-use borrow.Author.Rules.{rules}
 use Rattle.sending.proofs.Pieces.{piece_most}
 use Rattle.sending.proofs.replies.next_frame.Goals as goal
 

@@ -1,6 +1,5 @@
 -- `sending::replies::offer_at` meets its contract.
 -- Assumes nothing.
-use borrow.Author.Rules.{rules}
 use Rattle.memory.proofs.Branches.{branches}
 use Rattle.sending.proofs.replies.offer_at.Goals as goal
 
