@@ -1,4 +1,4 @@
-//! Tells cargo where libngachodui.a is: in `NGACHODUI_LIB`, or where `rt staticlib ngachodui` puts it.
+//! Tells cargo where libngachodui.a is: in `NGACHODUI_LIB`, or where `host/library` puts it.
 
 use std::env;
 use std::path::Path;
