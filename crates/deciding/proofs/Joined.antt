@@ -8,7 +8,7 @@ use native.Mathlib.Nat.{zero-add}
 use native.Mathlib.Omega.{arith}
 use borrow.Author.Tests.{lt-leb, leb-true, leb-false}
 use lib.Dec.{leb}
-use lib.ListN.{length, take, length-append}
+use lib.ListN.{length, length-append}
 use Rattle.memory.specs.Parts.{splice}
 use Rattle.memory.specs.Moves.{copied, fits_at, Copied}
 use Rattle.memory.proofs.Parts.{part_start, part_splice, length_splice, splice_join}

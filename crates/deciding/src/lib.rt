@@ -1,5 +1,6 @@
 // A complete text is decided: the records, then the journal.
 #![tactic(auto)]
+
 ghost use Rattle.std.specs.Prelude.{◌≡◌, ◌++◌, length};
 ghost use Rattle.memory.specs.Sizes.{message_limit};
 ghost use Rattle.deciding.specs.Decisions.{outcome_with, objection_to, room_outcome, Decision};
