@@ -1,6 +1,6 @@
 -- What line i has of the lent memory, and the bytes that a byte b would make a frame of.
 -- Assumes nothing.
-use Rattle.std.specs.Prelude.{ℕ, ◌+◌, ◌*◌, List, [], ◌∷◌, ◌++◌}
+use Rattle.std.specs.Prelude.{ℕ, ◌*◌, List, [], ◌∷◌, ◌++◌}
 use Rattle.memory.specs.Sizes.{frame_part, message_limit}
 use Rattle.memory.specs.Parts.{part}
 use Rattle.line.specs.declared.Line.{Line}

@@ -1,5 +1,6 @@
 // What an event comes to, read off its own line alone: it looks, and changes nothing.
 #![tactic(auto)]
+
 ghost use Rattle.std.specs.Prelude.{◌≡◌};
 ghost use Rattle.looking.specs.Lent.{right_lengths};
 ghost use Rattle.looking.specs.Looks.{look_alone};
