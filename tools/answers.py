@@ -233,7 +233,7 @@ class Function:
                     if k + 1 < n and toks[k] == ".":
                         step = toks[k + 1]
                         key = plain(step)
-                        key = key if key in self.steps or key in self.arms else key[:1].lower() + key[1:]
+                        key = key if key in self.steps or key in self.arms else next((k_ for k_ in (*self.steps, *self.arms) if k_.lower() == key.lower()), key)
                         arm = next(((p_, a_, f_) for p_, a_, f_ in self.arms.get(key, []) if toks[k + 2 : k + 2 + 2 * len(p_)] == [x for q in p_ for x in (".", q)]), None)
                         if arm:
                             out += [".", arm[1], ".", arm[2]]
@@ -279,7 +279,8 @@ class Function:
         text = re.sub(r"\.inv\b(?!-)", ".invariant", text)
         text = re.sub(r"\.(t\d+)\b", lambda m: "." + self.temps.get(m.group(1), m.group(1)), text)
         text = re.sub(r"(c\.wrapping_[\w-]+)\.ensures\b(?!\.)", r"\1.ensures.value", text)
-        text = re.sub(r"(\.if-[\w'-]+)\.taken\b", r"\1.true", text)
+        text = re.sub(r"(\.if-[\w'-]+)\.(?:taken|true)\b", r"\1.true", text)
+        text = re.sub(r"(\.if-[\w'-]+)\.left\b", r"\1.false", text)
         text = re.sub(r", c\.[\w-]+\.type-inv\b", "", text)
         text = re.sub(r"\((omega|search|grind) \(arith\)\)", r"(\1 arith)", text).replace("omega (arith)", "omega arith")
         return text

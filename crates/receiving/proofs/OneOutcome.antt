@@ -1,11 +1,10 @@
 -- Any two outcomes that a contract of this crate allows are equal. Where the contract is one equation (`test`), memory's `one_value` says it.
 -- Assumes nothing.
-use mathlib.Core.Path.{◌≡◌, sym, ap, ◌∙◌}
+use mathlib.Core.Path.{◌≡◌, sym, ◌∙◌}
 use Prim.Native.Nat.{ℕ}
 use Rattle.deciding.specs.declared.Fate.{Fate}
 use Rattle.line.specs.declared.Line.{Line}
 use Rattle.looking.specs.declared.Event.{Event}
-use Rattle.looking.specs.declared.Look.{Look}
 use Rattle.receiving.specs.Alone.{AloneMemory, SteppingAlone}
 use Rattle.receiving.specs.Closing.{Closing}
 use Rattle.receiving.specs.declared.Alone.{Alone}

@@ -1,6 +1,6 @@
 -- The line of a text that was decided: the row of the text's fate.
 -- Assumes nothing.
-use Rattle.std.specs.Prelude.{ℕ, ◌≡◌, ◌&&◌, List, ltb, length}
+use Rattle.std.specs.Prelude.{ℕ, ◌≡◌, ◌&&◌, ltb, length}
 use Rattle.memory.specs.Sizes.{lines, journal_size}
 use Rattle.memory.specs.Tests.{unless}
 use Rattle.line.specs.Line.{within_limits}

@@ -1,5 +1,6 @@
 // One event on its line alone: look, then act; and what a line is left with once its complete text is decided.
 #![tactic(auto)]
+
 ghost use Rattle.std.specs.Prelude.{◌≡◌};
 ghost use Rattle.receiving.specs.Alone.{SteppingAlone};
 ghost use Rattle.receiving.specs.Closing.{test_of, Closing};
