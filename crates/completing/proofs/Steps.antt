@@ -29,7 +29,7 @@ use Rattle.receiving.specs.Verdicts.{fate_act}
 use Rattle.receiving.specs.Settled.{line_after, texts_after, frames_after, ledger_after, journal_after}
 use Rattle.receiving.specs.declared.Tested.{Tested}
 use Rattle.receiving.specs.declared.Tested.TheVariants.{Refused}
-use Rattle.receiving.specs.Steps.{Memory, AfterStep, settle, step_of, Leaves, memory_of, Stepping}
+use Rattle.receiving.specs.Steps.{AfterStep, settle, step_of, Leaves, memory_of, Stepping}
 use Rattle.receiving.specs.Alone.{SteppingAlone}
 use Rattle.receiving.specs.Closing.{test_of, closing_act, Closing}
 use Rattle.completing.specs.Deciding.{completed, completion_of, decide_of, Deciding}

@@ -1,5 +1,6 @@
 // A complete text: it is decided, and its line is left with what its fate says.
 #![tactic(auto)]
+
 ghost use Rattle.std.specs.Prelude.{◌≡◌};
 ghost use Rattle.looking.specs.Inner.Ready.{Ready};
 ghost use Rattle.looking.specs.Inner.Fitting.{TextFits};
