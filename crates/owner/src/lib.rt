@@ -1,5 +1,6 @@
 // Reading a message: each record with its type, offset, length and owner.
 #![tactic(auto)]
+
 ghost use Rattle.std.specs.Prelude.{◌≡◌};
 ghost use Rattle.faults.specs.Faults.{fault_of};
 ghost use Rattle.owner.specs.Reading.{room_for, refused_as, ReadAs};
