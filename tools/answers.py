@@ -313,7 +313,7 @@ class Function:
 
     def run(self, text):
         blocks = [Decl(b) for b in declarations(text)]
-        self.paths, self.helpers, self.easy, self.spec = set(), {}, {}, ""
+        self.paths, self.helpers, self.easy, self.spec, self.opened = set(), {}, {}, "", []
         head = blocks[0]
         uses = []
         invariants, answers, others = [], [], []
@@ -332,6 +332,7 @@ class Function:
             ty = d.type.strip()
             if d.name.endswith(("_spec", "-spec")) or "tie.close" in "\n".join(d.clauses):
                 self.spec = split_clause(d.clauses[0])[1]
+                self.opened = d.unfolding
                 continue
             m = re.match(r"tie\.(invariant|decreases)-(\S+)", ty)
             if m:
@@ -435,6 +436,7 @@ class Function:
             used = []
             res = self.turn(body, {params[0]} if params else set(), used).strip()
             lets, unfold = self.lets(used)
+            unfold = self.opened + unfold
             text_ = [f"pub {new} : goal.{new}"] + (["unfolding " + " ".join(dict.fromkeys(unfold))] if unfold else [])
             text_ += ([f"{new} c ="] + ["    " + l.replace("\n", "\n    ") for l in lets] + ["    " + res.replace("\n", "\n    ")]) if lets or "\n" in res else [f"{new} c = {res}"]
             if TRIVIAL.match(res):

@@ -1,5 +1,6 @@
 // A line's record in plain numbers, as a host keeps it (`layout` says where each stands).
 #![tactic(auto)]
+
 ghost use Rattle.std.specs.Prelude.{◌≡◌};
 ghost use Rattle.numbers.specs.Changes.{is_within, is_reader, record_of, Collected, Begun, record_after};
 

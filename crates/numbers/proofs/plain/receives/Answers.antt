@@ -7,8 +7,7 @@ use native.Mathlib.Omega.{arith}
 use borrow.Author.Tests.{ne_eqb, eqb-true, eqb-false}
 use lib.Dec.{eqb}
 use lib.Bits.{bit_or, or_zero_l, or_add_and, and_le_r}
-use Rattle.numbers.proofs.plain.receives.Statement.{statement}
-use Rattle.numbers.proofs.plain.receives.Tie as tie
+use Rattle.numbers.proofs.plain.receives.Goals as goal
 
 -- no bit is set in two together where both are 0, and only there
 both_zero : (a b : ℕ) → eqb (bit_or a b) 0 ≡ eqb a 0 && eqb b 0
@@ -23,13 +22,10 @@ one_by_one true true z w = refl
 one_by_one true false z w = refl
 one_by_one false y z w = refl
 
-returns : tie.Need-returns
+pub returns : goal.returns
 returns c =
     let a = c.args in
     let two = both_zero a.tries a.place in
     let three = both_zero (bit_or a.tries a.place) a.speaks ∙ ap (λ (x : Bool). x && eqb a.speaks 0) two in
     both_zero (bit_or (bit_or a.tries a.place) a.speaks) a.refusing ∙ ap (λ (x : Bool). x && eqb a.refusing 0) three
     ∙ one_by_one (eqb a.tries 0) (eqb a.place 0) (eqb a.speaks 0) (eqb a.refusing 0)
-
-pub receives-spec : {M : Type 1} → statement M
-receives-spec = tie.close (tie.spec returns)
