@@ -1,5 +1,6 @@
 // One event on one line, whole: by value, and where the line's record and the ledger lie.
 #![tactic(auto)]
+
 ghost use Rattle.std.specs.Prelude.{◌≡◌};
 ghost use Rattle.receiving.specs.Steps.{Stepping};
 

@@ -1,6 +1,7 @@
 // Texts over plain memory: cut and read by the delimiters that they name, escaped and unescaped by those that are handed over; with
 // today's frame limit.
 #![tactic(auto)]
+
 ghost use Rattle.std.specs.Prelude.{◌≡◌};
 ghost use Rattle.texts.specs.Texts.{made_by_cutting, made_by_putting, made_by_reading, CutFrames, Escaped, Unescaped, RecordsRead};
 
