@@ -1,5 +1,6 @@
 // The replay listing: a line of a trace read, and each line of the listing written into lent memory.
 #![tactic(auto)]
+
 ghost use Rattle.std.specs.Prelude.{◌≡◌};
 ghost use Rattle.listing.specs.Items.{item_of};
 ghost use Rattle.listing.specs.Texts.{header_text, row_text, total_text, fault_text, TextWritten};

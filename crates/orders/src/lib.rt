@@ -1,6 +1,7 @@
 // A work order on its way down: the start of a sending, and the frame that its line offers, over the state that a host keeps in plain
 // numbers (`layout` says where each stands).
 #![tactic(auto)]
+
 ghost use Rattle.std.specs.Prelude.{◌≡◌};
 ghost use Rattle.orders.specs.Calls.{Sent, Fetched};
 

@@ -1,5 +1,6 @@
 // A strip reader's line, over the state that a host keeps in plain numbers (`layout` says where each stands).
 #![tactic(auto)]
+
 ghost use Rattle.std.specs.Prelude.{◌≡◌};
 ghost use Rattle.room.specs.Room.{todays_shares};
 ghost use Rattle.ledger.specs.Ledgers.{ledger_of};
