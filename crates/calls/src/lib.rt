@@ -1,5 +1,6 @@
 // A host's events, over the state that it keeps in plain numbers (`layout` says where each stands).
 #![tactic(auto)]
+
 ghost use Rattle.std.specs.Prelude.{◌<◌, ◌≡◌, true, length};
 ghost use Rattle.looking.specs.declared.Kind.TheVariants.{Byte, Seconds};
 ghost use Rattle.looking.specs.Lent.{right_lengths};
