@@ -1,6 +1,7 @@
 // Shows what frames get: reads lines `NAME LIMIT HEX`, HEX a frame's bytes behind STX, and writes for each its right check digits and its verdict.
 // A frame that is whole is written again and compared.
 #![tactic(auto)]
+
 ghost use Rattle.std.specs.Prelude.{◌≤◌, ◌<◌, length};
 
 use frame::{End, Shape};

@@ -1,5 +1,6 @@
 // The journal run by hand: steps from the standard input, one to a line, and after each what it answered, by its number, and what it left.
 #![tactic(auto)]
+
 ghost use Rattle.std.specs.Prelude.{◌≡◌, ◌<◌, ◌≤◌, length};
 ghost use Rattle.journal.specs.Answers.{verdict_number};
 

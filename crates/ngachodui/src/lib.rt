@@ -1,6 +1,7 @@
 // The gateway for hosts in C and Rust: what `calls`, `orders`, `layout`, `texts` and `message` do, under the names that hosts link (include/ngachodui.h).
 // A host keeps the state in plain numbers in its own memory, and lends it to each call; nothing is kept between calls.
 #![tactic(auto)]
+
 ghost use Rattle.std.specs.Prelude.{◌≡◌};
 ghost use Rattle.looking.specs.declared.Kind.TheVariants.{Byte, Seconds};
 ghost use Rattle.faults.specs.Message.{is_message};

@@ -4,6 +4,7 @@
 // The bytes of the other kinds begin with H and the delimiters, as a message does. Behind these five is
 //   e  a text that is escaped        u  a component that is unescaped        c  a text whose components are looked for
 #![tactic(auto)]
+
 use kinds::Delimiters;
 
 mod decode; // decode.rt: bytes from hex

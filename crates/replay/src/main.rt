@@ -1,6 +1,7 @@
 // The replay: a trace in, its listing out. The trace is the standard input, or each file that an argument names, run from a fresh gateway.
 // It streams: the memory is fixed, whatever the length of the trace.
 #![tactic(auto)]
+
 mod pieces; // pieces.rt: a trace, piece by piece
 mod writing; // writing.rt: what is written
 

@@ -1,5 +1,6 @@
 // A trace replayed piece by piece: its lines read, the gateway asked, the listing's rows written, all in lent memory.
 #![tactic(auto)]
+
 ghost use Rattle.std.specs.Prelude.{◌≡◌, ◌≤◌, length};
 ghost use Rattle.replaying.specs.Desk.{desk_of};
 ghost use Rattle.replaying.specs.Runs.{run_leaves, piece_of};

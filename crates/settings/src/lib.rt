@@ -1,5 +1,6 @@
 // What a line speaks. It is set when a gateway starts, and nothing changes it later.
 #![tactic(auto)]
+
 ghost use Rattle.std.specs.Prelude.{◌≡◌};
 ghost use Rattle.settings.specs.Settings.{results_length, colours_length, speaks_frames};
 

@@ -1,6 +1,7 @@
 // A trace that comes in pieces: all that is done between a read and the write behind it, in lent memory.
 // A program reads, calls `feed`, calls `turn`, and writes what the turn has put at the start of the output.
 #![tactic(auto)]
+
 ghost use Rattle.std.specs.Prelude.{◌≡◌, ◌≤◌, length};
 ghost use Rattle.replaying.specs.Desk.{desk_of};
 ghost use Rattle.streaming.specs.Stages.{begun, wants, is_over, nothing, closes};
