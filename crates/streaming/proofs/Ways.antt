@@ -22,7 +22,7 @@ use Rattle.streaming.specs.Said.{Said, behind, silent, saying, said_of}
 use Rattle.streaming.specs.Inner.Places.{LiesIn}
 use Rattle.streaming.specs.Inner.Ready.{is_ready, instead_at, instead_of}
 use Rattle.streaming.specs.Inner.Rest.{moved_for}
-use Rattle.streaming.specs.Streams.{Stream, stream_of, waiting, handed_on, ran, spoken, turned}
+use Rattle.streaming.specs.Streams.{stream_of, waiting, handed_on, ran, spoken, turned}
 use Rattle.streaming.specs.declared.Kept.{Kept}
 use Rattle.streaming.specs.declared.Stage.{Stage}
 use Rattle.streaming.specs.declared.Stage.TheVariants.{Wants, Total, Fault}
