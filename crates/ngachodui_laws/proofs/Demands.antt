@@ -16,7 +16,7 @@ use Rattle.ngachodui_laws.proofs.FromFresh.{can_send}
 use Rattle.ngachodui_laws.proofs.Stretches.{stretches, stretches_met, stretches_all}
 use Rattle.ngachodui_laws.proofs.Rooms.{share_kept, no_space, space, freed_own, freed_others, alone_refused, alone_stored, acknowledged_stored, only_4_stores}
 use Rattle.ngachodui_laws.proofs.Queue.{nothing_lost, only_messages}
-use Rattle.ngachodui_laws.proofs.Readers.{block_answered, repeat_not_stored, more_stored, to_reader_law, replies_right}
+use Rattle.ngachodui_laws.proofs.Readers.{block_answered, repeat_not_stored, more_stored, to_reader, replies_right}
 use Rattle.ngachodui_laws.proofs.Texts.{cut_whole, read_never_refused}
 use Rattle.ngachodui_laws.proofs.Escapes.{escaped_back, unescaped_back}
 
@@ -70,7 +70,7 @@ kept = record {
   block_answered = block_answered;
   repeat_not_stored = repeat_not_stored;
   more_stored = more_stored;
-  to_reader_law = to_reader_law;
+  to_reader = to_reader;
   replies_right = replies_right;
   texts_kept = texts_kept;
   no_order = no_order;

@@ -164,23 +164,23 @@ order_taken s i m a t l c = subst (λ (bs : List ℕ). OrderTaken t l m bs c.int
 -- ---- what is fetched
 
 -- on a line of frames only a sending's frame begins with STX: of other answers that do, one stores a reader's finding, and the others have heard a reader
-abbrev to_reader : Class → Bool
-to_reader quiet = false
-to_reader opening = false
-to_reader closing = false
-to_reader refusing = false
-to_reader accepting = false
-to_reader storing = true
-to_reader against = false
-to_reader gives = false
-to_reader sending = false
-to_reader hearing = true
+abbrev for_reader : Class → Bool
+for_reader quiet = false
+for_reader opening = false
+for_reader closing = false
+for_reader refusing = false
+for_reader accepting = false
+for_reader storing = true
+for_reader against = false
+for_reader gives = false
+for_reader sending = false
+for_reader hearing = true
 
-with_stx : (a : Answer) → to_reader (class_of a) ≡ false → reply_byte (first_out a) ≡ stx → number_of a ≡ sends
+with_stx : (a : Answer) → for_reader (class_of a) ≡ false → reply_byte (first_out a) ≡ stx → number_of a ≡ sends
 unfolding reply_of
 with_stx a other e =
     let test : Answer → Bool = λ x. eqb (reply_byte (first_out x)) stx && not (eqb (number_of x) sends) in
-    let none = every_but (λ x. to_reader (class_of x)) test (λ vs. refl) a other in
+    let none = every_but (λ x. for_reader (class_of x)) test (λ vs. refl) a other in
     by_test_law (eqb (reply_byte (first_out a)) stx) (eqb (number_of a) sends) refl (eq-eqb (reply_byte (first_out a)) stx e) none
   where
     by_test_law : (b c : Bool) → eqb (number_of a) sends ≡ c → b ≡ true → b && not c ≡ false → number_of a ≡ sends
@@ -190,18 +190,18 @@ with_stx a other e =
 
 act_stx : (x : Act) (a : Answer) → Goes x a → reply_byte (first_out a) ≡ stx → number_of a ≡ sends
 unfolding reply_of
-act_stx Leave a g e = with_stx a (ap to_reader g) e
-act_stx Open a g e = with_stx a (ap (λ (b : Answer). to_reader (class_of b)) g) e
-act_stx Close a g e = with_stx a (ap to_reader g) e
-act_stx Begin a g e = with_stx a (ap (λ (b : Answer). to_reader (class_of b)) g) e
-act_stx (Count n) a g e = with_stx a (ap (λ (b : Answer). to_reader (class_of b)) g) e
-act_stx Collect a g e = with_stx a (ap (λ (b : Answer). to_reader (class_of b)) g) e
-act_stx Refuse a g e = with_stx a (ap to_reader g) e
-act_stx (Accept n) a g e = with_stx a (ap (λ (b : Answer). to_reader (class_of b)) g) e
+act_stx Leave a g e = with_stx a (ap for_reader g) e
+act_stx Open a g e = with_stx a (ap (λ (b : Answer). for_reader (class_of b)) g) e
+act_stx Close a g e = with_stx a (ap for_reader g) e
+act_stx Begin a g e = with_stx a (ap (λ (b : Answer). for_reader (class_of b)) g) e
+act_stx (Count n) a g e = with_stx a (ap (λ (b : Answer). for_reader (class_of b)) g) e
+act_stx Collect a g e = with_stx a (ap (λ (b : Answer). for_reader (class_of b)) g) e
+act_stx Refuse a g e = with_stx a (ap for_reader g) e
+act_stx (Accept n) a g e = with_stx a (ap (λ (b : Answer). for_reader (class_of b)) g) e
 act_stx (Store n) a g e = let z : ack ≡ stx = sym (ap (λ (b : Answer). reply_byte (first_out b)) g) ∙ e in absurd (omega (arith, z))
-act_stx (Object n) a g e = with_stx a (ap to_reader g) e
-act_stx (Await n) a g e = with_stx a (ap (λ (b : Answer). to_reader (class_of b)) g) e
-act_stx (Go s n) a g e = with_stx a (ap (λ (b : Answer). to_reader (class_of b)) g ∙ ap to_reader (parcel_sends s)) e
+act_stx (Object n) a g e = with_stx a (ap for_reader g) e
+act_stx (Await n) a g e = with_stx a (ap (λ (b : Answer). for_reader (class_of b)) g) e
+act_stx (Go s n) a g e = with_stx a (ap (λ (b : Answer). for_reader (class_of b)) g ∙ ap for_reader (parcel_sends s)) e
 
 -- and a start has no frame yet
 start_unframed : (i : ℕ) (within can : Bool) (text : List ℕ) (j u f : ℕ) → reply_byte (first_out (start_answer (start_look i within can text j u f))) ≢ stx

@@ -250,8 +250,8 @@ module _ (r : Run) (i : ℕ) (h : i < lines) (reader : number_at (end_of r).numb
     by_reply More e = more (sym (reader_numbers_law then.numbers i (then_in_order.readers i h)).reply ∙ ap reply_number e) (out_is ∙ ap reply_block e)
     by_reply Again e = again (sym (reader_numbers_law then.numbers i (then_in_order.readers i h)).reply ∙ ap reply_number e) (out_is ∙ ap reply_block e)
 
-  pub to_reader_law : ToReader then i (host_step now (came i k)).0.buffer
-  to_reader_law = by_dialogue_law (line_of now.numbers i).settings.dialogue refl
+  pub to_reader : ToReader then i (host_step now (came i k)).0.buffer
+  to_reader = by_dialogue_law (line_of now.numbers i).settings.dialogue refl
     where
       by_dialogue_law : (x : Dialogue) → (line_of now.numbers i).settings.dialogue ≡ x → ToReader then i (host_step now (came i k)).0.buffer
       by_dialogue_law Frames e = absurd (reader (frames_number (number_at now.numbers i speaks_at) e))

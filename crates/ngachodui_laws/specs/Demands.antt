@@ -229,7 +229,7 @@ pub record Demands : Type 0 where
       → sent_with (end_of r) i b ≢ [] → LastOf (stored_with r i b) (finding_of p (ended_block (end_of r) i b))
   --
   -- Where STX is answered on a reader's line, what goes out is MOR or REP, as the numbers have our last reply; and both are right by our own tests.
-  pub to_reader_law : (r : Run) (i : ℕ) → i < lines → number_at (end_of r).numbers i speaks_at ≢ frames → (k : Kind) → reply_to (end_of r) (came i k) ≡ stx
+  pub to_reader : (r : Run) (i : ℕ) → i < lines → number_at (end_of r).numbers i speaks_at ≢ frames → (k : Kind) → reply_to (end_of r) (came i k) ≡ stx
       → ToReader (after (end_of r) (came i k)) i (host_step (end_of r) (came i k)).0.buffer
   pub replies_right : RightControl mor × RightControl rep
   --
