@@ -1,8 +1,11 @@
 // The journal run by hand: steps from the standard input, one to a line, and after each what it answered, by its number, and what it left.
 #![tactic(auto)]
 
-ghost use Rattle.std.specs.Prelude.{◌≡◌, ◌<◌, ◌≤◌, length};
+ghost use Rattle.std.specs.Prelude.{◌≡◌, ◌<◌, ◌≤◌, length, IfOk};
 ghost use Rattle.journal.specs.Answers.{verdict_number};
+
+use std::io;
+use std::io::Read;
 
 // Memory for any number of a step, which are below this, so that as many bytes as it says can be lent.
 const MOST: usize = 65536;
@@ -10,6 +13,9 @@ const MOST: usize = 65536;
 const BYTES: usize = 32769;
 
 const BUFFER: usize = 4200;
+
+// The most bytes of the standard input that are read.
+const INPUT: usize = 4096;
 
 fn number(verdict: journal::Verdict) -> usize
     ensures { result ≡ verdict_number verdict }
@@ -25,88 +31,100 @@ fn number(verdict: journal::Verdict) -> usize
 }
 
 // Shows what a taking answered, and gives what it left.
-fn taken(taken: journal::Taking) -> journal::Ledger {
-    let answer = taken.answer;
-    match answer {
-        journal::Took::Taken(n, serial) => took_text(n, serial),
-        journal::Took::NothingWaiting => word(44),
-        journal::Took::BufferShort => word(45),
-        journal::Took::Broken => word(43),
-        journal::Took::NoLine => word(40),
-        journal::Took::WrongSize => word(41),
+fn taken(rt: &impl Print, taken: journal::Taking) -> io::Result<journal::Ledger> {
+    match taken.answer {
+        journal::Took::Taken(n, serial) => took_text(rt, n, serial)?,
+        journal::Took::NothingWaiting => word(rt, 44)?,
+        journal::Took::BufferShort => word(rt, 45)?,
+        journal::Took::Broken => word(rt, 43)?,
+        journal::Took::NoLine => word(rt, 40)?,
+        journal::Took::WrongSize => word(rt, 41)?,
     }
-    taken.ledger
+    Ok(taken.ledger)
 }
 
-fn took_text(n: usize, serial: u16) {
-    word(8);
-    word(n);
-    word(serial as usize);
+fn took_text(rt: &impl Print, n: usize, serial: u16) -> io::Result<()> {
+    word(rt, 8)?;
+    word(rt, n)?;
+    word(rt, serial as usize)
 }
 
 // Shows what a storing answered, and gives what it left.
-fn stored(stored: journal::Storing) -> journal::Ledger {
-    let answer = stored.answer;
-    word(number(answer));
-    stored.ledger
+fn stored(rt: &impl Print, stored: journal::Storing) -> io::Result<journal::Ledger> {
+    word(rt, number(stored.answer))?;
+    Ok(stored.ledger)
 }
 
-fn byte(b: u8) {
-    io::write_all(1, &[b]);
+fn byte(rt: &impl Print, b: u8) -> io::Result<()> {
+    rt.write_all(&[b])
 }
 
-fn word(n: usize) {
-    byte(b' ');
-    io::print_decimal(1, n as u64);
+fn word(rt: &impl Print, n: usize) -> io::Result<()> {
+    print!(rt; " {n}")
 }
 
 // Each step but a fresh start is shown; a comment is not. F is the least letter of a step.
-fn heading(letter: u8, line: usize, n: usize) {
+fn heading(rt: &impl Print, letter: u8, line: usize, n: usize) -> io::Result<()> {
     if b'F' < letter {
-        byte(letter);
-        word(line);
-        word(n);
-        byte(b':');
-        end_change(letter);
+        byte(rt, letter)?;
+        word(rt, line)?;
+        word(rt, n)?;
+        byte(rt, b':')?;
+        end_change(rt, letter)?;
     }
+    Ok(())
 }
 
 // A change answers nothing, so its line ends with the heading.
-fn end_change(letter: u8) {
+fn end_change(rt: &impl Print, letter: u8) -> io::Result<()> {
     match letter {
-        b'J' | b'S' | b'T' => {}
-        _ => byte(b'\n'),
+        b'J' | b'S' | b'T' => Ok(()),
+        _ => byte(rt, b'\n'),
     }
 }
 
 // What a call left: the end in use, the line's used count and next serial, and the bytes of the journal.
-fn ledger_left(line: usize, ledger: journal::Ledger, bytes: [u8; MOST]) {
-    let used = ledger.used;
-    let serials = ledger.serials;
-    byte(b' ');
-    byte(b'|');
-    word(ledger.in_use);
-    line_left(line, used, serials);
-    word(digest(bytes, BYTES));
+fn ledger_left(
+    rt: &impl Print,
+    line: usize,
+    ledger: journal::Ledger,
+    bytes: [u8; MOST],
+) -> io::Result<()> {
+    rt.write_all(b" |")?;
+    word(rt, ledger.in_use)?;
+    line_left(rt, line, ledger.used, ledger.serials)?;
+    word(rt, digest(bytes, BYTES))
 }
 
-fn line_left(line: usize, used: [u32; 8], serials: [u16; 8]) {
+fn line_left(rt: &impl Print, line: usize, used: [u32; 8], serials: [u16; 8]) -> io::Result<()> {
     if line < 8 {
-        word(used[line] as usize);
-        word(serials[line] as usize);
+        word(rt, used[line] as usize)?;
+        word(rt, serials[line] as usize)?;
     }
+    Ok(())
 }
 
-fn call_left(line: usize, ledger: journal::Ledger, bytes: [u8; MOST]) {
-    ledger_left(line, ledger, bytes);
-    byte(b'\n');
+fn call_left(
+    rt: &impl Print,
+    line: usize,
+    ledger: journal::Ledger,
+    bytes: [u8; MOST],
+) -> io::Result<()> {
+    ledger_left(rt, line, ledger, bytes)?;
+    byte(rt, b'\n')
 }
 
 // What a taking left, also in the buffer.
-fn taking_left(line: usize, ledger: journal::Ledger, bytes: [u8; MOST], buffer: [u8; MOST]) {
-    ledger_left(line, ledger, bytes);
-    word(digest(buffer, BUFFER));
-    byte(b'\n');
+fn taking_left(
+    rt: &impl Print,
+    line: usize,
+    ledger: journal::Ledger,
+    bytes: [u8; MOST],
+    buffer: [u8; MOST],
+) -> io::Result<()> {
+    ledger_left(rt, line, ledger, bytes)?;
+    word(rt, digest(buffer, BUFFER))?;
+    byte(rt, b'\n')
 }
 
 // A number of the first n bytes, so that a change of any of them shows.
@@ -114,10 +132,8 @@ fn digest(s: [u8; MOST], n: usize) -> usize
     requires { n ≤ 65536 }
 {
     let mut sum: usize = 7;
-    let mut i: usize = 0;
-    while i < n {
+    for i in 0..n {
         sum = (sum * 31 + wide(s[i])) % 1000003;
-        i += 1;
     }
     sum
 }
@@ -135,35 +151,45 @@ fn filled(first: usize, gap: usize) -> [u8; MOST]
 {
     let mut s = [0u8; MOST];
     let mut value = first % 256 * 7 % 251;
-    let mut i: usize = 0;
-    while i < MOST {
+    for i in 0..MOST {
         s[i] = value as u8;
         value = (value + gap) % 251;
-        i += 1;
     }
     s
 }
 
 // Stores a text of n bytes, another for each place of the steps.
 fn store(
+    rt: &impl Print,
     ledger: journal::Ledger,
     line: u8,
     n: usize,
     place: usize,
     bytes: &mut [u8],
-) -> journal::Ledger
+) -> io::Result<journal::Ledger>
     requires { n < 65536 }
 {
     let text = filled(place, 7);
-    stored(journal::store(ledger, room::shares(), line, &text[..n], bytes))
+    stored(
+        rt,
+        journal::store(ledger, room::shares(), line, &text[..n], bytes),
+    )
 }
 
-fn judge(ledger: journal::Ledger, line: usize, n: usize, lent: usize, bytes: [u8; MOST])
+fn judge(
+    rt: &impl Print,
+    ledger: journal::Ledger,
+    line: usize,
+    n: usize,
+    lent: usize,
+    bytes: [u8; MOST],
+) -> io::Result<()>
     requires { lent < 65536 }
 {
     let on = (line % 256) as u8;
-    word(number(journal::judge(ledger, room::shares(), on, n, &bytes[..lent])));
-    call_left(line, ledger, bytes);
+    let verdict = journal::judge(ledger, room::shares(), on, n, &bytes[..lent]);
+    word(rt, number(verdict))?;
+    call_left(rt, line, ledger, bytes)
 }
 
 fn poked(mut bytes: [u8; MOST], at: usize, n: usize) -> [u8; MOST]
@@ -215,7 +241,7 @@ fn number_after(n: usize, b: u8) -> usize
     0
 }
 
-fn run(steps: &[u8]) {
+fn run(rt: &impl Print, steps: &[u8]) -> io::Result<()> {
     let mut bytes = filled(0, 3);
     let mut buffer = filled(0, 5);
     let mut ledger = journal::Ledger::fresh();
@@ -223,25 +249,22 @@ fn run(steps: &[u8]) {
     let mut letter = b'#';
     let mut line: usize = 0;
     let mut n: usize = 0;
-    let mut i: usize = 0;
-    while i < steps.len() {
-        let b = steps[i];
-        let place = i;
-        i += 1;
+    for place in 0..steps.len() {
+        let b = steps[place];
         if b == b'\n' {
-            heading(letter, line, n);
+            heading(rt, letter, line, n)?;
             let on = (line % 256) as u8;
             match letter {
                 b'T' => {
                     let taking = journal::take(ledger, on, &mut bytes[..lent], &mut buffer[..n]);
-                    ledger = taken(taking);
-                    taking_left(line, ledger, bytes, buffer);
+                    ledger = taken(rt, taking)?;
+                    taking_left(rt, line, ledger, bytes, buffer)?;
                 }
                 b'S' => {
-                    ledger = store(ledger, on, n, place, &mut bytes[..lent]);
-                    call_left(line, ledger, bytes);
+                    ledger = store(rt, ledger, on, n, place, &mut bytes[..lent])?;
+                    call_left(rt, line, ledger, bytes)?;
                 }
-                b'J' => judge(ledger, line, n, lent, bytes),
+                b'J' => judge(rt, ledger, line, n, lent, bytes)?,
                 b'P' => bytes = poked(bytes, line, n),
                 b'L' => lent = n,
                 _ => ledger = changed(ledger, letter, line, n),
@@ -254,10 +277,26 @@ fn run(steps: &[u8]) {
             n = number_after(n, b);
         }
     }
+    Ok(())
 }
 
-fn main() {
-    let mut steps = io::buffer();
-    let n = io::read_full(0, &mut steps);
-    run(&steps[..n]);
+// Reads until the memory is full or the reader is at its end, and gives the number of bytes that were read.
+fn read_full<R: Read>(reader: &mut R, input: &mut [u8]) -> io::Result<usize>
+    ensures { IfOk result (λ n. n ≤ length input.new) }
+{
+    let mut n = 0;
+    while n < input.len() {
+        let more = reader.read(&mut input[n..])?;
+        if more == 0 {
+            return Ok(n);
+        }
+        n += more;
+    }
+    Ok(n)
+}
+
+fn main(rt: HostRuntime) -> io::Result<()> {
+    let mut steps = [0u8; INPUT];
+    let n = read_full(&mut rt.stdin(), &mut steps)?;
+    run(&rt, &steps[..n])
 }
