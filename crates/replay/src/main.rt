@@ -2,50 +2,82 @@
 // It streams: the memory is fixed, whatever the length of the trace.
 #![tactic(auto)]
 
-mod pieces; // pieces.rt: a trace, piece by piece
+use std::env::FillError;
+use std::fs::File;
+use std::io::{Read, Write};
+use std::rt::{Env, Files};
+use std::{io, str};
+use turns::Fault;
+
+mod turns; // turns.rt: a trace, turn by turn
 mod writing; // writing.rt: what is written
 
-fn main() {
-    let names = os::arg_count();
-    if names < 2 {
-        replay(libc::STDIN_FILENO, b"standard input", false);
+// The most bytes of an argument: more than a path may have.
+const ARGUMENT: usize = 4096;
+
+// Memory for the bytes of a trace that wait.
+const INPUT: usize = 65536;
+
+fn main(rt: HostRuntime) {
+    if !has_argument(&rt, 1) {
+        replay(&rt, &mut rt.stdin(), "standard input", false);
         return;
     }
-    let mut i = 1;
-    while i < names {
-        replay_file(i, 2 < names);
-        i += 1;
+    let titled = has_argument(&rt, 2);
+    for i in 1..usize::MAX {
+        if !has_argument(&rt, i) {
+            return;
+        }
+        replay_argument(&rt, i, titled);
     }
 }
 
-// The file that an argument names; one that cannot be opened is told on the standard error.
-fn replay_file(i: usize, titled: bool) {
-    let mut name = io::buffer();
-    let n = os::arg(i, &mut name);
-    if os::errno() != 0 {
-        os::fail(b"argument");
-        return;
-    }
-    let fd = os::open_read(&name[..n]);
-    if fd < 0 {
-        os::fail(&name[..n]);
-        return;
-    }
-    replay(fd, &name[..n], titled);
-    libc::close(fd);
+// Whether the program was given an argument of this number.
+fn has_argument(rt: &impl Env, i: usize) -> bool {
+    !matches!(rt.arg(i, &mut []), Err(FillError::NotPresent))
 }
 
-// One trace from a fresh gateway. Nothing is written before its first bytes are read, so of one that cannot be read only the fault is told.
-fn replay(fd: i32, name: &[u8], titled: bool) {
-    let mut input = io::large_buffer();
-    let got = libc::read(fd, &mut input);
-    if got < 0 {
-        os::fail(name);
-        return;
+// The trace that an argument names; an argument that no file can have for its name is told on the standard error.
+fn replay_argument<R: Env + Files + Print + Eprint>(rt: &R, i: usize, titled: bool) {
+    let mut name = [0u8; ARGUMENT];
+    match rt.arg(i, &mut name) {
+        Ok(n) => match str::from_utf8(&name[..n]) {
+            Ok(name) => replay_file(rt, name, titled),
+            Err(error) => writing::tell(rt, "argument", error),
+        },
+        Err(FillError::TooLong) => writing::tell(rt, "argument", "File name too long"),
+        Err(FillError::NotPresent) => {}
     }
-    let n = io::count(got, &input);
+}
+
+// The file of this name; one that cannot be opened is told on the standard error.
+fn replay_file<R: Files + Print + Eprint>(rt: &R, name: &str, titled: bool) {
+    match File::open(rt, name) {
+        Ok(mut file) => replay(rt, &mut file, name, titled),
+        Err(error) => writing::tell(rt, name, error),
+    }
+}
+
+// One trace from a fresh gateway; what keeps its listing from its end is told on the standard error.
+fn replay<R: Print + Eprint, T: Read>(rt: &R, trace: &mut T, name: &str, titled: bool) {
+    match list(trace, &mut io::writer(rt), name, titled) {
+        Ok(()) => {}
+        Err(Fault::Trace(error)) => writing::tell(rt, name, error),
+        Err(Fault::Output(error)) => writing::tell(rt, "standard output", error),
+    }
+}
+
+// Nothing is written before the first bytes of a trace are read, so of one that cannot be read only the fault is told.
+fn list<T: Read, W: Write>(
+    trace: &mut T,
+    listing: &mut W,
+    name: &str,
+    titled: bool,
+) -> Result<(), Fault> {
+    let mut input = [0u8; INPUT];
+    let n = trace.read(&mut input).map_err(Fault::Trace)?;
     if titled {
-        writing::title(name);
+        writing::title(listing, name)?;
     }
-    pieces::run(fd, name, n, &mut input);
+    turns::run(trace, listing, n, &mut input)
 }

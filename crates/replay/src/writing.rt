@@ -1,17 +1,19 @@
-// What is written on the standard output: a trace's name, and the lines of its listing.
+// What is written: a trace's name and the lines of its listing, and on the standard error what went wrong.
+use crate::turns::Fault;
+use std::fmt::Display;
+use std::io::Write;
 
 // The name of a trace, where there are several.
-pub fn title(name: &[u8]) {
-    io::write_all(libc::STDOUT_FILENO, b"==> ");
-    io::write_all(libc::STDOUT_FILENO, name);
-    io::write_all(libc::STDOUT_FILENO, b"\n");
+pub fn title<W: Write>(listing: &mut W, name: &str) -> Result<(), Fault> {
+    writeln!(listing, "==> {name}").map_err(Fault::Output)
 }
 
-// Writes lines; where that fails, the fault is told and nothing more can be done.
-pub fn lines(text: &[u8]) -> bool {
-    let is_written = io::write_all(libc::STDOUT_FILENO, text);
-    if !is_written {
-        os::fail(b"standard output");
-    }
-    is_written
+// Writes lines.
+pub fn lines<W: Write>(listing: &mut W, text: &[u8]) -> Result<(), Fault> {
+    listing.write_all(text).map_err(Fault::Output)
+}
+
+// Writes a line to the standard error: what failed, and why. Where that fails too, nothing more can be done.
+pub fn tell(rt: &impl Eprint, what: &str, why: impl Display + Drop) {
+    let _ = eprintln!(rt; "{what}: {why}");
 }

@@ -1,0 +1,84 @@
+// A trace, turn by turn: a turn, a write, and where more is wanted a read. What is done between them is proved in `streaming`.
+ghost use Rattle.std.specs.Prelude.{◌≤◌, length, IfOk};
+ghost use Rattle.streaming.specs.Inner.Places.{LiesIn};
+
+use crate::writing;
+use std::io;
+use std::io::{Read, Write};
+use streaming::Kept;
+
+// Memory for what a turn puts into the output.
+const OUTPUT: usize = 65536;
+
+// What ends a listing before its end: a read of the trace that failed, or a write of the listing.
+#[derive(Drop)]
+pub enum Fault {
+    Trace(io::Error),
+    Output(io::Error),
+}
+
+// The memory of a run, and its first n bytes. A proved loop has to end, and nothing says that a trace does:
+// the loop counts up to a number that no trace reaches.
+pub fn run<T: Read, W: Write>(
+    trace: &mut T,
+    listing: &mut W,
+    n: usize,
+    input: &mut [u8],
+) -> Result<(), Fault>
+    requires { n ≤ length input.old }
+{
+    let mut out = [0u8; OUTPUT];
+    let mut journal = [0u8; memory::JOURNAL_SIZE];
+    let mut unfinished = [0u8; memory::UNFINISHED_SIZE];
+    let mut frames = [0u8; memory::FRAMES_SIZE];
+    let mut buffer = [0u8; memory::MESSAGE_LIMIT];
+    let mut numbers = [0u16; layout::NUMBERS];
+    let mut counts = [0u32; layout::COUNTS];
+    layout::fresh(&mut numbers, &mut counts);
+    let mut kept = streaming::begin(n);
+    for _ in 0..u64::MAX {
+        kept = streaming::turn(
+            kept,
+            input,
+            &mut out,
+            &mut numbers,
+            &mut counts,
+            &mut journal,
+            &mut unfinished,
+            &mut frames,
+            &mut buffer,
+        );
+        kept = pass(trace, listing, kept, &out, input)?;
+        if streaming::is_over(kept.stage) {
+            return Ok(());
+        }
+    }
+    Ok(())
+}
+
+// What a turn has put into the output is written; where it wants more, more is read. Where a write or a read fails, nothing is left to do.
+fn pass<T: Read, W: Write>(
+    trace: &mut T,
+    listing: &mut W,
+    kept: Kept,
+    out: &[u8],
+    input: &mut [u8],
+) -> Result<Kept, Fault>
+    requires { LiesIn kept (length input.old) × (kept.written ≤ length out.now) }
+    ensures { IfOk result (λ kept. LiesIn kept (length input.new)) }
+{
+    writing::lines(listing, &out[..kept.written])?;
+    if !streaming::wants_more(kept.stage) {
+        return Ok(kept);
+    }
+    more(trace, kept, input)
+}
+
+// Reads behind what waits.
+fn more<T: Read>(trace: &mut T, kept: Kept, input: &mut [u8]) -> Result<Kept, Fault>
+    requires { LiesIn kept (length input.old) }
+    ensures { IfOk result (λ kept. LiesIn kept (length input.new)) }
+{
+    let n = trace.read(&mut input[kept.end..]).map_err(Fault::Trace)?;
+    Ok(streaming::feed(kept, n, input))
+}
