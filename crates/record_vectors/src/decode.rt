@@ -10,10 +10,8 @@ pub fn from_hex(hex: &[u8], n: usize) -> [u8; MOST]
     ensures { 4096 ≡ length result }
 {
     let mut out = [0u8; MOST];
-    let mut i: usize = 0;
-    while i < n {
+    for i in 0..n {
         out[i] = digit(hex[i * 2]) * 16 + digit(hex[i * 2 + 1]);
-        i += 1;
     }
     out
 }

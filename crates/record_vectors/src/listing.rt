@@ -8,92 +8,84 @@ use faults::Checked;
 use kinds::Delimiters;
 use owner::Reading;
 use records::Ending;
+use std::io;
 
 // The most records of a message that are listed.
 const MOST: usize = 1024;
 
-pub fn byte(b: u8) {
-    io::write_all(1, &[b]);
+pub fn byte(rt: &impl Print, b: u8) -> io::Result<()> {
+    rt.write_all(&[b])
 }
 
-fn letter(b: u8) {
-    byte(b' ');
-    byte(b);
+fn letter(rt: &impl Print, b: u8) -> io::Result<()> {
+    rt.write_all(&[b' ', b])
 }
 
-fn number(n: usize) {
-    byte(b' ');
-    io::print_decimal(1, n as u64);
+fn number(rt: &impl Print, n: usize) -> io::Result<()> {
+    print!(rt; " {n}")
 }
 
-fn small(n: u16) {
-    number(n as usize);
+fn small(rt: &impl Print, n: u16) -> io::Result<()> {
+    number(rt, n as usize)
 }
 
-fn part(bytes: &[u8]) {
-    letter(b'[');
-    io::write_all(1, bytes);
-    byte(b']');
+fn part(rt: &impl Print, bytes: &[u8]) -> io::Result<()> {
+    letter(rt, b'[')?;
+    rt.write_all(bytes)?;
+    byte(rt, b']')
 }
 
-fn line_end(n: usize) {
-    number(n);
-    byte(b'\n');
+fn line_end(rt: &impl Print, n: usize) -> io::Result<()> {
+    number(rt, n)?;
+    byte(rt, b'\n')
 }
 
 // A text: what the check finds, whether it ends with an L record, and its records.
-pub fn message(text: &[u8]) {
-    number(text.len());
-    found(faults::check(text));
-    whole(message::is_message(text));
-    last(text);
-    reading(text, MOST, MOST);
+pub fn message(rt: &impl Print, text: &[u8]) -> io::Result<()> {
+    number(rt, text.len())?;
+    found(rt, faults::check(text))?;
+    whole(rt, message::is_message(text))?;
+    last(rt, text)?;
+    reading(rt, text, MOST, MOST)
 }
 
-fn whole(is_message: bool) {
+fn whole(rt: &impl Print, is_message: bool) -> io::Result<()> {
     if is_message {
-        io::write_all(1, b" message");
+        rt.write_all(b" message")?;
     }
+    Ok(())
 }
 
 // What the check of a text finds, by its number.
-fn found(c: Checked) {
+fn found(rt: &impl Print, c: Checked) -> io::Result<()> {
     match c {
-        Checked::Message => {
-            letter(b'n');
-            byte(b'o');
-            byte(b'n');
-            byte(b'e');
-        }
-        Checked::NotText => number(46),
-        Checked::Faulty(f, place) => faulty(f, place),
+        Checked::Message => rt.write_all(b" none"),
+        Checked::NotText => number(rt, 46),
+        Checked::Faulty(f, place) => faulty(rt, f, place),
     }
 }
 
-fn faulty(f: Fault, place: u16) {
-    number(f.number() as usize);
-    letter(b'a');
-    byte(b't');
-    small(place);
+fn faulty(rt: &impl Print, f: Fault, place: u16) -> io::Result<()> {
+    number(rt, f.number() as usize)?;
+    rt.write_all(b" at")?;
+    small(rt, place)
 }
 
 // Whether the text ends with an L record, and for a short one at how many places it can be cut in two so that the pieces, joined, do.
-fn last(text: &[u8]) {
+fn last(rt: &impl Print, text: &[u8]) -> io::Result<()> {
     if ends_with_l(text, text.len()) {
-        letter(b'L');
+        letter(rt, b'L')?;
     }
     if text.len() < 100 {
-        number(cuts(text));
+        number(rt, cuts(text))?;
     }
+    Ok(())
 }
 
 fn cuts(text: &[u8]) -> usize {
     let mut n: usize = 0;
-    let mut k: usize = 0;
-    while k < text.len() {
-        let ends = ends_with_l(text, k);
-        k += 1;
-        if ends {
+    for k in 0..text.len() {
+        if ends_with_l(text, k) {
             n += 1;
         }
     }
@@ -112,7 +104,7 @@ fn ends_with_l(text: &[u8], cut: usize) -> bool
 }
 
 // Reads a message into memory with so many places for the records, and for their owners.
-pub fn reading(text: &[u8], places: usize, owned: usize)
+pub fn reading(rt: &impl Print, text: &[u8], places: usize, owned: usize) -> io::Result<()>
     requires { (places ≤ 1024) × (owned ≤ 1024) }
 {
     let mut types = [b'.'; MOST];
@@ -127,57 +119,60 @@ pub fn reading(text: &[u8], places: usize, owned: usize)
         &mut owners[..owned],
     );
     if places < MOST {
-        memory(types, offsets, lengths, owners);
-        answer(r);
+        memory(rt, types, offsets, lengths, owners)?;
+        answer(rt, r)?;
+        Ok(())
     } else {
-        list(answer(r), text, types, offsets, lengths, owners);
+        let n = answer(rt, r)?;
+        list(rt, n, text, types, offsets, lengths, owners)
     }
 }
 
 // Ends the line with the answer, and gives the number of records that were read.
-fn answer(r: Reading) -> usize {
+fn answer(rt: &impl Print, r: Reading) -> io::Result<usize> {
     match r {
         Reading::Read(n) => {
-            line_end(n);
-            n
+            line_end(rt, n)?;
+            Ok(n)
         }
         Reading::Malformed => {
-            line_end(46);
-            0
+            line_end(rt, 46)?;
+            Ok(0)
         }
         Reading::NotFitting => {
-            line_end(47);
-            0
+            line_end(rt, 47)?;
+            Ok(0)
         }
         Reading::Faulty(f, place) => {
-            faulty(f, place);
-            byte(b'\n');
-            0
+            faulty(rt, f, place)?;
+            byte(rt, b'\n')?;
+            Ok(0)
         }
     }
 }
 
 // Each record of a message: its number, type, offset, length and owner.
 fn list(
+    rt: &impl Print,
     n: usize,
     text: &[u8],
     types: [u8; MOST],
     offsets: [u16; MOST],
     lengths: [u16; MOST],
     owners: [u16; MOST],
-) {
-    let mut i: usize = 0;
-    while i < n {
+) -> io::Result<()> {
+    for i in 0..n {
         record(
+            rt,
             text,
             i + 1,
             byte_at(types, i),
             number_at(offsets, i),
             number_at(lengths, i),
             number_at(owners, i),
-        );
-        i += 1;
+        )?;
     }
+    Ok(())
 }
 
 fn byte_at(s: [u8; MOST], i: usize) -> u8 {
@@ -188,91 +183,103 @@ fn number_at(s: [u16; MOST], i: usize) -> u16 {
     s[i % MOST]
 }
 
-fn record(text: &[u8], n: usize, kind: u8, offset: u16, length: u16, owner: u16) {
-    byte(b' ');
-    number(n);
-    letter(kind);
-    small(offset);
-    small(length);
-    small(owner);
-    byte(b'\n');
+fn record(
+    rt: &impl Print,
+    text: &[u8],
+    n: usize,
+    kind: u8,
+    offset: u16,
+    length: u16,
+    owner: u16,
+) -> io::Result<()> {
+    byte(rt, b' ')?;
+    number(rt, n)?;
+    letter(rt, kind)?;
+    small(rt, offset)?;
+    small(rt, length)?;
+    small(rt, owner)?;
+    byte(rt, b'\n')?;
     if kind == b'R' {
-        result(text, offset, length);
+        result(rt, text, offset, length)?;
     }
+    Ok(())
 }
 
 // The named fields of a result record.
-fn result(text: &[u8], offset: u16, length: u16) {
+fn result(rt: &impl Print, text: &[u8], offset: u16, length: u16) -> io::Result<()> {
     let at = offset as usize;
     let end = at + length as usize;
     if end <= text.len() {
-        fields(kinds::delimiters_of(text), &text[at..end]);
+        fields(rt, kinds::delimiters_of(text), &text[at..end])?;
     }
+    Ok(())
 }
 
-fn fields(d: Delimiters, rec: &[u8]) {
-    letter(b' ');
-    letter(b' ');
-    named(d, rec, ResultField::Test);
-    named(d, rec, ResultField::Value);
-    named(d, rec, ResultField::Units);
-    named(d, rec, ResultField::Flag);
-    named(d, rec, ResultField::Status);
-    named(d, rec, ResultField::Completion);
-    byte(b'\n');
+fn fields(rt: &impl Print, d: Delimiters, rec: &[u8]) -> io::Result<()> {
+    rt.write_all(b"    ")?;
+    named(rt, d, rec, ResultField::Test)?;
+    named(rt, d, rec, ResultField::Value)?;
+    named(rt, d, rec, ResultField::Units)?;
+    named(rt, d, rec, ResultField::Flag)?;
+    named(rt, d, rec, ResultField::Status)?;
+    named(rt, d, rec, ResultField::Completion)?;
+    byte(rt, b'\n')
 }
 
-fn named(d: Delimiters, rec: &[u8], field: ResultField) {
-    part(component::result_field(d, rec, field));
+fn named(rt: &impl Print, d: Delimiters, rec: &[u8], field: ResultField) -> io::Result<()> {
+    part(rt, component::result_field(d, rec, field))
 }
 
 // The memory of a text that is read into places for two records and three owners.
-fn memory(types: [u8; MOST], offsets: [u16; MOST], lengths: [u16; MOST], owners: [u16; MOST]) {
-    letter(b'[');
-    byte(byte_at(types, 0));
-    byte(byte_at(types, 1));
-    byte(b']');
-    small(number_at(offsets, 0));
-    small(number_at(offsets, 1));
-    small(number_at(lengths, 0));
-    small(number_at(lengths, 1));
-    small(number_at(owners, 0));
-    small(number_at(owners, 1));
-    small(number_at(owners, 2));
+fn memory(
+    rt: &impl Print,
+    types: [u8; MOST],
+    offsets: [u16; MOST],
+    lengths: [u16; MOST],
+    owners: [u16; MOST],
+) -> io::Result<()> {
+    part(rt, &[byte_at(types, 0), byte_at(types, 1)])?;
+    small(rt, number_at(offsets, 0))?;
+    small(rt, number_at(offsets, 1))?;
+    small(rt, number_at(lengths, 0))?;
+    small(rt, number_at(lengths, 1))?;
+    small(rt, number_at(owners, 0))?;
+    small(rt, number_at(owners, 1))?;
+    small(rt, number_at(owners, 2))
 }
 
 // A text escaped into memory of 16 bytes.
-pub fn escaped(d: Delimiters, text: &[u8]) {
+pub fn escaped(rt: &impl Print, d: Delimiters, text: &[u8]) -> io::Result<()> {
     let mut out = [b'.'; 16];
-    put(escaping::escape(d, text, &mut out));
-    part(&out);
-    byte(b'\n');
+    put(rt, escaping::escape(d, text, &mut out))?;
+    part(rt, &out)?;
+    byte(rt, b'\n')
 }
 
 // A component unescaped into memory of 8 bytes.
-pub fn unescaped(d: Delimiters, text: &[u8]) {
+pub fn unescaped(rt: &impl Print, d: Delimiters, text: &[u8]) -> io::Result<()> {
     let mut out = [b'.'; 8];
-    put(escaping::unescape(d, text, &mut out));
-    part(&out);
-    byte(b'\n');
+    put(rt, escaping::unescape(d, text, &mut out))?;
+    part(rt, &out)?;
+    byte(rt, b'\n')
 }
 
-fn put(r: Put) {
+fn put(rt: &impl Print, r: Put) -> io::Result<()> {
     match r {
-        Put::Done(n) => number(n),
-        Put::Malformed => number(46),
-        Put::NotFitting => number(47),
-        Put::BadDelimiters => number(55),
+        Put::Done(n) => number(rt, n),
+        Put::Malformed => number(rt, 46),
+        Put::NotFitting => number(rt, 47),
+        Put::BadDelimiters => number(rt, 55),
     }
 }
 
 // Where each component of a text ends.
-pub fn components(d: Delimiters, text: &[u8]) {
+pub fn components(rt: &impl Print, d: Delimiters, text: &[u8]) -> io::Result<()> {
     let mut at: usize = 0;
     while at < text.len() {
         let end = component::component_end(d, text, at);
-        number(end);
+        number(rt, end)?;
         at = end + 1;
     }
-    byte(b'\n');
+    byte(rt, b'\n')
 }

@@ -5,33 +5,53 @@
 //   e  a text that is escaped        u  a component that is unescaped        c  a text whose components are looked for
 #![tactic(auto)]
 
+ghost use Rattle.std.specs.Prelude.{◌≤◌, length, IfOk};
+
 use kinds::Delimiters;
+use std::io;
+use std::io::Read;
 
 mod decode; // decode.rt: bytes from hex
 mod listing; // listing.rt: the lines of a case
 
-fn main() {
-    let mut input = io::large_buffer();
-    let n = io::read_full(0, &mut input);
-    run(&input[..n]);
+// The most bytes of the standard input that are read.
+const INPUT: usize = 65536;
+
+fn main(rt: HostRuntime) -> io::Result<()> {
+    let mut input = [0u8; INPUT];
+    let n = read_full(&mut rt.stdin(), &mut input)?;
+    run(&rt, &input[..n])
+}
+
+// Reads until the memory is full or the reader is at its end, and gives the number of bytes that were read.
+fn read_full<R: Read>(reader: &mut R, input: &mut [u8]) -> io::Result<usize>
+    ensures { IfOk result (λ n. n ≤ length input.new) }
+{
+    let mut n = 0;
+    while n < input.len() {
+        let more = reader.read(&mut input[n..])?;
+        if more == 0 {
+            return Ok(n);
+        }
+        n += more;
+    }
+    Ok(n)
 }
 
 // Each line of the input is a case.
-fn run(input: &[u8]) {
-    let mut at: usize = 0;
-    while at < input.len() {
-        let rest = &input[at..];
-        let e = records::index_of(rest, b'\n');
-        case(&rest[..e]);
-        at = at + (e + 1);
+fn run(rt: &impl Print, input: &[u8]) -> io::Result<()> {
+    for line in input.split(|b| *b == b'\n') {
+        case(rt, line)?;
     }
+    Ok(())
 }
 
-fn case(line: &[u8]) {
-    io::write_all(1, word(line, 2));
+fn case(rt: &impl Print, line: &[u8]) -> io::Result<()> {
+    rt.write_all(word(line, 2))?;
     if 0 < line.len() {
-        show(line[0], word(line, 3));
+        show(rt, line[0], word(line, 3))?;
     }
+    Ok(())
 }
 
 // The parts of a line are the fields of a record whose delimiter is the space.
@@ -46,19 +66,20 @@ fn word<'a>(line: &'a [u8], n: usize) -> &'a [u8] {
 }
 
 // A case of more bytes than fit shows nothing.
-fn show(kind: u8, hex: &[u8]) {
+fn show(rt: &impl Print, kind: u8, hex: &[u8]) -> io::Result<()> {
     let n = hex.len() / 2;
     if n <= decode::MOST {
         let bytes = decode::from_hex(hex, n);
-        shown(kind, &bytes[..n]);
+        shown(rt, kind, &bytes[..n])?;
     }
+    Ok(())
 }
 
-fn shown(kind: u8, bytes: &[u8]) {
+fn shown(rt: &impl Print, kind: u8, bytes: &[u8]) -> io::Result<()> {
     match kind {
-        b'm' => listing::message(bytes),
-        b's' => listing::reading(bytes, 2, 3),
-        _ => delimited(kind, kinds::delimiters_of(bytes), behind(bytes)),
+        b'm' => listing::message(rt, bytes),
+        b's' => listing::reading(rt, bytes, 2, 3),
+        _ => delimited(rt, kind, kinds::delimiters_of(bytes), behind(bytes)),
     }
 }
 
@@ -70,11 +91,11 @@ fn behind<'a>(bytes: &'a [u8]) -> &'a [u8] {
     &bytes[5..]
 }
 
-fn delimited(kind: u8, d: Delimiters, text: &[u8]) {
+fn delimited(rt: &impl Print, kind: u8, d: Delimiters, text: &[u8]) -> io::Result<()> {
     match kind {
-        b'e' => listing::escaped(d, text),
-        b'u' => listing::unescaped(d, text),
-        b'c' => listing::components(d, text),
-        _ => listing::byte(b'\n'),
+        b'e' => listing::escaped(rt, d, text),
+        b'u' => listing::unescaped(rt, d, text),
+        b'c' => listing::components(rt, d, text),
+        _ => listing::byte(rt, b'\n'),
     }
 }
