@@ -2,6 +2,9 @@
 // It streams: the memory is fixed, whatever the length of the trace.
 #![tactic(auto)]
 
+ghost use Rattle.std.specs.Prelude.{OnOk};
+ghost use Rattle.replay.specs.Replays.{Lists};
+
 use std::env::FillError;
 use std::fs::File;
 use std::io::{Read, Write};
@@ -67,17 +70,23 @@ fn replay<R: Print + Eprint, T: Read>(rt: &R, trace: &mut T, name: &str, titled:
     }
 }
 
-// Nothing is written before the first bytes of a trace are read, so of one that cannot be read only the fault is told.
+// The listing of a trace, behind its name where there are several. Nothing is written before the first bytes are read, so of a trace
+// that cannot be read only the fault is told.
 fn list<T: Read, W: Write>(
     trace: &mut T,
     listing: &mut W,
     name: &str,
     titled: bool,
-) -> Result<(), Fault> {
+) -> Result<(), Fault>
+    ensures { OnOk result
+        (Lists titled name.now (T.remaining trace.old) (W.contents listing.old) (W.contents listing.new)) }
+{
     let mut input = [0u8; INPUT];
-    let n = trace.read(&mut input).map_err(Fault::Trace)?;
-    if titled {
-        writing::title(listing, name)?;
+    match trace.read(&mut input) {
+        Ok(n) => {
+            writing::title(listing, name, titled)?;
+            turns::run(trace, listing, n, &mut input)
+        }
+        Err(error) => Err(Fault::Trace(error)),
     }
-    turns::run(trace, listing, n, &mut input)
 }

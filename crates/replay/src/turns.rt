@@ -1,6 +1,7 @@
 // A trace, turn by turn: a turn, a write, and where more is wanted a read. What is done between them is proved in `streaming`.
-ghost use Rattle.std.specs.Prelude.{◌≤◌, length, IfOk};
+ghost use Rattle.std.specs.Prelude.{◌≤◌, length, IfOk, OnOk};
 ghost use Rattle.streaming.specs.Inner.Places.{LiesIn};
+ghost use Rattle.replay.specs.Inner.Passing.{Reads, Passes, WritesListing};
 
 use crate::writing;
 use std::io;
@@ -26,6 +27,8 @@ pub fn run<T: Read, W: Write>(
     input: &mut [u8],
 ) -> Result<(), Fault>
     requires { n ≤ length input.old }
+    ensures { OnOk result
+        (WritesListing n input.old (T.remaining trace.old) (W.contents listing.old) (W.contents listing.new)) }
 {
     let mut out = [0u8; OUTPUT];
     let mut journal = [0u8; memory::JOURNAL_SIZE];
@@ -65,7 +68,10 @@ fn pass<T: Read, W: Write>(
     input: &mut [u8],
 ) -> Result<Kept, Fault>
     requires { LiesIn kept (length input.old) × (kept.written ≤ length out.now) }
-    ensures { IfOk result (λ kept. LiesIn kept (length input.new)) }
+    ensures lies { IfOk result (λ after. LiesIn after (length input.new)) }
+    ensures passes { IfOk result (λ after.
+        Passes kept out.now input.old (W.contents listing.old) (T.remaining trace.old)
+        after input.new (W.contents listing.new) (T.remaining trace.new)) }
 {
     writing::lines(listing, &out[..kept.written])?;
     if !streaming::wants_more(kept.stage) {
@@ -77,8 +83,12 @@ fn pass<T: Read, W: Write>(
 // Reads behind what waits.
 fn more<T: Read>(trace: &mut T, kept: Kept, input: &mut [u8]) -> Result<Kept, Fault>
     requires { LiesIn kept (length input.old) }
-    ensures { IfOk result (λ kept. LiesIn kept (length input.new)) }
+    ensures lies { IfOk result (λ after. LiesIn after (length input.new)) }
+    ensures reads { IfOk result (λ after.
+        Reads kept input.old (T.remaining trace.old) after input.new (T.remaining trace.new)) }
 {
-    let n = trace.read(&mut input[kept.end..]).map_err(Fault::Trace)?;
-    Ok(streaming::feed(kept, n, input))
+    match trace.read(&mut input[kept.end..]) {
+        Ok(n) => Ok(streaming::feed(kept, n, input)),
+        Err(error) => Err(Fault::Trace(error)),
+    }
 }

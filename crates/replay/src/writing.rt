@@ -1,15 +1,27 @@
 // What is written: a trace's name and the lines of its listing, and on the standard error what went wrong.
+ghost use Rattle.std.specs.Prelude.{OnOk};
+ghost use Rattle.std.specs.Io.KnownBytes.{Appends};
+ghost use Rattle.replay.specs.Replays.{title_of};
+
 use crate::turns::Fault;
 use std::fmt::Display;
 use std::io::Write;
 
 // The name of a trace, where there are several.
-pub fn title<W: Write>(listing: &mut W, name: &str) -> Result<(), Fault> {
-    writeln!(listing, "==> {name}").map_err(Fault::Output)
+pub fn title<W: Write>(listing: &mut W, name: &str, titled: bool) -> Result<(), Fault>
+    ensures { OnOk result
+        (Appends (W.contents listing.old) (W.contents listing.new) (title_of titled name.now)) }
+{
+    if titled {
+        return writeln!(listing, "==> {name}").map_err(Fault::Output);
+    }
+    Ok(())
 }
 
 // Writes lines.
-pub fn lines<W: Write>(listing: &mut W, text: &[u8]) -> Result<(), Fault> {
+pub fn lines<W: Write>(listing: &mut W, text: &[u8]) -> Result<(), Fault>
+    ensures { OnOk result (Appends (W.contents listing.old) (W.contents listing.new) text.now) }
+{
     listing.write_all(text).map_err(Fault::Output)
 }
 
