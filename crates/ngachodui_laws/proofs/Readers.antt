@@ -59,7 +59,7 @@ use Rattle.promises.specs.Readers as told
 use Rattle.promises.specs.Queue as queue
 use Rattle.promises.proofs.Readers.{block_told, repeat_dropped}
 use Rattle.promises.proofs.KeptBlocks as blocks
-use Rattle.layout.specs.Layout.{frames as frames_spoken, speaks_at, number_at}
+use Rattle.layout.specs.Layout.{reply_at, frames as frames_spoken, speaks_at, number_at}
 use Rattle.ledger.specs.Ledgers.{ledger_of}
 use Rattle.numbers.specs.Plain.{dialogue_of, line_of}
 use Rattle.keeping.specs.Keeping.{memo_of}
@@ -194,6 +194,13 @@ ruling_out p l w d e m = by (ltb e.line lines) (right_sizes m.journal m.unfinish
     by true true false = λ c q. absurd (omega (arith, c))
     by true true true = work_out p l w d e.line e.kind m.journal (frames_of e.line m.frames)
 
+-- what goes out, whatever it is that sends it: a wrong one is refused here, before a host's whole step is compared
+sends_more : (t : HostState) (i : ℕ) (sent : List ℕ) → number_at t.numbers i reply_at ≡ reply_number More → sent ≡ control_bytes mor → ToReader t i sent
+sends_more t i sent a b = more a b
+
+sends_again : (t : HostState) (i : ℕ) (sent : List ℕ) → number_at t.numbers i reply_at ≡ reply_number Again → sent ≡ control_bytes rep → ToReader t i sent
+sends_again t i sent a b = again a b
+
 module _ (r : Run) (i : ℕ) (h : i < lines) (reader : number_at (end_of r).numbers i speaks_at ≢ frames_spoken) (k : Kind) (first : reply_to (end_of r) (came i k) ≡ stx) where
   abbrev now : HostState
   now = end_of r
@@ -247,8 +254,8 @@ module _ (r : Run) (i : ℕ) (h : i < lines) (reader : number_at (end_of r).numb
 
     by_reply : (x : Replied) → reply ≡ x → ToReader then i (host_step now (came i k)).0.buffer
     by_reply NoneYet e = absurd (replied e)
-    by_reply More e = more (sym (reader_numbers_law then.numbers i (then_in_order.readers i h)).reply ∙ ap reply_number e) (out_is ∙ ap reply_block e)
-    by_reply Again e = again (sym (reader_numbers_law then.numbers i (then_in_order.readers i h)).reply ∙ ap reply_number e) (out_is ∙ ap reply_block e)
+    by_reply More e = sends_more then i _ (sym (reader_numbers_law then.numbers i (then_in_order.readers i h)).reply ∙ ap reply_number e) (out_is ∙ ap reply_block e)
+    by_reply Again e = sends_again then i _ (sym (reader_numbers_law then.numbers i (then_in_order.readers i h)).reply ∙ ap reply_number e) (out_is ∙ ap reply_block e)
 
   pub to_reader : ToReader then i (host_step now (came i k)).0.buffer
   to_reader = by_dialogue_law (line_of now.numbers i).settings.dialogue refl
