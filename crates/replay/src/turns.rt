@@ -1,5 +1,7 @@
 // A trace, turn by turn: a turn, a write, and where more is wanted a read. What is done between them is proved in `streaming`.
-ghost use Rattle.std.specs.Prelude.{◌≤◌, length, IfOk, OnOk};
+ghost use Rattle.std.specs.Prelude.{◌≤◌, length, take, IfOk, IfErr, OnOk};
+ghost use Rattle.std.specs.Io.KnownBytes.{Appends};
+ghost use Rattle.replay.specs.Faults.{OfTrace, LeavesWritten};
 ghost use Rattle.streaming.specs.Inner.Places.{LiesIn};
 ghost use Rattle.replay.specs.Inner.Passing.{Reads, Passes, WritesListing};
 
@@ -72,6 +74,8 @@ fn pass<T: Read, W: Write>(
     ensures passes { IfOk result (λ after.
         Passes kept out.now input.old (W.contents listing.old) (T.remaining trace.old)
         after input.new (W.contents listing.new) (T.remaining trace.new)) }
+    ensures fault { IfErr result (λ f.
+        LeavesWritten (Appends (W.contents listing.old) (W.contents listing.new) (take kept.written out.now)) f) }
 {
     writing::lines(listing, &out[..kept.written])?;
     if !streaming::wants_more(kept.stage) {
@@ -86,6 +90,7 @@ fn more<T: Read>(trace: &mut T, kept: Kept, input: &mut [u8]) -> Result<Kept, Fa
     ensures lies { IfOk result (λ after. LiesIn after (length input.new)) }
     ensures reads { IfOk result (λ after.
         Reads kept input.old (T.remaining trace.old) after input.new (T.remaining trace.new)) }
+    ensures fault { IfErr result OfTrace }
 {
     match trace.read(&mut input[kept.end..]) {
         Ok(n) => Ok(streaming::feed(kept, n, input)),

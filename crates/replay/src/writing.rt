@@ -1,5 +1,6 @@
 // What is written: a trace's name and the lines of its listing, and on the standard error what went wrong.
-ghost use Rattle.std.specs.Prelude.{OnOk};
+ghost use Rattle.std.specs.Prelude.{OnOk, IfErr};
+ghost use Rattle.replay.specs.Faults.{OfOutput};
 ghost use Rattle.std.specs.Io.KnownBytes.{Appends};
 ghost use Rattle.replay.specs.Replays.{title_of};
 
@@ -9,8 +10,9 @@ use std::io::Write;
 
 // The name of a trace, where there are several.
 pub fn title<W: Write>(listing: &mut W, name: &str, titled: bool) -> Result<(), Fault>
-    ensures { OnOk result
+    ensures ok { OnOk result
         (Appends (W.contents listing.old) (W.contents listing.new) (title_of titled name.now)) }
+    ensures fault { IfErr result OfOutput }
 {
     if titled {
         return writeln!(listing, "==> {name}").map_err(Fault::Output);
@@ -20,7 +22,8 @@ pub fn title<W: Write>(listing: &mut W, name: &str, titled: bool) -> Result<(), 
 
 // Writes lines.
 pub fn lines<W: Write>(listing: &mut W, text: &[u8]) -> Result<(), Fault>
-    ensures { OnOk result (Appends (W.contents listing.old) (W.contents listing.new) text.now) }
+    ensures ok { OnOk result (Appends (W.contents listing.old) (W.contents listing.new) text.now) }
+    ensures fault { IfErr result OfOutput }
 {
     listing.write_all(text).map_err(Fault::Output)
 }

@@ -9,4 +9,4 @@ on_ok (Err e) f h = tt
 
 pub returns-in_ok-title-in-Ok : goal.returns-in_ok-title-in-Ok
 returns-in_ok-title-in-Ok g c =
-    on_ok c.run.result (whole c.in-Ok.n c.read.new.buf _ _ _ _ _ _ (search rules) c.in-Ok.ensures.bound.0 c.in-Ok.ensures.bytes.0 c.in_ok-title-in-Ok.ensures) c.run.ensures
+    on_ok c.run.result (whole c.in-Ok.n c.read.new.buf _ _ _ _ _ _ (search rules) c.in-Ok.ensures.bound.0 c.in-Ok.ensures.bytes.0 c.in_ok-title-in-Ok.ensures.ok) c.run.ensures
