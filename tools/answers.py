@@ -6,7 +6,7 @@ usage: python3 tools/answers.py CRATE [F..]
 CRATE is a folder below crates/, whose lower crates are proved: the names that Rattle gives to goals and steps are asked of
 'rt check --generated DIR --old-names'. An answer that only calls a tactic is left out, as the check finds it again.
 A lemma over a place of the code is written out in each answer that cites it, and all places of an answer are its `c`.
-What it cannot turn it says, and the check says the rest.
+What it cannot turn it says, and the check says the rest. Each Proof.antt that it turned lies in target/aside/ after it.
 """
 
 import json
@@ -563,14 +563,14 @@ def main():
         except Exception as e:  # what it cannot read stays
             print(f"{rel}: not turned: {type(e).__name__} {e}")
             continue
-        aside = os.path.join("/tmp/aside", crate, rel)
+        aside = os.path.join("target/aside", crate, rel)
         os.makedirs(aside, exist_ok=True)
         json.dump(dict(f.fallback, **f.easy), open(os.path.join(aside, "fallback.json"), "w"))
         for name, t in out.items():
             with open(os.path.join(base, name), "w") as it:
                 it.write(t)
-        os.makedirs(os.path.join("/tmp/aside", crate, rel), exist_ok=True)
-        os.replace(os.path.join(base, "Proof.antt"), os.path.join("/tmp/aside", crate, rel, "Proof.antt"))
+        os.makedirs(os.path.join("target/aside", crate, rel), exist_ok=True)
+        os.replace(os.path.join(base, "Proof.antt"), os.path.join("target/aside", crate, rel, "Proof.antt"))
         print(f"{rel}: {' '.join(out) or 'nothing'}" + (" | " + "; ".join(f.said) if f.said else ""))
 
 
