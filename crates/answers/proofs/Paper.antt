@@ -1,10 +1,10 @@
 -- The list of all answers: number, the byte that goes out and values tell the answer, and what a test finds of each in the list it finds of every answer; and what holds of every objection's number.
 -- Assumes nothing.
+use Rattle.std.specs.Prelude.{None, Option, Some, ℕ}
 use mathlib.Core.Path.{◌≡◌, refl, sym, ap, ap₂, subst, ◌∙◌}
 use mathlib.Core.Logic.{◌≢◌}
 use mathlib.Core.Bool.{Bool, true, false, not, cond, ◌&&◌, ◌||◌}
 use mathlib.Core.List.{List, [], ◌∷◌}
-use mathlib.Core.Option.{Option, none, some}
 use Prim.Native.Nat.{ℕ, ◌+◌, ◌*◌, ◌≤◌}
 use native.Mathlib.Omega.{arith}
 use borrow.Author.Tests.{leb-true, eqb-true, le-ltb, le-leb, lt-leb, ne_eqb}
@@ -20,8 +20,6 @@ use Rattle.answers.specs.InNumbers.{reply_byte}
 use Rattle.answers.specs.Inner.Objections.{is_objection}
 use Rattle.answers.specs.declared.Answer.{Answer}
 use Rattle.answers.specs.contracts.Answer.{the_type}
-use Rattle.answers.specs.declared.Reply.{Reply}
-use Rattle.answers.specs.declared.Reply.TheVariants.{Silence, Byte}
 use Rattle.answers.specs.declared.Parcel.TheVariants.{Empty, Enquiry, Ending, Frame}
 use Rattle.answers.specs.declared.Fault.{Fault}
 use Rattle.answers.specs.declared.Fault.TheVariants.{NoHeader, UnknownType, Misplaced, Misnumbered, NoFinalCr, BadDelimiters}
@@ -92,10 +90,10 @@ key_of a = number_of a + 256 * reply_byte (first_out a)
 
 -- the first of a list with this key
 first : ℕ → List Answer → Option Answer
-first n [] = none
-first n (a ∷ more) = cond (eqb (key_of a) n) (some a) (first n more)
+first n [] = None
+first n (a ∷ more) = cond (eqb (key_of a) n) (Some a) (first n more)
 
-listed : (a : Answer) → first (key_of a) (answers (values_of a)) ≡ some a
+listed : (a : Answer) → first (key_of a) (answers (values_of a)) ≡ Some a
 unfolding first reply_of
 listed Nothing = refl
 listed Opened = refl
@@ -157,12 +155,12 @@ abbrev pub passes : (Answer → Bool) → List Answer → Bool
 passes test [] = true
 passes test (a ∷ more) = test a && passes test more
 
-found : (test : Answer → Bool) (a : Answer) (n : ℕ) (list : List Answer) → passes test list ≡ true → first n list ≡ some a → test a ≡ true
+found : (test : Answer → Bool) (a : Answer) (n : ℕ) (list : List Answer) → passes test list ≡ true → first n list ≡ Some a → test a ≡ true
 unfolding first
 found test a n [] p q = clash cc
 found test a n (b ∷ more) p q = by_number (eqb (key_of b) n) q (found test a n more (and_right (test b) (passes test more) p))
   where
-    by_number : (t : Bool) → cond t (some b) (first n more) ≡ some a → (first n more ≡ some a → test a ≡ true) → test a ≡ true
+    by_number : (t : Bool) → cond t (Some b) (first n more) ≡ Some a → (first n more ≡ Some a → test a ≡ true) → test a ≡ true
     by_number true e later =
         let same : b ≡ a = cc e in
         ap test (sym same) ∙ and_left (test b) (passes test more) p
@@ -185,7 +183,7 @@ every_but sort test h a other = by_sort (sort a) (test a) (every_answer (λ b. s
 pub paper_injective : (a b : Answer) → number_of a ≡ number_of b → reply_byte (first_out a) ≡ reply_byte (first_out b) → values_of a ≡ values_of b → a ≡ b
 paper_injective a b n o v =
     let key : key_of a ≡ key_of b = ap₂ (λ (m : ℕ) (r : ℕ). m + 256 * r) n o in
-    let same : some a ≡ some b = sym (listed a) ∙ ap₂ (λ (m : ℕ) (vs : List ℕ). first m (answers vs)) key v ∙ listed b in
+    let same : Some a ≡ Some b = sym (listed a) ∙ ap₂ (λ (m : ℕ) (vs : List ℕ). first m (answers vs)) key v ∙ listed b in
     cc same
 
 -- a fault has the number of one, and its place
@@ -261,17 +259,17 @@ received = 0 ∷ 1 ∷ 2 ∷ 3 ∷ 4 ∷ 5 ∷ 6 ∷ 7 ∷ 8 ∷ 10 ∷ 11 ∷ 1
 abbrev otherwise : List ℕ
 otherwise = sends_tag ∷ unsendable_tag ∷ 34 ∷ 35 ∷ 37 ∷ 38 ∷ 39 ∷ 40 ∷ []
 
-abbrev same : Reply → Reply → Bool
-same Silence Silence = true
-same Silence (Byte b) = false
-same (Byte b) Silence = false
-same (Byte b) (Byte c) = eqb b c
+abbrev same : Option ℕ → Option ℕ → Bool
+same None None = true
+same None (Some b) = false
+same (Some b) None = false
+same (Some b) (Some c) = eqb b c
 
-same_is : (r q : Reply) → same r q ≡ true → r ≡ q
-same_is Silence Silence e = refl
-same_is Silence (Byte b) e = clash cc
-same_is (Byte b) Silence e = clash cc
-same_is (Byte b) (Byte c) e = ap Byte (eqb-true b c e)
+same_is : (r q : Option ℕ) → same r q ≡ true → r ≡ q
+same_is None None e = refl
+same_is None (Some b) e = clash cc
+same_is (Some b) None e = clash cc
+same_is (Some b) (Some c) e = ap Some (eqb-true b c e)
 
 abbrev replies : Answer → Bool
 replies a = is_one_of otherwise (tag_of the_type a) || same (first_out a) (reply_of (number_of a))
@@ -289,7 +287,7 @@ out_by_number a one = by_tag (is_one_of otherwise (tag_of the_type a)) refl (eve
 
 -- an objection gets NAK; it is not 4, which stores, nor 31, which is for want of room, nor 41 to 43, which tell of memory, a record or a journal
 pub record Objects (n : ℕ) : Type 0 where
-  pub refused : reply_of n ≡ Byte nak
+  pub refused : reply_of n ≡ Some nak
   pub not_4 : eqb n 4 ≡ false
   pub not_31 : eqb n 31 ≡ false
   pub no_damage : between 41 43 n ≡ false

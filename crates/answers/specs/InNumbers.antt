@@ -1,17 +1,15 @@
 -- An answer in plain numbers, as a host gets it: to a call on a line, and to one that writes into the host's memory.
 -- Assumes nothing.
-use Rattle.std.specs.Prelude.{ℕ}
+use Rattle.std.specs.Prelude.{ℕ, None, Option, Some}
 use Rattle.answers.specs.Paper.{number_of, place_of, first_out}
-use Rattle.answers.specs.declared.Reply.{Reply}
-use Rattle.answers.specs.declared.Reply.TheVariants.{Silence, Byte as Sent}
 use Rattle.answers.specs.declared.Answer.{Answer}
 use Rattle.answers.specs.declared.Answered.{Answered}
 use Rattle.answers.specs.declared.Made.{Made}
 
 -- a reply byte, or 0 for none
-abbrev pub reply_byte : Reply → ℕ
-reply_byte Silence = 0
-reply_byte (Sent b) = b
+abbrev pub reply_byte : Option ℕ → ℕ
+reply_byte None = 0
+reply_byte (Some b) = b
 
 -- the answer to an event or a start: a fault's place is all that one carries [H5]
 unfoldable pub in_numbers : Answer → Answered

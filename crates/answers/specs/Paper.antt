@@ -1,6 +1,6 @@
 -- The number of each answer, the values that it carries, and the byte that goes out with it.
 -- Assumes nothing.
-use Rattle.std.specs.Prelude.{ℕ, Bool, cond, ◌||◌, List, [], ◌∷◌, leb, ltb, get_or}
+use Rattle.std.specs.Prelude.{ℕ, Bool, cond, ◌||◌, List, [], ◌∷◌, leb, ltb, get_or, None, Option, Some}
 use Rattle.memory.specs.Tests.{between}
 use Rattle.characters.specs.Control.{stx, enq, eot}
 use Rattle.answers.specs.declared.Fault.{Fault}
@@ -9,8 +9,6 @@ use Rattle.answers.specs.declared.Answer.{Answer}
 use Rattle.answers.specs.declared.Answer.TheVariants.{Nothing, Opened, Accepted, Repeated, Stored, Ended, Dropped, TimedOut, Taken, Sends, Busy, Unended, Torn, WrongCheck, BadText, BadNumber, Refusing, OutOfTurn, TooLong, NoCr, NoMessage, NoRoom, NoLine, WrongSize, BeyondLimits, Broken, NothingWaiting, BufferShort, Malformed, NotFitting, Faulty, Unsendable, NotNeutral, GivenUp, Filed, Heard, Noted, Crowded, OddLength, OddTest, OddByte}
 use Rattle.answers.specs.declared.Parcel.{Parcel}
 use Rattle.answers.specs.declared.Parcel.TheVariants.{Empty, Enquiry, Ending, Frame}
-use Rattle.answers.specs.declared.Reply.{Reply}
-use Rattle.answers.specs.declared.Reply.TheVariants.{Silence, Byte}
 
 -- the number of a fault of the records [A50, A51, A52, A53, A54, A55]
 abbrev pub fault_number : Fault → ℕ
@@ -125,19 +123,19 @@ abbrev pub nak : ℕ
 nak = 0x15
 
 -- 1 to 4 are acknowledged, 20 to 31 and faults are not, and the others get no reply [O1]
-unfoldable pub reply_of : ℕ → Reply
-reply_of n = cond (ltb n 1) Silence (cond (leb n 4) (Byte ack) (cond (ltb n 20) Silence (cond (leb n 31 || is_faulty n) (Byte nak) Silence)))
+unfoldable pub reply_of : ℕ → Option ℕ
+reply_of n = cond (ltb n 1) None (cond (leb n 4) (Some ack) (cond (ltb n 20) None (cond (leb n 31 || is_faulty n) (Some nak) None)))
 
 -- the first byte of what a sending has to send: a frame begins with STX [S2]
-abbrev pub parcel_byte : Parcel → Reply
-parcel_byte Empty = Silence
-parcel_byte Enquiry = Byte enq
-parcel_byte Ending = Byte eot
-parcel_byte Frame = Byte stx
+abbrev pub parcel_byte : Parcel → Option ℕ
+parcel_byte Empty = None
+parcel_byte Enquiry = Some enq
+parcel_byte Ending = Some eot
+parcel_byte Frame = Some stx
 
 -- the first byte that goes out with an answer: a sending's is its parcel's; a text that is not sent is answered to who wanted to send it, and no byte goes out;
 -- what a strip reader gets is a block, which begins with STX, or nothing [O1, S2, B11]
-abbrev pub first_out : Answer → Reply
+abbrev pub first_out : Answer → Option ℕ
 first_out Nothing = reply_of 0
 first_out Opened = reply_of 1
 first_out Accepted = reply_of 2
@@ -169,13 +167,13 @@ first_out BufferShort = reply_of 45
 first_out Malformed = reply_of 46
 first_out NotFitting = reply_of 47
 first_out (Faulty f place) = reply_of (fault_number f)
-first_out (Unsendable f place) = Silence
+first_out (Unsendable f place) = None
 first_out NotNeutral = reply_of 60
 first_out GivenUp = reply_of 61
-first_out Filed = Byte stx
-first_out Heard = Byte stx
+first_out Filed = Some stx
+first_out Heard = Some stx
 first_out Noted = reply_of 11
-first_out Crowded = Silence
-first_out OddLength = Byte stx
-first_out OddTest = Byte stx
-first_out OddByte = Byte stx
+first_out Crowded = None
+first_out OddLength = Some stx
+first_out OddTest = Some stx
+first_out OddByte = Some stx

@@ -4,7 +4,7 @@
 ghost use Rattle.std.specs.Prelude.{◌≡◌};
 ghost use Rattle.answers.specs.Paper.{fault_number, number_of, place_of, reply_of, parcel_byte, first_out};
 ghost use Rattle.answers.specs.declared.Answer.TheVariants.{Nothing};
-ghost use Rattle.answers.specs.InNumbers.{reply_byte, in_numbers as InNumbers·in_numbers, done as InNumbers·done, refused_with};
+ghost use Rattle.answers.specs.InNumbers.{in_numbers as InNumbers·in_numbers, done as InNumbers·done, refused_with};
 
 use characters::{ENQ, EOT, STX};
 
@@ -12,15 +12,15 @@ pub const ACK: u8 = 0x06;
 
 pub const NAK: u8 = 0x15;
 
-// What can be wrong with the records of a text, in the order of their numbers.
+// What can be wrong with the records of a text, each with the number of its answer.
 #[derive(Clone, Copy)]
 pub enum Fault {
-    NoHeader,
-    UnknownType,
-    Misplaced,
-    Misnumbered,
-    NoFinalCr,
-    BadDelimiters,
+    NoHeader = 50,
+    UnknownType = 51,
+    Misplaced = 52,
+    Misnumbered = 53,
+    NoFinalCr = 54,
+    BadDelimiters = 55,
 }
 
 impl Fault {
@@ -28,14 +28,7 @@ impl Fault {
     pub fn number(self) -> u8
         ensures { result ≡ fault_number self }
     {
-        match self {
-            Fault::NoHeader => 50,
-            Fault::UnknownType => 51,
-            Fault::Misplaced => 52,
-            Fault::Misnumbered => 53,
-            Fault::NoFinalCr => 54,
-            Fault::BadDelimiters => 55,
-        }
+        self as u8
     }
 }
 
@@ -96,13 +89,6 @@ pub enum Answer {
     OddByte,
 }
 
-// The byte that goes to the analyzer, if any.
-#[derive(Clone, Copy)]
-pub enum Reply {
-    Silence,
-    Byte(u8),
-}
-
 impl Answer {
     // The answer's number.
     pub fn number(self) -> u8
@@ -139,13 +125,11 @@ impl Answer {
             Answer::BufferShort => 45,
             Answer::Malformed => 46,
             Answer::NotFitting => 47,
-            Answer::Faulty(fault, _) => fault.number(),
-            Answer::Unsendable(fault, _) => fault.number(),
+            Answer::Faulty(fault, _) | Answer::Unsendable(fault, _) => fault.number(),
             Answer::NotNeutral => 60,
             Answer::GivenUp => 61,
             Answer::Filed => 4,
-            Answer::Heard => 11,
-            Answer::Noted => 11,
+            Answer::Heard | Answer::Noted => 11,
             Answer::Crowded => 31,
             Answer::OddLength => 70,
             Answer::OddTest => 71,
@@ -158,66 +142,48 @@ impl Answer {
         ensures { result ≡ place_of self }
     {
         match self {
-            Answer::Faulty(_, place) => place,
-            Answer::Unsendable(_, place) => place,
+            Answer::Faulty(_, place) | Answer::Unsendable(_, place) => place,
             _ => 0,
         }
     }
 
-    // The first byte that goes out with it: of a sending's answer that of its parcel, and nothing with a text that is not sent; our
+    // The first byte that goes out with it, if any: of a sending's answer that of its parcel, and nothing with a text that is not sent; our
     // replies to a strip reader are blocks, which begin with STX.
-    pub fn reply(self) -> Reply
+    pub fn reply(self) -> Option<u8>
         ensures { result ≡ first_out self }
     {
         match self {
             Answer::Sends(parcel) => first_byte(parcel),
-            Answer::Unsendable(_, _) => Reply::Silence,
-            Answer::Filed => Reply::Byte(STX),
-            Answer::Heard => Reply::Byte(STX),
-            Answer::Crowded => Reply::Silence,
-            Answer::OddLength => Reply::Byte(STX),
-            Answer::OddTest => Reply::Byte(STX),
-            Answer::OddByte => Reply::Byte(STX),
+            Answer::Unsendable(_, _) | Answer::Crowded => None,
+            Answer::Filed | Answer::Heard => Some(STX),
+            Answer::OddLength | Answer::OddTest | Answer::OddByte => Some(STX),
             _ => reply_to(self.number()),
         }
     }
 }
 
 // The first byte of a parcel: a frame begins with STX.
-fn first_byte(parcel: Parcel) -> Reply
+fn first_byte(parcel: Parcel) -> Option<u8>
     ensures { result ≡ parcel_byte parcel }
 {
     match parcel {
-        Parcel::Empty => Reply::Silence,
-        Parcel::Enquiry => Reply::Byte(ENQ),
-        Parcel::Ending => Reply::Byte(EOT),
-        Parcel::Frame => Reply::Byte(STX),
+        Parcel::Empty => None,
+        Parcel::Enquiry => Some(ENQ),
+        Parcel::Ending => Some(EOT),
+        Parcel::Frame => Some(STX),
     }
 }
 
 // The byte that the table sends back with a number.
-pub fn reply_to(number: u8) -> Reply
+#[tactic(auto, unfolding(crate::specs::Paper::reply_of))]
+pub fn reply_to(number: u8) -> Option<u8>
     ensures { result ≡ reply_of number }
 {
-    if number < 1 {
-        return Reply::Silence;
+    match number {
+        1..=4 => Some(ACK),
+        20..=31 | 50..=55 => Some(NAK),
+        _ => None,
     }
-    if number <= 4 {
-        return Reply::Byte(ACK);
-    }
-    if number < 20 {
-        return Reply::Silence;
-    }
-    if number <= 31 {
-        return Reply::Byte(NAK);
-    }
-    if number < 50 {
-        return Reply::Silence;
-    }
-    if number <= 55 {
-        return Reply::Byte(NAK);
-    }
-    Reply::Silence
 }
 
 // An answer: its number, the first byte to send (0 for none), for 8 the serial and the text's length, for a fault its record's place.
@@ -235,12 +201,13 @@ pub struct Answered {
 }
 
 // The answer to an event or a start.
+#[tactic(auto, unfolding(crate::specs::InNumbers::in_numbers))]
 pub fn in_numbers(answer: Answer) -> Answered
     ensures { result ≡ InNumbers·in_numbers answer }
 {
     Answered {
         number: answer.number(),
-        reply: reply_byte(answer.reply()),
+        reply: answer.reply().unwrap_or(0),
         serial: 0,
         place: answer.place(),
         digits: 0,
@@ -249,6 +216,7 @@ pub fn in_numbers(answer: Answer) -> Answered
 }
 
 // The answer to an event that is ignored or only collected, or begins a frame: most events are, and need no look at the answers.
+#[tactic(auto, unfolding(crate::specs::InNumbers::in_numbers, crate::specs::Paper::reply_of))]
 pub fn nothing() -> Answered
     ensures { result ≡ InNumbers·in_numbers Nothing }
 {
@@ -259,16 +227,6 @@ pub fn nothing() -> Answered
         place: 0,
         digits: 0,
         length: 0,
-    }
-}
-
-// The byte, or 0 for none.
-fn reply_byte(reply: Reply) -> u8
-    ensures { result ≡ reply_byte reply }
-{
-    match reply {
-        Reply::Silence => 0,
-        Reply::Byte(b) => b,
     }
 }
 

@@ -1,5 +1,6 @@
 -- Laws of the control blocks that we send: each is right by our own tests; and what each way out of the writing of one says.
 -- Assumes nothing.
+use Rattle.std.specs.Prelude.{Option, Some, None}
 use mathlib.Core.Path.{◌≡◌, refl, sym, ap, ◌∙◌}
 use mathlib.Core.Bool.{Bool, true, false, cond}
 use mathlib.Core.List.{List, [], ◌∷◌}
@@ -51,20 +52,6 @@ pub control_examples :
 unfolding control_bytes test_from
 control_examples = (refl, refl, refl)
 
--- the bytes of the block were copied, or did not fit
-module _ (code : ℕ) (out : List ℕ) where
-  put_so : {b : List ℕ} {done : Bool} {out' : List ℕ} {r : ℕ} → b ≡ control_bytes code → Copied out 0 b done out' → r ≡ cond done control_length 0 → ControlPut code out r out'
-  put_so e c q = record {
-    answer = q ∙ ap (λ (d : Bool). cond d control_length 0) (c.answer ∙ ap (fits_at out 0) e);
-    after = c.after ∙ ap (copied out 0) e;
-  }
-
-  pub put_yes : {b : List ℕ} {done : Bool} {out' : List ℕ} → b ≡ control_bytes code → Copied out 0 b done out' → done ≡ true → ControlPut code out control_length out'
-  put_yes e c t = put_so e c (rw t)
-
-  pub put_no : {b : List ℕ} {done : Bool} {out' : List ℕ} → b ≡ control_bytes code → Copied out 0 b done out' → done ≡ false → ControlPut code out 0 out'
-  put_no e c t = put_so e c (rw t)
-
 -- `put_control`: any two outcomes that its contract allows are equal
-pub put_once : (code : ℕ) (out : List ℕ) {r q : ℕ} {x y : List ℕ} → ControlPut code out r x → ControlPut code out q y → (r ≡ q) × (x ≡ y)
+pub put_once : (code : ℕ) (out : List ℕ) {r q : Option ℕ} {x y : List ℕ} → ControlPut code out r x → ControlPut code out q y → (r ≡ q) × (x ≡ y)
 put_once code out a b = (a.answer ∙ sym b.answer, a.after ∙ sym b.after)

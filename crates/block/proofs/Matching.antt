@@ -1,15 +1,14 @@
--- Laws of layouts: a scan of a block beside its template, and how long a block is that is laid out so.
+-- Laws of layouts: a block beside its template, and how long a block is that is laid out so.
 -- Assumes nothing.
 use mathlib.Core.Path.{◌≡◌, refl, sym, ap, ◌∙◌}
-use mathlib.Core.Bool.{Bool, true, false, cond, ◌&&◌, ◌||◌}
+use mathlib.Core.Bool.{Bool, true, false, cond, ◌||◌}
 use mathlib.Core.List.{List, [], ◌∷◌}
-use Prim.Native.Nat.{ℕ, suc, ◌+◌, ◌≤◌, ◌<◌}
-use native.Mathlib.Numerals.{add-one}
+use Prim.Native.Nat.{ℕ, zero, suc, ◌<◌}
 use native.Mathlib.Omega.{arith}
 use lib.Dec.{eqb}
-use lib.ListN.{length, get_or, drop, drop_of_length-le}
-use lib.Seq.{drop-cons}
-use Rattle.memory.proofs.Tests.{clash, and_right, is_false}
+use lib.ListN.{length, get_or}
+use Rattle.std.specs.Prelude.{IsTrue, ◌↔◌}
+use Rattle.memory.proofs.Tests.{clash, and_left, and_right, is_false}
 use Rattle.characters.specs.Control.{stx, etx, cr}
 use Rattle.settings.specs.declared.Patient.{Patient}
 use Rattle.block.specs.Places.{Place, fixed, datum, test, fits, matches}
@@ -27,35 +26,30 @@ places_long : (ms : List ℕ) → length (places_of_template ms) ≡ length ms
 places_long [] = refl
 places_long (m ∷ ms) = ap suc (places_long ms)
 
-module _ (ms bs : List ℕ) where
-  pub other_length : (length ms ≡ length bs → ⊥) → matches (places_of_template ms) bs ≡ false
-  other_length n =
-      is_false (matches (places_of_template ms) bs) (λ e. n (sym (matches_long (places_of_template ms) bs e ∙ places_long ms)))
+pub other_length : (ms bs : List ℕ) → (length ms ≡ length bs → ⊥) → matches (places_of_template ms) bs ≡ false
+other_length ms bs n =
+    is_false (matches (places_of_template ms) bs) (λ e. n (sym (matches_long (places_of_template ms) bs e ∙ places_long ms)))
 
-  -- whether the bytes from i on may stand where they do
-  abbrev pub from : ℕ → Bool
-  from i = matches (places_of_template (drop i ms)) (drop i bs)
+-- a block that is as long as its template is laid out so exactly if each byte may stand where it does
+abbrev Each : List ℕ → List ℕ → Type 0
+Each ms bs = (k : ℕ) → k < length bs → fits (place_of (get_or ms k 0)) (get_or bs k 0) ≡ true
 
-  -- a scan that stands at i: it stops here, goes on, or has come to the end
-  module _ (i : ℕ) where
-    abbrev here : Bool
-    here = fits (place_of (get_or ms i 0)) (get_or bs i 0)
+each_matches : (ms bs : List ℕ) → length ms ≡ length bs → Each ms bs → matches (places_of_template ms) bs ≡ true
+each_matches [] [] e h = refl
+each_matches [] (b ∷ bs) e h = absurd (omega arith)
+each_matches (m ∷ ms) [] e h = absurd (omega arith)
+each_matches (m ∷ ms) (b ∷ bs) e h = rw (h 0 (omega arith)) (each_matches ms bs (omega arith) (λ k g. h (suc k) (omega arith)))
 
-    at : length ms ≡ length bs → i < length bs → from i ≡ here && from (i + 1)
-    at e h =
-        let k : i < length ms = omega arith in
-        rw (add-one, drop-cons ms i 0 k, drop-cons bs i 0 h)
+matches_each : (ms bs : List ℕ) → length ms ≡ length bs → matches (places_of_template ms) bs ≡ true → Each ms bs
+matches_each [] [] e h k g = absurd (omega arith)
+matches_each [] (b ∷ bs) e h k g = absurd (omega arith)
+matches_each (m ∷ ms) [] e h k g = absurd (omega arith)
+matches_each (m ∷ ms) (b ∷ bs) e h zero g = and_left (fits (place_of m) b) (matches (places_of_template ms) bs) h
+matches_each (m ∷ ms) (b ∷ bs) e h (suc k) g = matches_each ms bs (omega arith) (and_right (fits (place_of m) b) (matches (places_of_template ms) bs) h) k (omega arith)
 
-    pub from_stop : {b : Bool} → length ms ≡ length bs → i < length bs → here ≡ false → from i ≡ b → false ≡ b
-    from_stop e h t q = let z = rw t at (at e h) in cc
-
-    pub from_next : {b : Bool} → length ms ≡ length bs → i < length bs → here ≡ true → from i ≡ b → from (i + 1) ≡ b
-    from_next e h t q = let z = rw t at (at e h) in cc
-
-    pub from_done : {b : Bool} → length ms ≡ length bs → length bs ≤ i → from i ≡ b → true ≡ b
-    from_done e h q =
-        let k : length ms ≤ i = omega arith in
-        rw (drop_of_length-le ms k, drop_of_length-le bs h) at q
+pub laid_out : (ms bs : List ℕ) {r : Bool} → length ms ≡ length bs → IsTrue r ↔ Each ms bs → r ≡ matches (places_of_template ms) bs
+laid_out ms bs {r = true} e h = sym (each_matches ms bs e (h.0 refl))
+laid_out ms bs {r = false} e h = sym (is_false (matches (places_of_template ms) bs) (λ t. clash (let f : false ≡ true = h.1 (matches_each ms bs e t) in cc)))
 
 -- a layout for each length of a patient number, at the length that is told
 pub of_patient : (layout : Patient → List Place) (bs : List ℕ) {p q : Patient} {r : Bool} → r ≡ matches (layout q) bs → p ≡ q → r ≡ matches (layout p) bs

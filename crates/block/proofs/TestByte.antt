@@ -1,27 +1,22 @@
--- Laws of the test byte: a scan of the bytes that it counts, and a block tested by its two halves.
+-- Laws of the test byte: how the bytes that it counts are joined, and a block tested by its two halves.
 -- Assumes nothing.
-use mathlib.Core.Path.{◌≡◌}
+use mathlib.Core.Path.{◌≡◌, refl}
 use mathlib.Core.Bool.{false}
-use mathlib.Core.List.{List}
-use Prim.Native.Nat.{ℕ, ◌+◌, ◌-◌, ◌≤◌, ◌<◌}
-use native.Mathlib.Numerals.{add-one}
+use mathlib.Core.List.{List, [], ◌∷◌}
+use Prim.Native.Nat.{ℕ, ◌+◌, ◌-◌, ◌≤◌}
 use native.Mathlib.Omega.{arith}
 use borrow.Author.Tests.{eq-eqb, ne_eqb}
 use lib.Bits.{bit_xor}
 use lib.Dec.{eqb}
-use lib.ListN.{length, get_or, take, drop, drop_of_length-le}
-use lib.Seq.{drop-cons}
+use lib.ListN.{length, get_or, take}
+use Rattle.std.specs.Prelude.{fold}
 use Rattle.block.specs.Judged.{control_length, test_from, test_byte, high_test, low_test, is_tested}
 
--- a scan that stands at i with t: it takes a byte more, or has come to the end
-module _ (s : List ℕ) (i t : ℕ) where
-  pub test_next : {n : ℕ} → i < length s → test_from t (drop i s) ≡ n → test_from (bit_xor t (get_or s i 0)) (drop (i + 1) s) ≡ n
-  unfolding test_from
-  test_next h e = rw add-one (rw (drop-cons s i 0 h) at e)
-
-  pub test_done : {n : ℕ} → length s ≤ i → test_from t (drop i s) ≡ n → t ≡ n
-  unfolding test_from
-  test_done h e = rw (drop_of_length-le s h) at e
+-- the bytes are joined one by one
+pub test_folds : (s : List ℕ) (t : ℕ) → test_from t s ≡ fold (λ t b. bit_xor t b) t s
+unfolding test_from
+test_folds [] t = refl
+test_folds (b ∷ s) t = test_folds s (bit_xor t b)
 
 -- the two tests of a block, one behind the other: the high half is wrong, or is right and the low one decides
 module _ (bs : List ℕ) where

@@ -93,31 +93,21 @@ pub fn is_colours(patient: Patient, block: &[u8]) -> bool
 fn is_laid_out(template: &[u8], block: &[u8]) -> bool
     ensures { result ≡ matches (places_of_template template.now) block.now }
 {
-    if template.len() != block.len() {
-        return false;
-    }
-    let mut i = 0;
-    while i < block.len() {
-        if !may_stand(template[i], block[i]) {
-            return false;
-        }
-        i += 1;
-    }
-    true
+    template.len() == block.len()
+        && template
+            .iter()
+            .zip(block)
+            .all(|(&mark, &b)| may_stand(mark, b))
 }
 
 // Whether b may stand where a template has the mark: from ' ' to '}' for a byte of data; the test bytes are tested apart.
+#[tactic(auto, unfolding(crate::specs::Inner::Template::place_of))]
 fn may_stand(mark: u8, b: u8) -> bool
     ensures { result ≡ fits (place_of mark) b }
 {
-    if mark == TEST {
-        return true;
+    match mark {
+        TEST => true,
+        DATUM => matches!(b, b' '..=b'}'),
+        _ => b == mark,
     }
-    if mark == DATUM {
-        if b < b' ' {
-            return false;
-        }
-        return b <= b'}';
-    }
-    b == mark
 }

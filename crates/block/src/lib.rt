@@ -37,6 +37,7 @@ pub enum Judged {
 }
 
 // What a block is: the length is tested first, then the test bytes, then every byte by the layout that its length tells.
+#[tactic(auto, unfolding(crate::specs::Judged::judged_of))]
 pub fn judge(patient: Patient, block: &[u8]) -> Judged
     ensures { result ≡ judged_of patient block.now }
 {
@@ -53,19 +54,15 @@ pub fn judge(patient: Patient, block: &[u8]) -> Judged
 }
 
 // Whether a block may have n bytes.
+#[tactic(auto, unfolding(crate::specs::Judged::is_length))]
 fn is_length(patient: Patient, n: usize) -> bool
     ensures { result ≡ is_length patient n }
 {
-    if n == CONTROL_LENGTH {
-        return true;
-    }
-    if n == patient.colours_length() {
-        return true;
-    }
-    n == patient.results_length()
+    n == CONTROL_LENGTH || n == patient.colours_length() || n == patient.results_length()
 }
 
 // A block of six bytes, by its code.
+#[tactic(auto, unfolding(crate::specs::Judged::control_of))]
 fn judge_control(block: &[u8]) -> Judged
     ensures { result ≡ control_of block.now }
 {
@@ -82,6 +79,7 @@ fn judge_control(block: &[u8]) -> Judged
 }
 
 // A longer one, by its length.
+#[tactic(auto, unfolding(crate::specs::Judged::data_of))]
 fn judge_data(patient: Patient, block: &[u8]) -> Judged
     ensures { result ≡ data_of patient block.now }
 {
@@ -97,18 +95,16 @@ fn judge_data(patient: Patient, block: &[u8]) -> Judged
     Judged::OddByte
 }
 
-// Writes the control block with this code over the start of out: its length, or 0 where it does not fit.
-pub fn put_control(code: u8, out: &mut [u8]) -> usize
+// Writes the control block with this code over the start of out, if it fits, and gives its length.
+pub fn put_control(code: u8, out: &mut [u8]) -> Option<usize>
     ensures { ControlPut code out.old result out.new }
 {
     let block = control_block(code);
-    if memory::copy(out, &block) {
-        return CONTROL_LENGTH;
-    }
-    0
+    memory::copy(out, &block).then_some(CONTROL_LENGTH)
 }
 
 // The control block with this code.
+#[tactic(auto, unfolding(crate::specs::Controls::control_bytes))]
 fn control_block(code: u8) -> [u8; CONTROL_LENGTH]
     ensures { result ≡ control_bytes code }
 {

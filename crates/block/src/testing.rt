@@ -12,25 +12,14 @@ pub fn is_tested(block: &[u8]) -> bool
 {
     let counted = block.len() - 3;
     let test = test_byte(&block[0..counted]);
-    let high = high_half(test);
-    let low = low_half(test);
-    if block[counted] != high {
-        return false;
-    }
-    block[counted + 1] == low
+    block[counted] == high_half(test) && block[counted + 1] == low_half(test)
 }
 
 // The exclusive or of the bytes that it counts.
 pub fn test_byte(counted: &[u8]) -> u8
     ensures { result ≡ test_byte counted.now }
 {
-    let mut test: u8 = 0;
-    let mut i = 0;
-    while i < counted.len() {
-        test ^= counted[i];
-        i += 1;
-    }
-    test
+    counted.iter().fold(0, |test, b| test ^ b)
 }
 
 pub fn high_half(test: u8) -> u8

@@ -1,5 +1,8 @@
 -- After an event the bytes in use are still a number of 32 bits.
 -- Assumes nothing.
+use Rattle.std.specs.Result.{is_ok}
+use Rattle.std.specs.Prelude.{Result, Ok, Err}
+use Rattle.journal.specs.declared.Refusal.{Refusal}
 use mathlib.Core.Path.{◌≡◌, refl, ap}
 use mathlib.Core.Bool.{Bool, true, false, ◌&&◌}
 use mathlib.Core.List.{List}
@@ -9,10 +12,8 @@ use lib.ListN.{length}
 use Rattle.memory.specs.Sizes.{lines}
 use Rattle.memory.specs.Tests.{unless}
 use Rattle.room.specs.Room.{todays_shares}
-use Rattle.journal.specs.Answers.{is_fits}
 use Rattle.journal.specs.Verdicts.{judge_of}
 use Rattle.journal.specs.declared.Ledger.{Ledger}
-use Rattle.journal.specs.declared.Verdict.{Verdict as Judgement}
 use Rattle.uploads.proofs.Ways.{grown_narrow}
 use Rattle.ledger.specs.Ledgers.{Narrow}
 use Rattle.line.specs.Line.{within_limits}
@@ -32,13 +33,13 @@ use Rattle.answers.specs.declared.Answer.TheVariants.{NoLine, WrongSize, BeyondL
 
 module _ (d : Ledger) (i : ℕ) (j : List ℕ) (w : Narrow d) where
   module _ (text : ℕ → List ℕ) (n : ℕ) where
-    room_narrow : (q : Judgement) → judge_of d todays_shares i (length (text n)) j ≡ q → Narrow (ledger_after (fate_act (room_outcome q).fate n) d i text)
-    room_narrow Judgement.Fits e = grown_narrow d i j (length (text n)) (ap is_fits e)
-    room_narrow Judgement.NoRoom e = w
-    room_narrow Judgement.Broken e = w
-    room_narrow Judgement.NoLine e = w
-    room_narrow Judgement.WrongSize e = w
-    room_narrow Judgement.Malformed e = w
+    room_narrow : (q : Result (Unit {0}) Refusal) → judge_of d todays_shares i (length (text n)) j ≡ q → Narrow (ledger_after (fate_act (room_outcome q).fate n) d i text)
+    room_narrow (Ok tt) e = grown_narrow d i j (length (text n)) (ap is_ok e)
+    room_narrow (Err Refusal.NoRoom) e = w
+    room_narrow (Err Refusal.Broken) e = w
+    room_narrow (Err Refusal.NoLine) e = w
+    room_narrow (Err Refusal.WrongSize) e = w
+    room_narrow (Err Refusal.Malformed) e = w
 
     decision_narrow : Narrow (ledger_after (decision_of todays_shares d i n (text n) j).act d i text)
     decision_narrow = outcome_cases todays_shares d i (text n) j (λ o. Narrow (ledger_after (fate_act o.fate n) d i text)) w (room_narrow (judge_of d todays_shares i (length (text n)) j) refl)

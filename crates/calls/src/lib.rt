@@ -1,16 +1,15 @@
 // A host's events, over the state that it keeps in plain numbers (`layout` says where each stands).
 #![tactic(auto)]
 
-ghost use Rattle.std.specs.Prelude.{◌<◌, ◌≡◌, true, length};
+ghost use Rattle.std.specs.Prelude.{◌<◌, ◌≡◌, true};
 ghost use Rattle.looking.specs.declared.Kind.TheVariants.{Byte, Seconds};
-ghost use Rattle.looking.specs.Lent.{right_lengths};
 ghost use Rattle.memory.specs.Sizes.{lines};
 ghost use Rattle.answers.specs.InNumbers.{in_numbers as Plain·in_numbers};
 ghost use Rattle.numbers.specs.Plain.{line_of, with_line};
 ghost use Rattle.ledger.specs.Ledgers.{Narrow};
 ghost use Rattle.numbers.specs.Changes.{is_within};
 ghost use Rattle.calls.specs.Calls.{Calling};
-ghost use Rattle.calls.specs.Inner.Steps.{Stepping, Deciding, PutBack};
+ghost use Rattle.calls.specs.Inner.Steps.{PutBack};
 
 use answers::{Answer, Answered};
 use layout::{COUNTS, NUMBERS};
@@ -47,7 +46,14 @@ pub fn byte(
         line,
         kind: Kind::Byte(byte),
     };
-    event(e, numbers, counts, journal, unfinished, frames)
+    let mut lent = Lent {
+        numbers,
+        counts,
+        journal,
+        unfinished,
+        frames,
+    };
+    lent.event(e)
 }
 
 // Seconds have passed on a line.
@@ -76,64 +82,92 @@ pub fn seconds(
         line,
         kind: Kind::Seconds(seconds),
     };
-    event(e, numbers, counts, journal, unfinished, frames)
+    let mut lent = Lent {
+        numbers,
+        counts,
+        journal,
+        unfinished,
+        frames,
+    };
+    lent.event(e)
 }
 
-// An event past 40 and 41: numbers that are no record are 42; a strip reader's line goes its own way; STX between frames only begins one,
-// and needs no record; any other is stepped.
-fn event(
-    e: Event,
-    numbers: &mut [u16; NUMBERS],
-    counts: &mut [u32; COUNTS],
-    journal: &mut [u8],
-    unfinished: &mut [u8],
-    frames: &mut [u8],
-) -> Answered
-    requires { (e.line < lines) × (right_lengths (length journal.old) (length unfinished.old) (length frames.old) ≡ true) }
-    ensures { Calling
-        (record { numbers = numbers.entry.now; counts = counts.old; memory = record { journal = journal.entry.now; unfinished = unfinished.old; frames = frames.old } })
-        e result
-        (record { numbers = numbers.exit.now; counts = counts.new; memory = record { journal = journal.exit.now; unfinished = unfinished.new; frames = frames.new } }) }
-{
-    let i = e.line as usize;
-    if !numbers::is_within(numbers, i) {
-        return answers::in_numbers(Answer::BeyondLimits);
-    }
-    if numbers::is_reader(numbers, i) {
-        return uploads::event(e, numbers, counts, journal, unfinished, frames);
-    }
-    let kind = e.kind;
-    if numbers::begin(i, kind, numbers) {
-        return answers::nothing();
-    }
-    step(e, numbers, counts, journal, unfinished, frames)
+// What a host lends to an event. `byte` and `seconds` take it apart, as the C interface hands it over.
+#[derive(Drop)]
+struct Lent<'a> {
+    numbers: &'a mut [u16; NUMBERS],
+    counts: &'a mut [u32; COUNTS],
+    journal: &'a mut [u8],
+    unfinished: &'a mut [u8],
+    frames: &'a mut [u8],
 }
 
-// The step on the line alone, its record read from the numbers and put back into them; a message that is complete is decided.
-fn step(
-    e: Event,
-    numbers: &mut [u16; NUMBERS],
-    counts: &mut [u32; COUNTS],
-    journal: &mut [u8],
-    unfinished: &mut [u8],
-    frames: &mut [u8],
-) -> Answered
-    requires { (e.line < lines) × (is_within numbers.old e.line ≡ true) }
-    ensures { Stepping
-        (record { numbers = numbers.entry.now; counts = counts.old; memory = record { journal = journal.entry.now; unfinished = unfinished.old; frames = frames.old } })
-        (line_of numbers.entry.now e.line) e result
-        (record { numbers = numbers.exit.now; counts = counts.new; memory = record { journal = journal.exit.now; unfinished = unfinished.new; frames = frames.new } }) }
-{
-    let i = e.line as usize;
-    let record = numbers::record_of(numbers, i);
-    let alone = receiving::step_alone(record, e, journal.len(), unfinished, frames);
-    let look = alone.look;
-    match look {
-        Look::Done(v) => {
-            let answer = v.answer;
-            leave(e.line, alone.line, answer, numbers)
+impl Lent<'_> {
+    ghost use Rattle.calls.specs.Inner.Lents.{kept, right, SameReferences};
+    ghost use Rattle.calls.specs.Inner.Steps.{Stepping, Deciding};
+
+    // An event past 40 and 41: numbers that are no record are 42; a strip reader's line goes its own way; STX between frames only begins
+    // one, and needs no record; any other is stepped.
+    fn event(&mut self, e: Event) -> Answered
+        requires { (e.line < lines) × (right self.old ≡ true) }
+        ensures same_references { SameReferences self.old self.new }
+        ensures event { Calling (kept self.old) e result (kept self.new) }
+    {
+        let i = e.line as usize;
+        if !numbers::is_within(self.numbers, i) {
+            return answers::in_numbers(Answer::BeyondLimits);
         }
-        Look::Decides(n) => decide(record, e, n, numbers, counts, journal, unfinished, frames),
+        if numbers::is_reader(self.numbers, i) {
+            let numbers = &mut *self.numbers;
+            let counts = &mut *self.counts;
+            let journal = &mut *self.journal;
+            let unfinished = &mut *self.unfinished;
+            let frames = &mut *self.frames;
+            return uploads::event(e, numbers, counts, journal, unfinished, frames);
+        }
+        let kind = e.kind;
+        if numbers::begin(i, kind, self.numbers) {
+            return answers::nothing();
+        }
+        self.step(e)
+    }
+
+    // The step on the line alone, its record read from the numbers and put back into them; a message that is complete is decided.
+    fn step(&mut self, e: Event) -> Answered
+        requires { (e.line < lines) × (is_within self.old.numbers.now e.line ≡ true) }
+        ensures same_references { SameReferences self.old self.new }
+        ensures stepped { Stepping (kept self.old) (line_of self.old.numbers.now e.line) e result (kept self.new) }
+    {
+        let record = numbers::record_of(self.numbers, e.line as usize);
+        let journal = self.journal.len();
+        let unfinished = &mut *self.unfinished;
+        let frames = &mut *self.frames;
+        let alone = receiving::step_alone(record, e, journal, unfinished, frames);
+        let look = alone.look;
+        match look {
+            Look::Done(v) => {
+                let answer = v.answer;
+                leave(e.line, alone.line, answer, self.numbers)
+            }
+            Look::Decides(n) => self.decide(record, e, n),
+        }
+    }
+
+    // A message that is complete: the ledger read from the numbers, the decision, and its outcome put back into the numbers.
+    #[inline(never)] // a frame of its own: a strip reader's event needs none of this one's places
+    fn decide(&mut self, line: Line, e: Event, n: usize) -> Answered
+        requires { e.line < lines }
+        ensures same_references { SameReferences self.old self.new }
+        ensures decided { Deciding (kept self.old) line e n result (kept self.new) }
+    {
+        let numbers = &mut *self.numbers;
+        let counts = &mut *self.counts;
+        let journal = &mut *self.journal;
+        let unfinished = &mut *self.unfinished;
+        let frames = &mut *self.frames;
+        let ledger = ledger::ledger_of(numbers, counts);
+        let s = completing::decide(line, ledger, e, n, journal, unfinished, frames);
+        put_back(e.line, s, numbers, counts)
     }
 }
 
@@ -144,28 +178,6 @@ fn leave(i: u8, line: Line, answer: Answer, numbers: &mut [u16; NUMBERS]) -> Ans
 {
     numbers::put_record(numbers, i as usize, line);
     answers::in_numbers(answer)
-}
-
-// A message that is complete: the ledger read from the numbers, the decision, and its outcome put back into the numbers.
-fn decide(
-    line: Line,
-    e: Event,
-    n: usize,
-    numbers: &mut [u16; NUMBERS],
-    counts: &mut [u32; COUNTS],
-    journal: &mut [u8],
-    unfinished: &mut [u8],
-    frames: &mut [u8],
-) -> Answered
-    requires { e.line < lines }
-    ensures { Deciding
-        (record { numbers = numbers.entry.now; counts = counts.old; memory = record { journal = journal.entry.now; unfinished = unfinished.old; frames = frames.old } })
-        line e n result
-        (record { numbers = numbers.exit.now; counts = counts.new; memory = record { journal = journal.exit.now; unfinished = unfinished.new; frames = frames.new } }) }
-{
-    let ledger = ledger::ledger_of(numbers, counts);
-    let s = completing::decide(line, ledger, e, n, journal, unfinished, frames);
-    put_back(e.line, s, numbers, counts)
 }
 
 // The outcome of a decision put back: the line's record, its serial, its used count with the bytes in use; and the answer.

@@ -71,12 +71,10 @@ pub fn all_allowed(text: &[u8]) -> bool
         return true;
     }
     let table = classes();
-    let mut i = 0;
-    while i < text.len() {
-        if !is_marked(&table, text[i]) {
+    for b in text {
+        if !is_marked(&table, *b) {
             return false;
         }
-        i += 1;
     }
     true
 }

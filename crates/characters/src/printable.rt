@@ -1,5 +1,5 @@
 // Texts of printable bytes, as most are: told without the table, in a loop with no way out of it, which takes many bytes at a time.
-ghost use Rattle.std.specs.Prelude.{◌≡◌, max, nat_le};
+ghost use Rattle.std.specs.Prelude.{◌≡◌, nat_le};
 ghost use Rattle.memory.specs.Tests.{all};
 ghost use Rattle.characters.specs.Inner.Printable.{printable};
 
@@ -13,10 +13,8 @@ pub fn is_printable(text: &[u8]) -> bool
     ensures { result ≡ all printable text.now }
 {
     let mut most: u8 = 0;
-    let mut i = 0;
-    while i < text.len() {
-        most = larger(most, past_space(text[i]));
-        i += 1;
+    for b in text {
+        most = most.max(past_space(*b));
     }
     most <= FARTHEST
 }
@@ -28,14 +26,5 @@ fn past_space(b: u8) -> u8
     if b == CR {
         return 0;
     }
-    std::num::wrapping_add_u8(b, 0xe0)
-}
-
-fn larger(a: u8, b: u8) -> u8
-    ensures { result ≡ max a b }
-{
-    if a < b {
-        return b;
-    }
-    a
+    b.wrapping_add(0xe0)
 }

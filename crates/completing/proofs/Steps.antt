@@ -1,5 +1,6 @@
 -- What each way out of the deciding says, and that with it the step on the line alone is the whole step.
 -- Assumes nothing.
+use Rattle.std.specs.Prelude.{Err, Ok, Result}
 use mathlib.Core.Path.{◌≡◌, refl, sym, ap, subst, ◌∙◌}
 use mathlib.Core.Bool.{Bool, true, false, ◌&&◌}
 use mathlib.Core.List.{List}
@@ -27,8 +28,6 @@ use Rattle.looking.specs.Fitting.{text_fits}
 use Rattle.looking.specs.Inner.Fitting.{TextFits}
 use Rattle.receiving.specs.Verdicts.{fate_act}
 use Rattle.receiving.specs.Settled.{line_after, texts_after, frames_after, ledger_after, journal_after}
-use Rattle.receiving.specs.declared.Tested.{Tested}
-use Rattle.receiving.specs.declared.Tested.TheVariants.{Refused}
 use Rattle.receiving.specs.Steps.{AfterStep, settle, step_of, Leaves, memory_of, Stepping}
 use Rattle.receiving.specs.Alone.{SteppingAlone}
 use Rattle.receiving.specs.Closing.{test_of, closing_act, Closing}
@@ -80,9 +79,9 @@ module _ (l : Line) (d : Ledger) (e : Event) (j u f : List ℕ) where
 
 -- deciding: 40, 41, 42, then the decision
 module _ (l : Line) (d : Ledger) (e : Event) (n : ℕ) (j u f : List ℕ) where
-  abbrev by_test : Tested → Verdict
-  by_test Tested.Ready = completed todays_shares l d e n (memory_of j u f)
-  by_test (Refused a) = Left a
+  abbrev by_test : Result (Unit {0}) Answer → Verdict
+  by_test (Ok tt) = completed todays_shares l d e n (memory_of j u f)
+  by_test (Err a) = Left a
 
   decide_by : (v : Verdict) {r : Stepped} {j' u' f' : List ℕ} → completion_of todays_shares l d e n (memory_of j u f) ≡ v → Leaves (settle v l d e (memory_of j u f)) r (memory_of j' u' f') → Deciding l d e n (memory_of j u f) r (memory_of j' u' f')
   unfolding decide_of
@@ -94,16 +93,16 @@ module _ (l : Line) (d : Ledger) (e : Event) (n : ℕ) (j u f : List ℕ) where
   completion_tested = by_tests (ltb e.line lines) (right_sizes j u f) (within_limits l && text_fits l n)
     where
       by_tests : (a b c : Bool) → unless a (Left NoLine) (unless b (Left WrongSize) (unless c (Left BeyondLimits) (completed todays_shares l d e n (memory_of j u f))))
-          ≡ by_test (unless a (Refused NoLine) (unless b (Refused WrongSize) (unless c (Refused BeyondLimits) Tested.Ready)))
+          ≡ by_test (unless a (Err NoLine) (unless b (Err WrongSize) (unless c (Err BeyondLimits) (Ok tt))))
       by_tests true true true = refl
       by_tests true true false = refl
       by_tests true false c = refl
       by_tests false b c = refl
 
-  pub decide_refused : (a : Answer) → test_of l e.line n (length j) (length u) (length f) ≡ Refused a → Deciding l d e n (memory_of j u f) (record { line = l; ledger = d; answer = a }) (memory_of j u f)
+  pub decide_refused : (a : Answer) → test_of l e.line n (length j) (length u) (length f) ≡ Err a → Deciding l d e n (memory_of j u f) (record { line = l; ledger = d; answer = a }) (memory_of j u f)
   decide_refused a h = decide_by (Left a) (completion_tested ∙ ap by_test h) (record { result = refl; memory = refl })
 
-  pub decide_work : (r : Stepped) (j' u' f' : List ℕ) → test_of l e.line n (length j) (length u) (length f) ≡ Tested.Ready → Completing l d e n (memory_of j u f) r (memory_of j' u' f') → Deciding l d e n (memory_of j u f) r (memory_of j' u' f')
+  pub decide_work : (r : Stepped) (j' u' f' : List ℕ) → test_of l e.line n (length j) (length u) (length f) ≡ Ok tt → Completing l d e n (memory_of j u f) r (memory_of j' u' f') → Deciding l d e n (memory_of j u f) r (memory_of j' u' f')
   decide_work r j' u' f' h s = decide_by (completed todays_shares l d e n (memory_of j u f)) (completion_tested ∙ ap by_test h) s
 
   module _ (r : Stepped) where

@@ -11,7 +11,7 @@ use deciding::Decided;
 use journal::Ledger;
 use line::Line;
 use looking::Event;
-use receiving::{Stepped, Tested};
+use receiving::Stepped;
 
 // An event that completes a message, with n bytes of its frame's text: the message is decided. More bytes than the line has of it, or has room for, are beyond its limits.
 pub fn decide(
@@ -29,8 +29,8 @@ pub fn decide(
 {
     let i = e.line as usize;
     match receiving::test(line, i, n, journal.len(), unfinished.len(), frames.len()) {
-        Tested::Ready => by_decision(line, ledger, e, n, journal, unfinished, frames),
-        Tested::Refused(answer) => Stepped {
+        Ok(()) => by_decision(line, ledger, e, n, journal, unfinished, frames),
+        Err(answer) => Stepped {
             line,
             ledger,
             answer,
@@ -53,16 +53,13 @@ fn by_decision(
         (record { journal = journal.entry.now; unfinished = unfinished.old; frames = frames.old })
         result (record { journal = journal.exit.now; unfinished = unfinished.new; frames = frames.new }) }
 {
-    let decided = complete(line, ledger, e.line, n, journal, unfinished, frames);
-    let outcome = decided.outcome;
-    let booked = decided.ledger;
-    let fate = outcome.fate;
-    let answer = outcome.answer;
-    let after = receiving::close(line, e, n, fate, unfinished, frames);
+    let Decided { outcome, ledger } = complete(
+        line, ledger, e.line, n, journal, unfinished, frames,
+    );
     Stepped {
-        line: after,
-        ledger: booked,
-        answer,
+        line: receiving::close(line, e, n, outcome.fate, unfinished, frames),
+        ledger,
+        answer: outcome.answer,
     }
 }
 

@@ -8,15 +8,15 @@ ghost use Rattle.component.specs.ResultFields.{result_number};
 
 use kinds::Delimiters;
 
-// The fields of a result record (R): test, value, units, flag, status and completion time.
+// The fields of a result record (R): test, value, units, flag, status and completion time, each with its number.
 #[derive(Clone, Copy)]
 pub enum ResultField {
-    Test,
-    Value,
-    Units,
-    Flag,
-    Status,
-    Completion,
+    Test = 3,
+    Value = 4,
+    Units = 5,
+    Flag = 7,
+    Status = 9,
+    Completion = 13,
 }
 
 // The end of the component that starts at `start`: the first | \ ^ or CR from there on, or the end of the text.
@@ -24,22 +24,12 @@ pub fn component_end(d: Delimiters, text: &[u8], start: usize) -> usize
     ensures { result ≡ component_end d text.now start }
 {
     let stops = [d.field, d.repeat, d.component, characters::CR];
-    let mut i = start;
-    let end = 'scan: loop {
-        if text.len() <= i {
-            break 'scan i;
+    for i in start..text.len() {
+        if stops.contains(&text[i]) {
+            return i;
         }
-        let b = text[i];
-        let mut k: usize = 0;
-        while k < 4 {
-            if b == stops[k] {
-                break 'scan i;
-            }
-            k += 1;
-        }
-        i += 1;
-    };
-    end
+    }
+    start.max(text.len())
 }
 
 // A record's field, counted from 1: a part of the record, empty where the field is absent.
@@ -51,14 +41,12 @@ pub fn field_of<'a>(d: Delimiters, rec: &'a [u8], n: usize) -> &'a [u8]
     }
     let b = d.field;
     let mut at: usize = 0;
-    let mut left = n;
-    while 1 < left {
+    for _ in 1..n {
         if rec.len() <= at {
             return &rec[0..0];
         }
         let e = records::index_of(&rec[at..], b);
-        at = at + (e + 1);
-        left = left - 1;
+        at += e + 1;
     }
     if rec.len() <= at {
         return &rec[0..0];
@@ -72,19 +60,5 @@ pub fn field_of<'a>(d: Delimiters, rec: &'a [u8], n: usize) -> &'a [u8]
 pub fn result_field<'a>(d: Delimiters, rec: &'a [u8], f: ResultField) -> &'a [u8]
     ensures { result.now ≡ field_of d.field (result_number f) rec.now }
 {
-    let n = result_number(f);
-    field_of(d, rec, n)
-}
-
-fn result_number(f: ResultField) -> usize
-    ensures { result ≡ result_number f }
-{
-    match f {
-        ResultField::Test => 3,
-        ResultField::Value => 4,
-        ResultField::Units => 5,
-        ResultField::Flag => 7,
-        ResultField::Status => 9,
-        ResultField::Completion => 13,
-    }
+    field_of(d, rec, f as usize)
 }

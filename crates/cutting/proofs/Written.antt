@@ -1,5 +1,10 @@
 -- The frames of a text in lent memory, one behind the other, and what each way out of cutting says.
 -- Assumes nothing.
+use Rattle.std.specs.Prelude.{Err, Ok, Result, ℕ}
+use Rattle.framing.specs.declared.Refusal.{Refusal as Unwritten}
+use Rattle.std.specs.Result.{is_ok}
+use Rattle.faults.specs.declared.Refusal.TheVariants.{Malformed, NotFitting}
+use Rattle.faults.specs.declared.Refusal.{Refusal}
 use mathlib.Core.Path.{◌≡◌, refl, sym, ap, ◌∙◌}
 use mathlib.Core.Bool.{Bool, true, false}
 use mathlib.Core.List.{List, [], ◌∷◌, ◌++◌, append-nil}
@@ -14,24 +19,21 @@ use Rattle.memory.proofs.Parts.{splice_from, splice_join, length_splice}
 use Rattle.digits.specs.Number.{most_number, next_number}
 use Rattle.frame.specs.Shape.{around_text}
 use Rattle.frame.specs.Piece.{Piece}
-use Rattle.framing.specs.Writing.{frame_of, put_in, FramePut}
+use Rattle.framing.specs.Writing.{frame_of, put_of, put_in, FramePut}
 use Rattle.framing.specs.Frames.{frames_from}
 use Rattle.frame.specs.declared.End.{End}
-use Rattle.framing.specs.declared.Written.{Written}
 use Rattle.framing.proofs.Put.{length_frame}
 use Rattle.faults.specs.Message.{is_message}
+use Rattle.faults.specs.Refusals.{refused_as}
 use Rattle.faults.specs.Faults.{fault_of}
-use Rattle.faults.specs.declared.Checked.{Checked}
 use Rattle.records.proofs.Scans.{tail_at, rest_part}
 use Rattle.pieces.specs.Pieces.{first_piece, pieces_of}
 use Rattle.pieces.specs.Inner.Wholes.{bytes_of}
 use Rattle.pieces.proofs.Steps.{Turn}
-use Rattle.cutting.specs.Frames.{cut_of, is_cuttable, refused_as, uncut, cut_answer, cut_in, CutInto}
-use Rattle.cutting.specs.declared.Framed.{Framed}
-use Rattle.cutting.specs.declared.Framed.TheVariants.{Length, Malformed, NotFitting}
+use Rattle.cutting.specs.Frames.{cut_of, is_cuttable, uncut, cut_answer, cut_in, CutInto}
 
 -- the frame was put into the part from `at` on, which is back in its place
-pub frame_back : (number : ℕ) (end : End) (text d m b : List ℕ) (at : ℕ) (r : Written) → number ≤ most_number
+pub frame_back : (number : ℕ) (end : End) (text d m b : List ℕ) (at : ℕ) (r : Result ℕ Unwritten) → number ≤ most_number
     → at + (length text + around_text) ≤ length d → m ≡ take (length d - at) (drop at d) → FramePut number end text m r b
     → take at d ++ (b ++ drop (length d - at) (drop at d)) ≡ splice d at (frame_of number end text)
 unfolding put_in
@@ -41,6 +43,12 @@ frame_back number end text d m b at r few room e w =
     let over : length (drop at d) ≤ length d - at = rw length-drop (omega arith) in
     let laid : b ≡ splice m 0 (frame_of number end text) = w.after ∙ rw (le-leb number most_number few, le-leb (length text + around_text) (length m) fits) in
     rw (drop_of_length-le (drop at d) over, append-nil, laid, whole, ← splice_from d at 0 (frame_of number end text) (omega arith), add-zero)
+
+-- a frame that fits is written
+pub frame_fits : (number : ℕ) (end : End) (text m b : List ℕ) {r : Result ℕ Unwritten} → number ≤ most_number → length text + around_text ≤ length m
+    → FramePut number end text m r b → is_ok r ≡ true
+unfolding put_of
+frame_fits number end text m b few fits w = ap is_ok w.answer ∙ rw (le-leb number most_number few, le-leb (length text + around_text) (length m) fits)
 
 -- what is left to write at a place of the text
 abbrev pub left : ℕ → List ℕ → ℕ → ℕ → List ℕ
@@ -111,31 +119,27 @@ pub by_message : (limit : ℕ) (text : List ℕ) → around_text < limit → {b 
 unfolding is_cuttable
 by_message limit text h e = rw (lt-ltb around_text limit h) e
 
--- why a text is not cut is told by what its check finds
-pub refused_checked : (x : Checked) {found c : Checked} → found ≡ c → found ≡ x → refused_as x ≡ refused_as c
-refused_checked x f e = ap refused_as (sym e ∙ f)
-
 -- what each way out of cutting says
 module _ (limit : ℕ) (text out : List ℕ) where
-  no_frames : {r : Framed} → r ≡ uncut limit text → is_cuttable limit text ≡ false → CutInto limit text out r out
+  no_frames : {r : Result ℕ Refusal} → r ≡ uncut limit text → is_cuttable limit text ≡ false → CutInto limit text out r out
   unfolding cut_answer cut_in
   no_frames of e = record { answer = of ∙ rw e; after = rw e }
 
-  pub no_room_in_frames : limit ≤ around_text → CutInto limit text out Malformed out
+  pub no_room_in_frames : limit ≤ around_text → CutInto limit text out (Err Malformed) out
   unfolding is_cuttable
   no_room_in_frames h = let small = le-ltb around_text limit h in no_frames (rw small) (rw small)
 
-  pub no_message : {r : Framed} → around_text < limit → is_message text ≡ false → r ≡ refused_as (fault_of text) → CutInto limit text out r out
+  pub no_message : {r : Result ℕ Refusal} → around_text < limit → is_message text ≡ false → r ≡ Err (refused_as (fault_of text)) → CutInto limit text out r out
   no_message h e of = no_frames (of ∙ rw (lt-ltb around_text limit h)) (by_message limit text h e)
 
-  pub no_room : is_cuttable limit text ≡ true → length out < length (cut_of limit text) → CutInto limit text out NotFitting out
+  pub no_room : is_cuttable limit text ≡ true → length out < length (cut_of limit text) → CutInto limit text out (Err NotFitting) out
   unfolding cut_answer cut_in
   no_room e h =
       let full = lt-leb (length (cut_of limit text)) (length out) h in
       record { answer = rw (e, full); after = rw (e, full) }
 
   pub cut_written : {n : ℕ} {out' : List ℕ} → is_cuttable limit text ≡ true → length (cut_of limit text) ≤ length out → n ≡ length (cut_of limit text)
-      → out' ≡ splice out 0 (cut_of limit text) → CutInto limit text out (Length n) out'
+      → out' ≡ splice out 0 (cut_of limit text) → CutInto limit text out (Ok n) out'
   unfolding cut_answer cut_in
   cut_written e h k w =
       let holds = le-leb (length (cut_of limit text)) (length out) h in

@@ -11,14 +11,12 @@ pub fn piece_length(limit: usize, text: &[u8]) -> usize
     ensures { result ≡ through_cr (take (piece_size limit) text.now) }
 {
     let size = limit - frame::AROUND_TEXT;
-    let mut n: usize = 0;
-    while n < size {
+    for n in 0..size {
         if text[n] == characters::CR {
             return n + 1;
         }
-        n += 1;
     }
-    n
+    size
 }
 
 // The length of all frames of a text, with nothing written.
@@ -28,6 +26,7 @@ pub fn measure(limit: usize, text: &[u8]) -> usize
 {
     let mut at: usize = 0;
     let mut total: usize = 0;
+    // A turn takes one piece: its step is that piece's length.
     while at < text.len() {
         let n = piece_length(limit, &text[at..]);
         total = total + (n + frame::AROUND_TEXT);

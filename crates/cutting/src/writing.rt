@@ -14,7 +14,7 @@ fn write_piece(number: u8, text: &[u8], n: usize, out: &mut [u8], done: usize)
     ensures { out.new ≡ splice out.old done (frame_of number (end_after (get_or text.now (n - 1) 0)) (take n text.now)) }
 {
     let end = pieces::end_after(text[n - 1]);
-    framing::put_frame(number, end, &text[..n], &mut out[done..]);
+    framing::put_frame(number, end, &text[..n], &mut out[done..]).unwrap();
 }
 
 // All frames of a text, over the start of out.
@@ -25,6 +25,7 @@ pub fn write_all(limit: usize, text: &[u8], out: &mut [u8])
     let mut at: usize = 0;
     let mut done: usize = 0;
     let mut number: u8 = digits::FIRST_NUMBER;
+    // A turn takes one piece: its step is that piece's length.
     while at < text.len() {
         let tail = &text[at..];
         let n = crate::measuring::piece_length(limit, tail);

@@ -1,5 +1,8 @@
 -- What deciding a complete text comes to, by the journal's answer.
 -- Assumes nothing.
+use Rattle.std.specs.Prelude.{Err, Ok, Result}
+use Rattle.journal.specs.declared.Refusal.{Refusal}
+use Rattle.faults.specs.declared.Flaw.{Flaw}
 use mathlib.Core.Path.{◌≡◌, refl, sym, ap, subst, ◌∙◌}
 use mathlib.Core.Bool.{Bool, true, false}
 use mathlib.Core.List.{List}
@@ -11,15 +14,12 @@ use Rattle.memory.proofs.Tests.{is_false}
 use Rattle.room.specs.Room.{todays_shares}
 use Rattle.faults.specs.Message.{is_message}
 use Rattle.faults.specs.Faults.{fault_of}
-use Rattle.faults.specs.declared.Checked.{Checked}
-use Rattle.faults.specs.declared.Checked.TheVariants as checked
 use Rattle.faults.proofs.Messages.{message_short}
 use Rattle.faults.proofs.Places.{fault_too_long}
 use Rattle.journal.specs.Verdicts.{judge_of}
 use Rattle.journal.specs.Storage.{store_by, store_of, Stored}
 use Rattle.journal.specs.declared.Ledger.{Ledger}
 use Rattle.journal.specs.declared.Storing.{Storing}
-use Rattle.journal.specs.declared.Verdict.{Verdict as Judgement}
 use Rattle.answers.specs.Paper.{number_of}
 use Rattle.answers.proofs.Paper.{fault_number_law}
 use Rattle.answers.specs.Inner.Objections.{is_objection}
@@ -33,31 +33,31 @@ pub decided_as : {d : Ledger} {i : ℕ} {s t j : List ℕ} {r : Decided} {j' : L
 decided_as {d} {i} {s} {t} {j} {r} {j'} e h = subst (λ (x : List ℕ). Decision d i x j r j') e h
 
 -- the answer to a text that is no message has the number of an objection
-checked_number : (x : Checked) → is_objection (number_of (objection x)) ≡ true
-checked_number checked.Message = refl
-checked_number checked.NotText = refl
-checked_number (checked.Faulty f place) = rw (fault_number_law f)
+checked_number : (x : Result (Unit {0}) Flaw) → is_objection (number_of (objection x)) ≡ true
+checked_number (Ok tt) = refl
+checked_number (Err Flaw.NotText) = refl
+checked_number (Err (Flaw.Faulty f place)) = rw (fault_number_law f)
 
 pub objection_number : (text : List ℕ) → is_objection (number_of (objection_to text)) ≡ true
 unfolding objection_to
 objection_number text = checked_number (fault_of text)
 
 -- it is told by what the check of the text finds
-pub objection_checked : (text : List ℕ) (x : Checked) {found : Checked} → found ≡ fault_of text → found ≡ x → objection x ≡ objection_to text
+pub objection_checked : (text : List ℕ) (x : Result (Unit {0}) Flaw) {found : Result (Unit {0}) Flaw} → found ≡ fault_of text → found ≡ x → objection x ≡ objection_to text
 unfolding objection_to
 objection_checked text x f e = ap objection (sym e ∙ f)
 
 -- what the journal's storing leaves is what its answer comes to
-room_row : (q : Judgement) (d : Ledger) (i : ℕ) (text j : List ℕ)
+room_row : (q : Result (Unit {0}) Refusal) (d : Ledger) (i : ℕ) (text j : List ℕ)
     → ((store_by q d i text j).storing.answer ≡ q)
     × ((store_by q d i text j).storing.ledger ≡ ledger_by (room_outcome q).fate d i text)
     × ((store_by q d i text j).journal ≡ journal_by (room_outcome q).fate d i text j)
-room_row Judgement.Fits d i text j = (refl, refl, refl)
-room_row Judgement.NoRoom d i text j = (refl, refl, refl)
-room_row Judgement.Broken d i text j = (refl, refl, refl)
-room_row Judgement.NoLine d i text j = (refl, refl, refl)
-room_row Judgement.WrongSize d i text j = (refl, refl, refl)
-room_row Judgement.Malformed d i text j = (refl, refl, refl)
+room_row (Ok tt) d i text j = (refl, refl, refl)
+room_row (Err Refusal.NoRoom) d i text j = (refl, refl, refl)
+room_row (Err Refusal.Broken) d i text j = (refl, refl, refl)
+room_row (Err Refusal.NoLine) d i text j = (refl, refl, refl)
+room_row (Err Refusal.WrongSize) d i text j = (refl, refl, refl)
+room_row (Err Refusal.Malformed) d i text j = (refl, refl, refl)
 
 module _ (shares : List ℕ) (d : Ledger) (i : ℕ) (text j : List ℕ) where
   -- a text that is no message is decided against
@@ -88,7 +88,7 @@ module _ (d : Ledger) (i : ℕ) (text j : List ℕ) where
   -- a text that is longer than any message
   pub too_long : (o : Outcome) → o ≡ Against NoMessage → message_limit < length text → Decision d i text j (record { outcome = o; ledger = d }) j
   unfolding objection_to
-  too_long o of h = no_message o (of ∙ sym (ap (λ (x : Checked). Against (objection x)) (fault_too_long _ text h))) (is_false (is_message text) (λ m. absurd (omega (arith, message_short _ text m, h))))
+  too_long o of h = no_message o (of ∙ sym (ap (λ (x : Result (Unit {0}) Flaw). Against (objection x)) (fault_too_long _ text h))) (is_false (is_message text) (λ m. absurd (omega (arith, message_short _ text m, h))))
 
   pub by_store : (s : Storing) (o : Outcome) (j' : List ℕ) → is_message text ≡ true → Stored d todays_shares i text j s j' → o ≡ room_outcome s.answer → Decision d i text j (record { outcome = o; ledger = s.ledger }) j'
   unfolding store_of

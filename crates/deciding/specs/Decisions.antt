@@ -1,16 +1,15 @@
 -- A complete text is decided, by the records and then by the journal: 30 or a fault, 43, 31, 4. Only one that is stored changes the ledger and the journal.
 -- Assumes nothing.
-use Rattle.std.specs.Prelude.{ℕ, ◌≡◌, List, length}
+use Rattle.journal.specs.declared.Refusal.{Refusal}
+use Rattle.faults.specs.declared.Flaw.{Flaw}
+use Rattle.std.specs.Prelude.{ℕ, ◌≡◌, List, length, Err, Ok, Result}
 use Rattle.memory.specs.Tests.{unless}
 use Rattle.room.specs.Room.{todays_shares}
 use Rattle.faults.specs.Message.{is_message}
 use Rattle.faults.specs.Faults.{fault_of}
-use Rattle.faults.specs.declared.Checked.{Checked}
-use Rattle.faults.specs.declared.Checked.TheVariants as checked
 use Rattle.journal.specs.Verdicts.{judge_of}
 use Rattle.journal.specs.Storage.{grown, appended}
 use Rattle.journal.specs.declared.Ledger.{Ledger}
-use Rattle.journal.specs.declared.Verdict.{Verdict as Judgement}
 use Rattle.answers.specs.declared.Answer.{Answer}
 use Rattle.answers.specs.declared.Answer.TheVariants.{Stored as IsStored, NoMessage, NoRoom, NoLine, WrongSize, Broken, Faulty}
 use Rattle.deciding.specs.declared.Outcome.{Outcome}
@@ -32,19 +31,19 @@ abbrev pub Left : Answer → Outcome
 Left a = outcome_with Leave a
 
 -- what the journal says of a message: 43, 31, or it is stored. That it has no line, no right size or no text is never asked here. [A31, A43]
-abbrev pub room_outcome : Judgement → Outcome
-room_outcome Judgement.Fits = Stored
-room_outcome Judgement.NoRoom = Against NoRoom
-room_outcome Judgement.Broken = Left Broken
-room_outcome Judgement.NoLine = Left NoLine
-room_outcome Judgement.WrongSize = Left WrongSize
-room_outcome Judgement.Malformed = Against NoMessage
+abbrev pub room_outcome : Result (Unit {0}) Refusal → Outcome
+room_outcome (Ok tt) = Stored
+room_outcome (Err Refusal.NoRoom) = Against NoRoom
+room_outcome (Err Refusal.Broken) = Left Broken
+room_outcome (Err Refusal.NoLine) = Left NoLine
+room_outcome (Err Refusal.WrongSize) = Left WrongSize
+room_outcome (Err Refusal.Malformed) = Against NoMessage
 
 -- what is wrong with a text, as the line is answered: its first fault, and 30 for a byte that is not allowed, which no frame brings; a message is not asked [A30, R22]
-abbrev pub objection : Checked → Answer
-objection checked.Message = NoMessage
-objection checked.NotText = NoMessage
-objection (checked.Faulty f place) = Faulty f place
+abbrev pub objection : Result (Unit {0}) Flaw → Answer
+objection (Ok tt) = NoMessage
+objection (Err Flaw.NotText) = NoMessage
+objection (Err (Flaw.Faulty f place)) = Faulty f place
 
 -- why a complete text is no message [R11]
 unfoldable pub objection_to : List ℕ → Answer

@@ -7,8 +7,8 @@ ghost use Rattle.deciding.specs.Decisions.{outcome_with, objection_to, room_outc
 ghost use Rattle.deciding.specs.Inner.Joined.{Joined};
 
 use answers::Answer;
-use faults::Checked;
-use journal::Ledger;
+use faults::Flaw;
+use journal::{Ledger, Refusal};
 
 // What becomes of a text: it is stored or decided against, or everything is left as it was.
 #[derive(Clone, Copy)]
@@ -65,10 +65,7 @@ fn in_place(
 fn join(place: &mut [u8], old: &[u8], new: &[u8]) -> bool
     ensures { Joined place.old old.now new.now result place.new }
 {
-    if !memory::copy(place, old) {
-        return false;
-    }
-    memory::copy_at(place, old.len(), new)
+    memory::copy(place, old) && memory::copy_at(place, old.len(), new)
 }
 
 // The storing judges and stores in one: nothing is written before its answer is known.
@@ -82,36 +79,34 @@ fn of_text(ledger: Ledger, line: u8, text: &[u8], journal: &mut [u8]) -> Decided
         };
     }
     let stored = journal::store(ledger, room::shares(), line, text, journal);
-    let after = stored.ledger;
-    let answer = stored.answer;
     Decided {
-        outcome: by_room(answer),
-        ledger: after,
+        outcome: by_room(stored.answer),
+        ledger: stored.ledger,
     }
 }
 
 // Why a text is no message, asked only of one that is none, so that a message does not wait for it.
+#[tactic(auto, unfolding(crate::specs::Decisions::objection_to))]
 fn objection(text: &[u8]) -> Answer
     ensures { result ≡ objection_to text.now }
 {
     match faults::check(text) {
-        Checked::Message => Answer::NoMessage,
-        Checked::NotText => Answer::NoMessage,
-        Checked::Faulty(fault, place) => Answer::Faulty(fault, place),
+        Ok(()) | Err(Flaw::NotText) => Answer::NoMessage,
+        Err(Flaw::Faulty(fault, place)) => Answer::Faulty(fault, place),
     }
 }
 
 // What the journal's answer comes to.
-fn by_room(answer: journal::Verdict) -> Outcome
+fn by_room(answer: Result<(), Refusal>) -> Outcome
     ensures { result ≡ room_outcome answer }
 {
     match answer {
-        journal::Verdict::Fits => comes_to(Fate::Store, Answer::Stored),
-        journal::Verdict::NoRoom => comes_to(Fate::Object, Answer::NoRoom),
-        journal::Verdict::Broken => comes_to(Fate::Leave, Answer::Broken),
-        journal::Verdict::NoLine => comes_to(Fate::Leave, Answer::NoLine),
-        journal::Verdict::WrongSize => comes_to(Fate::Leave, Answer::WrongSize),
-        journal::Verdict::Malformed => comes_to(Fate::Object, Answer::NoMessage),
+        Ok(()) => comes_to(Fate::Store, Answer::Stored),
+        Err(Refusal::NoRoom) => comes_to(Fate::Object, Answer::NoRoom),
+        Err(Refusal::Broken) => comes_to(Fate::Leave, Answer::Broken),
+        Err(Refusal::NoLine) => comes_to(Fate::Leave, Answer::NoLine),
+        Err(Refusal::WrongSize) => comes_to(Fate::Leave, Answer::WrongSize),
+        Err(Refusal::Malformed) => comes_to(Fate::Object, Answer::NoMessage),
     }
 }
 

@@ -100,20 +100,6 @@ three_long n h k = one_longer n (omega arith) ∙ rw (two_long (n / 10) (omega a
 pub four_long : (n : ℕ) → 1000 ≤ n → n < 10000 → length (decimal_of n) ≡ 4
 four_long n h k = one_longer n (omega arith) ∙ rw (three_long (n / 10) (omega arith) (omega arith))
 
-pub most_digits_law : (k n : ℕ) → n < 10 ^ suc k → length (decimal_of n) ≤ suc k
-most_digits_law zero n h = rw (one_long n (omega arith)) (omega arith)
-most_digits_law (suc k) n h = elim (dec_le 10 n) [
-  | yes g ↦
-      let p : n < 10 ^ suc k * 10 = rw (pow-suc 10 (suc k)) at h in
-      let q = most_digits_law k (n / 10) (omega arith) in
-      rw (one_longer n g) (omega (arith, q))
-  | no g ↦ rw (one_long n (omega arith)) (omega arith)
-]
-
--- a 64-bit number has at most 20
-pub twenty : (n : ℕ) → n < 18446744073709551616 → length (decimal_of n) ≤ 20
-twenty n h = most_digits_law 19 n (omega arith)
-
 -- by the last digit: what holds of one digit, and of n where it holds of n / 10, holds of every number
 module _ (P : ℕ → Type 0) (one : (n : ℕ) → n < 10 → P n) (more : (n : ℕ) → 10 ≤ n → P (n / 10) → P n) where
   by_turns : (turns n : ℕ) → n ≤ turns → P n
@@ -128,6 +114,38 @@ some_digit =
     by_digits (λ (n : ℕ). 0 < length (decimal_of n))
     (λ n h. rw (one_long n h) (omega arith))
     (λ n h k. rw (one_longer n h) (omega arith))
+
+pub most_digits_law : (k n : ℕ) → n < 10 ^ suc k → length (decimal_of n) ≤ suc k
+most_digits_law zero n h = rw (one_long n (omega arith)) (omega arith)
+most_digits_law (suc k) n h = elim (dec_le 10 n) [
+  | yes g ↦
+      let p : n < 10 ^ suc k * 10 = rw (pow-suc 10 (suc k)) at h in
+      let q = most_digits_law k (n / 10) (omega arith) in
+      rw (one_longer n g) (omega (arith, q))
+  | no g ↦ rw (one_long n (omega arith)) (omega arith)
+]
+
+some_power : (k : ℕ) → 1 ≤ 10 ^ k
+some_power zero = omega arith
+some_power (suc k) = rw (pow-suc 10 k) (omega (arith, some_power k))
+
+least_digits_law : (k n : ℕ) → 10 ^ k ≤ n → suc k ≤ length (decimal_of n)
+least_digits_law zero n h = some_digit n
+least_digits_law (suc k) n h =
+    let p : 10 ^ k * 10 ≤ n = rw (pow-suc 10 k) at h in
+    let more : 10 ^ k ≤ n / 10 = omega arith in
+    let some : 1 ≤ 10 ^ k = some_power k in
+    rw (one_longer n (omega arith)) (omega (arith, least_digits_law k (n / 10) more))
+
+-- by the greatest power of ten that is no larger
+pub digits_by_power : (k n : ℕ) → 10 ^ k ≤ n → n < 10 * 10 ^ k → length (decimal_of n) ≡ k + 1
+digits_by_power k n h g =
+    let less : n < 10 ^ suc k = rw (pow-suc 10 k) (omega arith) in
+    omega (arith, least_digits_law k n h, most_digits_law k n less)
+
+-- a 64-bit number has at most 20
+pub twenty : (n : ℕ) → n < 18446744073709551616 → length (decimal_of n) ≤ 20
+twenty n h = most_digits_law 19 n (omega arith)
 
 -- no leading zero, but in 0 itself
 pub no_leading_zero : (n : ℕ) → 1 ≤ n → get_or (decimal_of n) 0 0 ≡ 0x30 → ⊥

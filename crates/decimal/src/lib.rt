@@ -1,4 +1,4 @@
-// A number in decimal: how many digits it has, and the digits in lent memory. Both take more than one digit a turn, for speed.
+// A number in decimal: how many digits it has, and the digits in lent memory, which are written more than one a turn, for speed.
 #![tactic(auto)]
 
 ghost use Rattle.std.specs.Prelude.{◌≡◌, ◌≤◌, leb, length};
@@ -14,22 +14,7 @@ const MOST_DIGITS: usize = 20;
 pub fn size(n: u64) -> usize
     ensures { (result ≡ length (decimal_of n)) × (result ≤ most_digits) }
 {
-    let mut rest = n;
-    let mut k: usize = 0;
-    while 10000 <= rest {
-        rest = rest / 10000;
-        k += 4;
-    }
-    if rest < 10 {
-        return k + 1;
-    }
-    if rest < 100 {
-        return k + 2;
-    }
-    if rest < 1000 {
-        return k + 3;
-    }
-    k + 4
+    n.checked_ilog10().map_or(1, |log| log as usize + 1)
 }
 
 // Writes the digits of n at `at`, and says where they end: at `at` itself, with nothing written, where there is no room for them.

@@ -50,6 +50,7 @@ fn put_long(n: u64, out: &mut [u8], at: usize) -> usize
     let end = at + super::size(n);
     let mut rest = n;
     let mut from = end;
+    // A turn divides what is left by 100: no range counts that.
     while 100 <= rest {
         from -= 2;
         put_two(rest % 100, out, from);

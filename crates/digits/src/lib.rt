@@ -21,14 +21,13 @@ pub struct Digits {
 }
 
 // The check: the sum, modulo 256, of the bytes that it counts.
+#[tactic(auto, unfolding(crate::specs::Check::total, crate::specs::Check::check_of), using(crate::proofs::Check::total_more))]
 pub fn check_sum(counted: &[u8]) -> u8
     ensures { result ≡ check_of counted.now }
 {
     let mut sum: u8 = 0;
-    let mut i = 0;
-    while i < counted.len() {
-        sum = std::num::wrapping_add_u8(sum, counted[i]);
-        i += 1;
+    for b in counted {
+        sum = sum.wrapping_add(*b);
     }
     sum
 }
@@ -46,6 +45,7 @@ pub fn check_digits(check: u8) -> Digits
 }
 
 // The number after n: 1, 2, .. 7, 0, 1.
+#[tactic(auto, unfolding(crate::specs::Number::next_number))]
 pub fn next_number(n: u8) -> u8
     ensures { result ≡ next_number n }
 {

@@ -1,5 +1,7 @@
 -- One byte's escape, as a loop over a text meets it.
 -- Assumes nothing.
+use Rattle.std.specs.Prelude.{Err, Ok}
+use Rattle.escaping.specs.declared.Refusal.TheVariants.{BadDelimiters, NotFitting}
 use mathlib.Core.Path.{◌≡◌, sym, ap, ◌∙◌}
 use mathlib.Core.Bool.{Bool, true, false}
 use mathlib.Core.List.{List, [], ◌∷◌, ◌++◌}
@@ -18,7 +20,6 @@ use Rattle.kinds.specs.Delimiters.{are_delimiters}
 use Rattle.kinds.specs.declared.Delimiters.{Delimiters}
 use Rattle.escaping.specs.Letters.{letter_for}
 use Rattle.escaping.specs.Escape.{escape_of, escaped, escape_answer, escaped_over, Escaping}
-use Rattle.escaping.specs.declared.Put.TheVariants.{Done, NotFitting, BadDelimiters}
 
 pub escape_one : (d : Delimiters) (x : ℕ) → letter_for d x ≡ 0 → escape_of d x ≡ x ∷ []
 unfolding escape_of
@@ -72,19 +73,19 @@ pub three_less : (d : Delimiters) (s : List ℕ) (i o t : ℕ) → i < length s 
 three_less d s i o t h z e = let l = ap length (escape_three d (get_or s i 0) z) in omega (arith, length_more d s i h, l, e)
 
 -- what each way out of escaping says
-pub escape_bad : (d : Delimiters) (text out : List ℕ) → are_delimiters d ≡ false → Escaping d text out BadDelimiters out
+pub escape_bad : (d : Delimiters) (text out : List ℕ) → are_delimiters d ≡ false → Escaping d text out (Err BadDelimiters) out
 unfolding escape_answer escaped_over
 escape_bad d text out bad = record { answer = rw bad; after = rw bad }
 
 module _ (d : Delimiters) (text out : List ℕ) (four : are_delimiters d ≡ true) where
-  pub escape_short : leb (length (escaped d text)) (length out) ≡ false → Escaping d text out NotFitting out
+  pub escape_short : leb (length (escaped d text)) (length out) ≡ false → Escaping d text out (Err NotFitting) out
   unfolding escape_answer escaped_over copied
   escape_short e =
       let over : leb (0 + length (escaped d text)) (length out) ≡ false = rw zero-add e in
       record { answer = rw (four, over); after = rw (four, over) }
 
   pub escape_done : {n : ℕ} {out' : List ℕ} → leb (length (escaped d text)) (length out) ≡ true → n ≡ length (escaped d text) → out' ≡ sets out 0 (escaped d text)
-      → Escaping d text out (Done n) out'
+      → Escaping d text out (Ok n) out'
   unfolding escape_answer escaped_over copied
   escape_done e k h =
       let yes : leb (0 + length (escaped d text)) (length out) ≡ true = rw zero-add e in

@@ -1,9 +1,9 @@
 -- The two round trips, over any four different delimiters: a text that is escaped and unescaped comes back, and so does a component that is taken, unescaped and escaped.
 -- Assumes nothing.
+use Rattle.std.specs.Prelude.{Some}
 use mathlib.Core.Path.{◌≡◌, refl, sym, ap, ◌∙◌}
 use mathlib.Core.Bool.{true, not}
 use mathlib.Core.List.{List, [], ◌∷◌, ◌++◌}
-use mathlib.Core.Option.{some}
 use Prim.Native.Nat.{ℕ, ◌*◌, ◌≤◌}
 use native.Mathlib.Omega.{arith}
 use native.Mathlib.Decide.{ℕ_discrete}
@@ -21,18 +21,18 @@ use Rattle.escaping.proofs.Escapes.{escape_one, escape_three}
 use Rattle.escaping.proofs.Unescapes.{Reads, nothing, byte, escape, reads}
 
 -- one byte, escaped and read again
-there : (d : Delimiters) (x : ℕ) (rest : List ℕ) → unescaped d (escape_of d x ++ rest) ≡ front (some x) (unescaped d rest)
+there : (d : Delimiters) (x : ℕ) (rest : List ℕ) → unescaped d (escape_of d x ++ rest) ≡ front (Some x) (unescaped d rest)
 unfolding letter_for escape_of meant
 there d x rest =
     let e = eq-eqb d.escape d.escape refl in
     elim (ℕ_discrete x d.field) [
-      | yes p ↦ simp (eq-eqb x d.field p, e) (ap (λ (y : ℕ). front (some y) (unescaped d rest)) (sym p))
+      | yes p ↦ simp (eq-eqb x d.field p, e) (ap (λ (y : ℕ). front (Some y) (unescaped d rest)) (sym p))
       | no p₁ ↦ let n₁ = ne_eqb x d.field p₁ in elim (ℕ_discrete x d.component) [
-        | yes p ↦ simp (n₁, eq-eqb x d.component p, e) (ap (λ (y : ℕ). front (some y) (unescaped d rest)) (sym p))
+        | yes p ↦ simp (n₁, eq-eqb x d.component p, e) (ap (λ (y : ℕ). front (Some y) (unescaped d rest)) (sym p))
         | no p₂ ↦ let n₂ = ne_eqb x d.component p₂ in elim (ℕ_discrete x d.repeat) [
-          | yes p ↦ simp (n₁, n₂, eq-eqb x d.repeat p, e) (ap (λ (y : ℕ). front (some y) (unescaped d rest)) (sym p))
+          | yes p ↦ simp (n₁, n₂, eq-eqb x d.repeat p, e) (ap (λ (y : ℕ). front (Some y) (unescaped d rest)) (sym p))
           | no p₃ ↦ let n₃ = ne_eqb x d.repeat p₃ in elim (ℕ_discrete x d.escape) [
-            | yes p ↦ simp (n₁, n₂, n₃, eq-eqb x d.escape p, e) (ap (λ (y : ℕ). front (some y) (unescaped d rest)) (sym p))
+            | yes p ↦ simp (n₁, n₂, n₃, eq-eqb x d.escape p, e) (ap (λ (y : ℕ). front (Some y) (unescaped d rest)) (sym p))
             | no p₄ ↦ simp (n₁, n₂, n₃, ne_eqb x d.escape p₄)
           ]
         ]
@@ -40,9 +40,9 @@ there d x rest =
     ]
 
 -- what was escaped is accepted, and stands for the text again; for this the delimiters need not be different
-pub escaped_plain : (d : Delimiters) (t : List ℕ) → unescaped d (escaped d t) ≡ some t
+pub escaped_plain : (d : Delimiters) (t : List ℕ) → unescaped d (escaped d t) ≡ Some t
 escaped_plain d [] = refl
-escaped_plain d (x ∷ t) = there d x (escaped d t) ∙ ap (front (some x)) (escaped_plain d t)
+escaped_plain d (x ∷ t) = there d x (escaped d t) ∙ ap (front (Some x)) (escaped_plain d t)
 
 -- the letter of each delimiter
 module _ (d : Delimiters) (good : different d ≡ true) where
@@ -79,7 +79,7 @@ module _ (d : Delimiters) (good : different d ≡ true) where
   letter_back : (l x y : ℕ) → l ≡ y → letter_for d x ≡ y → (y ≡ 0 → ⊥) → (letter_for d x ≡ l) × (letter_for d x ≡ 0 → ⊥)
   letter_back l x y p e z = (e ∙ sym p, λ k. z (sym e ∙ k))
 
-  meant_letter : (l x : ℕ) → meant d l ≡ some x → (letter_for d x ≡ l) × (letter_for d x ≡ 0 → ⊥)
+  meant_letter : (l x : ℕ) → meant d l ≡ Some x → (letter_for d x ≡ l) × (letter_for d x ≡ 0 → ⊥)
   unfolding meant
   meant_letter l x m =
       elim (ℕ_discrete l 0x46) [
@@ -104,7 +104,7 @@ module _ (d : Delimiters) (good : different d ≡ true) where
       rw (escape_three d x z) (λ i. (sym p) i ∷ k i ∷ (sym q) i ∷ back r i)
 
   -- an accepted component, unescaped and escaped again, is the component
-  pub plain_escaped : (c t : List ℕ) → unescaped d c ≡ some t → escaped d t ≡ c
+  pub plain_escaped : (c t : List ℕ) → unescaped d c ≡ Some t → escaped d t ≡ c
   plain_escaped c t e = back (reads d c t e)
 
 -- an escaped text is at most three times as long
@@ -121,8 +121,8 @@ escaped_most d (x ∷ t) = omega (arith, length-append (escape_of d x) (escaped 
 
 -- both for every allowed four
 module _ (d : Delimiters) (four : are_delimiters d ≡ true) where
-  pub allowed_back : (t : List ℕ) → unescaped d (escaped d t) ≡ some t
+  pub allowed_back : (t : List ℕ) → unescaped d (escaped d t) ≡ Some t
   allowed_back t = escaped_plain d t
 
-  pub allowed_forth : (c t : List ℕ) → unescaped d c ≡ some t → escaped d t ≡ c
+  pub allowed_forth : (c t : List ℕ) → unescaped d c ≡ Some t → escaped d t ≡ c
   allowed_forth c t e = plain_escaped d (allowed_different d four) c t e

@@ -1,7 +1,6 @@
 -- The four escapes: which letter stands for which delimiter. Both directions look into this table.
 -- Assumes nothing.
-use Rattle.std.specs.Prelude.{ℕ, List, [], ◌∷◌, cond}
-use Rattle.std.proofs.Math.Option.{Option, none, some}
+use Rattle.std.specs.Prelude.{ℕ, List, [], ◌∷◌, cond, None, Option, Some}
 use Rattle.memory.specs.Tests.{is}
 use Rattle.kinds.specs.declared.Delimiters.{Delimiters}
 
@@ -27,8 +26,8 @@ letter_for d b = letter_in (escapes d) b
 
 -- the delimiter of a letter; none for any other byte
 abbrev pub delimiter_in : List Lettered → ℕ → Option ℕ
-delimiter_in [] l = none
-delimiter_in (e ∷ es) l = cond (is e.letter l) (some e.delimiter) (delimiter_in es l)
+delimiter_in [] l = None
+delimiter_in (e ∷ es) l = cond (is e.letter l) (Some e.delimiter) (delimiter_in es l)
 
 unfoldable pub meant : Delimiters → ℕ → Option ℕ
 meant d l = delimiter_in (escapes d) l

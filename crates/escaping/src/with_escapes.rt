@@ -39,15 +39,12 @@ pub fn fits(letters: &[u8; 256], text: &[u8], room: usize) -> bool
     ensures { (d : Delimiters) → Lettering d letters.now → result ≡ leb (length (escaped d text.now)) room }
 {
     let mut left = room;
-    let mut i: usize = 0;
-    while i < text.len() {
-        let b = text[i];
+    for &b in text {
         let w = width_of(letters, b);
         if left < w {
             return false;
         }
-        left = left - w;
-        i += 1;
+        left -= w;
     }
     true
 }
@@ -58,19 +55,16 @@ pub fn write(d: Delimiters, letters: &[u8; 256], text: &[u8], out: &mut [u8]) ->
     ensures { (result ≡ length (escaped d text.now)) × (out.new ≡ sets out.old 0 (escaped d text.now)) }
 {
     let mut o: usize = 0;
-    let mut i: usize = 0;
-    while i < text.len() {
-        let b = text[i];
+    for &b in text {
         let l = letter_of(letters, b);
-        i += 1;
         if l == 0 {
             out[o] = b;
-            o = o + 1;
+            o += 1;
         } else {
             out[o] = d.escape;
             out[o + 1] = l;
             out[o + 2] = d.escape;
-            o = o + 3;
+            o += 3;
         }
     }
     o

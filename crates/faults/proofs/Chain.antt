@@ -1,5 +1,6 @@
 -- The types of a message's records, from the first on: H, and then each may follow the last record that is neither C nor M.
 -- Assumes nothing.
+use Rattle.std.specs.Prelude.{Some}
 use mathlib.Core.Path.{◌≡◌, refl, ap, ◌∙◌}
 use mathlib.Core.Bool.{true, false}
 use mathlib.Core.List.{List, [], ◌∷◌}
@@ -13,7 +14,6 @@ use Rattle.faults.specs.Message.{number_in, are_next, are_records, is_message_by
 use Rattle.faults.specs.Inner.Next.{comes, counts_behind}
 use Rattle.kinds.specs.declared.Delimiters.{Delimiters}
 use Rattle.sequence.specs.declared.Counts.{Counts}
-use Rattle.kinds.specs.declared.Letter.TheVariants.{Known}
 use Rattle.kinds.specs.declared.Kind.{Kind}
 use Rattle.kinds.specs.declared.Kind.TheVariants.{Header, Patient, Order, Result, Query, Terminator, Comment, Manufacturer}
 use Rattle.faults.proofs.Messages.{sound, typed, header, headed}
@@ -32,7 +32,7 @@ other_of t Manufacturer = t
 -- each of these records begins with the letter of a type that may follow, t being the last other type before them
 abbrev pub Chain : Kind → List (List ℕ) → Type 0
 Chain t [] = Unit
-Chain t (r ∷ rs) = (k : Kind) × (kind_of (get_or r 0 0) ≡ Known k) × (may_follow t k ≡ true) × Chain (other_of t k) rs
+Chain t (r ∷ rs) = (k : Kind) × (kind_of (get_or r 0 0) ≡ Some k) × (may_follow t k ≡ true) × Chain (other_of t k) rs
 
 counted_other : (s : Counts) (k : Kind) (n : ℕ) → (counted s k n).other ≡ other_of s.other k
 counted_other s Header n = refl

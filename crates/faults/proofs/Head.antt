@@ -1,5 +1,6 @@
 -- What the first bytes of a record tell of its fields 1 and 2.
 -- Assumes nothing.
+use Rattle.std.specs.Prelude.{Some}
 use mathlib.Core.Path.{◌≡◌, sym, ◌∙◌}
 use mathlib.Core.Bool.{Bool, true, false, cond}
 use mathlib.Core.List.{List, [], ◌∷◌}
@@ -14,7 +15,6 @@ use Rattle.kinds.specs.Kinds.{type_of}
 use Rattle.records.specs.Fields.{before, behind}
 use Rattle.sequence.specs.Numbers.{number_of}
 use Rattle.kinds.specs.declared.Kind.{Kind}
-use Rattle.kinds.specs.declared.Letter.TheVariants.{Known}
 use Rattle.sequence.proofs.Decimal.{number_long}
 use Rattle.records.proofs.Scans.{before_length}
 use Rattle.kinds.proofs.Naming.{letter}
@@ -30,7 +30,7 @@ find_window p (suc k) (x ∷ s) = by_first (p x) (find_window p k s)
     by_first false e = omega arith
 
 -- where field 1 names a type, field 2 is the first field behind two bytes
-pub known_second : (b : ℕ) (r : List ℕ) (k : Kind) → type_of (before b r) ≡ Known k → before b (behind b r) ≡ before b (drop 2 r)
+pub known_second : (b : ℕ) (r : List ℕ) (k : Kind) → type_of (before b r) ≡ Some k → before b (behind b r) ≡ before b (drop 2 r)
 known_second b r k h =
     let (one, named) = letter (before b r) k h in
     let at_one : find (is b) r ≡ 1 = sym (before_length b r) ∙ one in

@@ -1,5 +1,6 @@
 -- What is known of a message: its length, its bytes, its last byte, how many records it has, and that exactly its last record begins with L.
 -- Assumes nothing.
+use Rattle.std.specs.Prelude.{None, Option, Some}
 use mathlib.Core.Path.{◌≡◌, refl, ap, sym, ◌∙◌}
 use mathlib.Core.Bool.{true, false, ◌&&◌}
 use mathlib.Core.List.{List, [], ◌∷◌, ◌++◌}
@@ -26,8 +27,6 @@ use Rattle.kinds.specs.declared.Delimiters.{Delimiters}
 use Rattle.sequence.specs.declared.Counts.{Counts}
 use Rattle.kinds.specs.declared.Kind.{Kind}
 use Rattle.kinds.specs.declared.Kind.TheVariants.{Header, Patient, Order, Result, Query, Terminator, Comment, Manufacturer}
-use Rattle.kinds.specs.declared.Letter.{Letter}
-use Rattle.kinds.specs.declared.Letter.TheVariants.{Known, Unknown}
 use Rattle.kinds.proofs.Following.{h_first, not_behind_l}
 use Rattle.kinds.proofs.Naming.{letter, l_names}
 use Rattle.sequence.proofs.Decimal.{number_none}
@@ -61,7 +60,7 @@ sound d m h =
 -- a record that may come next: its type, by its first byte, what it followed, and its least length, a letter, a delimiter and a digit
 pub record Typed (d : Delimiters) (s : Counts) (r : List ℕ) : Type 0 where
   pub kind : Kind
-  pub first : kind_of (get_or r 0 0) ≡ Known kind
+  pub first : kind_of (get_or r 0 0) ≡ Some kind
   pub follows : may_follow s.other kind ≡ true
   pub counts : counts_behind d s r ≡ counted s kind (number_in d r)
   pub long : 3 ≤ length r
@@ -80,9 +79,9 @@ numbered b r n one e =
 pub typed : (d : Delimiters) (s : Counts) (r : List ℕ) → comes d s r ≡ true → Typed d s r
 typed d s r h = by_type (type_in d r) refl h
   where
-    by_type : (l : Letter) → type_in d r ≡ l → is_next s l (number_in d r) ≡ true → Typed d s r
-    by_type Unknown e g = never_both false g refl
-    by_type (Known k) e g =
+    by_type : (l : Option Kind) → type_in d r ≡ l → is_next s l (number_in d r) ≡ true → Typed d s r
+    by_type None e g = never_both false g refl
+    by_type (Some k) e g =
         let b = d.field in
         let (one, named) = letter (before b r) k e in
         let at_one : find (is b) r ≡ 1 = sym (before_length b r) ∙ one in

@@ -1,5 +1,9 @@
 -- A text is a message exactly if the search for its first fault finds none.
 -- Assumes nothing.
+use Rattle.std.specs.Prelude.{Err, None, Ok, Option, Result, Some}
+use Rattle.kinds.specs.declared.Kind.{Kind}
+use Rattle.faults.specs.declared.Flaw.TheVariants.{Faulty, NotText}
+use Rattle.faults.specs.declared.Flaw.{Flaw}
 use mathlib.Core.Path.{◌≡◌, refl, ap, ◌∙◌}
 use mathlib.Core.Bool.{Bool, true, false, not, cond, ◌&&◌}
 use mathlib.Core.List.{List, [], ◌∷◌}
@@ -21,44 +25,39 @@ use Rattle.faults.specs.Message.{type_in, number_in, is_next, next_counts, are_n
 use Rattle.faults.specs.Inner.Next.{comes, counts_behind}
 use Rattle.faults.specs.Faults.{kind_step, record_step, header_step, after, rest_fault, records_fault, fault, is_faultless}
 use Rattle.kinds.specs.declared.Delimiters.{Delimiters}
-use Rattle.kinds.specs.declared.Letter.{Letter}
-use Rattle.kinds.specs.declared.Letter.TheVariants.{Known, Unknown}
 use Rattle.sequence.specs.declared.Counts.{Counts}
 use Rattle.answers.specs.declared.Fault.{Fault}
 use Rattle.answers.specs.declared.Fault.TheVariants.{NoHeader, Misplaced, Misnumbered, NoFinalCr, BadDelimiters}
-use Rattle.faults.specs.declared.Step.TheVariants.{Fine, Wrong}
-use Rattle.faults.specs.declared.Checked.{Checked}
-use Rattle.faults.specs.declared.Checked.TheVariants.{Message, NotText, Faulty}
 use Rattle.faults.proofs.Messages.{l_behind}
 
 -- a record that others follow has no fault exactly if it may come next
-one_right : (s : Counts) (l : Letter) (n place : ℕ) (go : Counts → Checked)
+one_right : (s : Counts) (l : Option Kind) (n place : ℕ) (go : Counts → Result (Unit {0}) Flaw)
     → is_faultless (after (kind_step s false l n) place go) ≡ is_next s l n && is_faultless (go (next_counts s l n))
 unfolding kind_step
-one_right s Unknown n place go = refl
-one_right s (Known k) n place go = by_tests (may_follow s.other k) (eqb n (count_of s k + 1))
+one_right s None n place go = refl
+one_right s (Some k) n place go = by_tests (may_follow s.other k) (eqb n (count_of s k + 1))
   where
-    by_tests : (a e : Bool) → is_faultless (after (unless (a && true) (Wrong Misplaced) (unless e (Wrong Misnumbered) (Fine (counted s k n)))) place go)
+    by_tests : (a e : Bool) → is_faultless (after (unless (a && true) (Err Misplaced) (unless e (Err Misnumbered) (Ok (counted s k n)))) place go)
         ≡ a && e && is_faultless (go (counted s k n))
     by_tests true true = refl
     by_tests true false = refl
     by_tests false e = refl
 
 -- and the last one if it is L too, which the last other record tells behind it
-last_right : (s : Counts) (l : Letter) (n place : ℕ)
-    → is_faultless (after (kind_step s true l n) place (λ t. Message)) ≡ is_next s l n && is_terminator (next_counts s l n).other
+last_right : (s : Counts) (l : Option Kind) (n place : ℕ)
+    → is_faultless (after (kind_step s true l n) place (λ t. Ok tt)) ≡ is_next s l n && is_terminator (next_counts s l n).other
 unfolding kind_step
-last_right s Unknown n place = refl
-last_right s (Known k) n place = by_tests (may_follow s.other k) (eqb n (count_of s k + 1)) refl
+last_right s None n place = refl
+last_right s (Some k) n place = by_tests (may_follow s.other k) (eqb n (count_of s k + 1)) refl
   where
-    by_kind : (b e : Bool) → is_faultless (after (unless b (Wrong Misplaced) (unless e (Wrong Misnumbered) (Fine (counted s k n)))) place (λ t. Message)) ≡ e && b
+    by_kind : (b e : Bool) → is_faultless (after (unless b (Err Misplaced) (unless e (Err Misnumbered) (Ok (counted s k n)))) place (λ t. Ok tt)) ≡ e && b
     by_kind true true = refl
     by_kind true false = refl
     by_kind false true = refl
     by_kind false false = refl
 
     by_tests : (a e : Bool) → may_follow s.other k ≡ a
-        → is_faultless (after (unless (a && is_terminator k) (Wrong Misplaced) (unless e (Wrong Misnumbered) (Fine (counted s k n)))) place (λ t. Message))
+        → is_faultless (after (unless (a && is_terminator k) (Err Misplaced) (unless e (Err Misnumbered) (Ok (counted s k n)))) place (λ t. Ok tt))
         ≡ a && e && is_terminator (counted s k n).other
     by_tests true e h = rw (l_behind s k n h) (by_kind (is_terminator k) e)
     by_tests false e h = refl
@@ -75,14 +74,14 @@ unfolding records_fault header_step
 records_right d [] = refl
 records_right d (r ∷ []) = by_tests (is_header d r) (are_delimiters d)
   where
-    by_tests : (b c : Bool) → is_faultless (after (unless b (Wrong NoHeader) (unless c (Wrong BadDelimiters) (Wrong Misplaced))) 1 (λ t. Message)) ≡ b && c && false
+    by_tests : (b c : Bool) → is_faultless (after (unless b (Err NoHeader) (unless c (Err BadDelimiters) (Err Misplaced))) 1 (λ t. Ok tt)) ≡ b && c && false
     by_tests true true = refl
     by_tests true false = refl
     by_tests false c = refl
 records_right d (r ∷ q ∷ rs) = by_tests (is_header d r) (are_delimiters d) (rest_right d started 2 q rs)
   where
     by_tests : (b c : Bool) → is_faultless (rest_fault d started 2 (q ∷ rs)) ≡ are_next d started (q ∷ rs)
-        → is_faultless (after (unless b (Wrong NoHeader) (unless c (Wrong BadDelimiters) (Fine started))) 1 (λ t. rest_fault d t 2 (q ∷ rs))) ≡ b && c && are_next d started (q ∷ rs)
+        → is_faultless (after (unless b (Err NoHeader) (unless c (Err BadDelimiters) (Ok started))) 1 (λ t. rest_fault d t 2 (q ∷ rs))) ≡ b && c && are_next d started (q ∷ rs)
     by_tests true true e = e
     by_tests true false e = refl
     by_tests false c e = refl
@@ -100,8 +99,8 @@ no_fault d text =
     rw (← records_right d (records text), empty (length text))
     (by_tests (leb 1 (length text)) (leb (length text) message_limit) (all allowed text) (ends_with_cr text) NoHeader NoFinalCr 1 (length (records text)) (records_fault d (records text)))
   where
-    by_tests : (m l c e : Bool) (f g : Fault) (n k : ℕ) (x : Checked)
-        → m && l && c && e && is_faultless x ≡ is_faultless (unless (l && c) NotText (cond (not m) (Faulty f n) (unless e (Faulty g k) x)))
+    by_tests : (m l c e : Bool) (f g : Fault) (n k : ℕ) (x : Result (Unit {0}) Flaw)
+        → m && l && c && e && is_faultless x ≡ is_faultless (unless (l && c) (Err NotText) (cond (not m) (Err (Faulty f n)) (unless e (Err (Faulty g k)) x)))
     by_tests true true true true f g n k x = refl
     by_tests true true true false f g n k x = refl
     by_tests true true false e f g n k x = refl

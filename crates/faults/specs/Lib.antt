@@ -1,3 +1,4 @@
 pub mod Message
 pub mod Faults
+pub mod Refusals
 pub mod Inner

@@ -1,5 +1,5 @@
 // One record: its type, its place and its number.
-ghost use Rattle.std.specs.Prelude.{◌≡◌, take, drop};
+ghost use Rattle.std.specs.Prelude.{◌≡◌, take, drop, Some};
 ghost use Rattle.memory.specs.Tests.{is, find};
 ghost use Rattle.kinds.specs.Delimiters.{delimiters_of};
 ghost use Rattle.kinds.specs.Header.{is_header};
@@ -8,9 +8,8 @@ ghost use Rattle.records.specs.Fields.{field_of};
 ghost use Rattle.sequence.specs.Numbers.{number_of};
 ghost use Rattle.faults.specs.Faults.{placed, kind_step, record_step, header_step};
 
-use crate::Step;
 use answers::Fault;
-use kinds::{Delimiters, Kind, Letter};
+use kinds::{Delimiters, Kind};
 use sequence::Counts;
 
 fn is_terminator(k: Kind) -> bool
@@ -45,13 +44,13 @@ fn index_within(text: &[u8], b: u8, k: usize) -> usize
     records::index_of(&text[..k], b)
 }
 
-// The type that field 1 names. It is one byte, so two bytes tell.
-fn type_of(b: u8, rec: &[u8]) -> Letter
+// The type that field 1 names, if any. It is one byte, so two bytes tell.
+fn type_of(b: u8, rec: &[u8]) -> Option<Kind>
     ensures { result ≡ type_of (field_of b 1 rec.now) }
 {
     let e = index_within(rec, b, 2);
     if e != 1 {
-        return Letter::Unknown;
+        return None;
     }
     let first = rec[0];
     kinds::kind_of(first)
@@ -70,52 +69,49 @@ fn sequence_of(b: u8, rec: &[u8]) -> u32
 }
 
 // What a record of a known type with number n leads to.
-fn check_kind(s: Counts, last: bool, k: Kind, n: u32) -> Step
-    ensures { result ≡ kind_step s last (Letter.Known k) n }
+fn check_kind(s: Counts, last: bool, k: Kind, n: u32) -> Result<Counts, Fault>
+    ensures { result ≡ kind_step s last (Some k) n }
 {
     let other = s.other;
     if !kinds::may_follow(other, k) {
-        return Step::Wrong(Fault::Misplaced); // whatever its number
+        return Err(Fault::Misplaced); // whatever its number
     }
     if !is_placed(last, k) {
-        return Step::Wrong(Fault::Misplaced);
+        return Err(Fault::Misplaced);
     }
     if n == 0 {
-        return Step::Wrong(Fault::Misnumbered);
+        return Err(Fault::Misnumbered);
     }
     if n - 1 != sequence::count_of(s, k) {
-        return Step::Wrong(Fault::Misnumbered);
+        return Err(Fault::Misnumbered);
     }
-    Step::Fine(sequence::count_on(s, k, n))
+    Ok(sequence::count_on(s, k, n))
 }
 
 // A record behind the first.
-pub fn check_record(d: Delimiters, s: Counts, last: bool, rec: &[u8]) -> Step
+pub fn check_record(d: Delimiters, s: Counts, last: bool, rec: &[u8]) -> Result<Counts, Fault>
     ensures { result ≡ record_step d s last rec.now }
 {
     let b = d.field;
-    let t = type_of(b, rec);
-    match t {
-        Letter::Known(k) => check_kind(s, last, k, sequence_of(b, rec)),
-        Letter::Unknown => Step::Wrong(Fault::UnknownType),
-    }
+    let k = type_of(b, rec).ok_or(Fault::UnknownType)?;
+    check_kind(s, last, k, sequence_of(b, rec))
 }
 
 // The first record, by the delimiters that it names where it is long enough to name them.
-pub fn check_header(d: Delimiters, last: bool, rec: &[u8]) -> Step
+pub fn check_header(d: Delimiters, last: bool, rec: &[u8]) -> Result<Counts, Fault>
     requires { is_header d rec.now ≡ is_header (delimiters_of rec.now) rec.now }
     ensures { result ≡ header_step d last rec.now }
 {
     if !kinds::is_header(rec) {
-        return Step::Wrong(Fault::NoHeader);
+        return Err(Fault::NoHeader);
     }
     if !kinds::are_delimiters(d) {
-        return Step::Wrong(Fault::BadDelimiters);
+        return Err(Fault::BadDelimiters);
     }
     if last {
-        return Step::Wrong(Fault::Misplaced);
+        return Err(Fault::Misplaced);
     }
-    Step::Fine(Counts {
+    Ok(Counts {
         other: Kind::Header,
         patients: 0,
         queries: 0,

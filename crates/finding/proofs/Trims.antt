@@ -1,62 +1,45 @@
--- Trimming, as scans from the two ends meet it.
+-- Trimming, by the places where the bytes between the spaces begin and end.
 -- Assumes nothing.
-use mathlib.Core.Path.{◌≡◌, refl, sym, ap, ◌∙◌}
-use mathlib.Core.Bool.{Bool, true, false, ◌&&◌}
-use mathlib.Core.List.{List, [], ◌∷◌, ◌++◌}
-use Prim.Native.Nat.{ℕ, suc, ◌+◌, ◌-◌, ◌<◌, ◌≤◌}
-use native.Mathlib.Numerals.{add-one}
+use mathlib.Core.Path.{◌≡◌, refl, ap}
+use mathlib.Core.Bool.{true, false}
+use mathlib.Core.List.{List, [], ◌∷◌}
+use Prim.Native.Nat.{ℕ, zero, suc, ◌-◌, ◌<◌, ◌≤◌}
 use native.Mathlib.Omega.{arith}
 use lib.ListN.{length, get_or, take, drop, drop_of_length-le}
-use lib.Seq.{drop-cons, take-suc}
 use borrow.Author.Tests.{eq-eqb, ne_eqb}
 use Rattle.memory.specs.Tests.{all}
-use Rattle.memory.proofs.Tests.{all_append, and_not_right}
+use Rattle.memory.proofs.Tests.{and_not_right}
 use Rattle.finding.specs.Trimmed.{is_space, trimmed_front, trimmed_back}
 
--- a scan from the front that stands at i
-module _ (s : List ℕ) (i : ℕ) where
-  pub front_on : i < length s → get_or s i 0 ≡ 0x20 → trimmed_front (drop i s) ≡ trimmed_front s → trimmed_front (drop (i + 1) s) ≡ trimmed_front s
-  unfolding trimmed_front
-  front_on h e k = rw add-one (sym (rw (drop-cons s i 0 h, eq-eqb (get_or s i 0) 0x20 e)) ∙ k)
+-- the place before which all bytes are spaces, and where none is
+pub front_at : (s : List ℕ) (n : ℕ) → n ≤ length s → ((k : ℕ) → k < n → get_or s k 0 ≡ 0x20) → (n < length s → get_or s n 0 ≡ 0x20 → ⊥) → drop n s ≡ trimmed_front s
+unfolding trimmed_front
+front_at [] n h spaces other = drop_of_length-le [] (omega arith)
+front_at (b ∷ s) zero h spaces other = rw (ne_eqb b 0x20 (other (omega arith)))
+front_at (b ∷ s) (suc n) h spaces other =
+    rw (eq-eqb b 0x20 (spaces 0 (omega arith))) (front_at s n (omega arith) (λ k g. spaces (suc k) (omega arith)) (λ g. other (omega arith)))
 
-  pub front_stop : i < length s → (get_or s i 0 ≡ 0x20 → ⊥) → trimmed_front (drop i s) ≡ trimmed_front s → drop i s ≡ trimmed_front s
-  unfolding trimmed_front
-  front_stop h e k = sym (rw (drop-cons s i 0 h, ne_eqb (get_or s i 0) 0x20 e)) ∙ k
+all_spaces : (s : List ℕ) → ((k : ℕ) → k < length s → get_or s k 0 ≡ 0x20) → all is_space s ≡ true
+all_spaces [] spaces = refl
+all_spaces (b ∷ s) spaces = rw (eq-eqb b 0x20 (spaces 0 (omega arith))) (all_spaces s (λ k g. spaces (suc k) (omega arith)))
 
-  pub front_done : length s ≤ i → trimmed_front (drop i s) ≡ trimmed_front s → drop i s ≡ trimmed_front s
-  unfolding trimmed_front
-  front_done h k = let none : drop i s ≡ [] = drop_of_length-le s h in none ∙ sym (ap trimmed_front none) ∙ k
+not_all_spaces : (s : List ℕ) (n : ℕ) → n < length s → (get_or s n 0 ≡ 0x20 → ⊥) → all is_space s ≡ false
+not_all_spaces [] n h other = absurd (omega arith)
+not_all_spaces (b ∷ s) zero h other = rw (ne_eqb b 0x20 other)
+not_all_spaces (b ∷ s) (suc n) h other = and_not_right (is_space b) (all is_space s) (not_all_spaces s n (omega arith) other)
 
--- a byte behind others
-and_true : (a : Bool) → a && true ≡ a
-and_true true = refl
-and_true false = refl
-
-back_space : (xs : List ℕ) → trimmed_back (xs ++ 0x20 ∷ []) ≡ trimmed_back xs
+-- the place from which on all bytes are spaces, and before which none is
+pub back_at : (s : List ℕ) (n : ℕ) → n ≤ length s → ((k : ℕ) → n ≤ k → k < length s → get_or s k 0 ≡ 0x20) → (0 < n → get_or s (n - 1) 0 ≡ 0x20 → ⊥) → take n s ≡ trimmed_back s
 unfolding trimmed_back
-back_space [] = refl
-back_space (b ∷ xs) =
-    let same : all is_space (xs ++ 0x20 ∷ []) ≡ all is_space xs = all_append is_space xs (0x20 ∷ []) ∙ and_true (all is_space xs) in
-    rw (same, back_space xs)
-
-back_other : (xs : List ℕ) (b : ℕ) → is_space b ≡ false → trimmed_back (xs ++ b ∷ []) ≡ xs ++ b ∷ []
-unfolding trimmed_back
-back_other [] b e = rw e
-back_other (x ∷ xs) b e =
-    let some : all is_space (xs ++ b ∷ []) ≡ false = all_append is_space xs (b ∷ []) ∙ and_not_right (all is_space xs) (all is_space (b ∷ [])) (rw e) in
-    rw (and_not_right (is_space x) (all is_space (xs ++ b ∷ [])) some, back_other xs b e)
-
--- a scan from the end that stands at e
-module _ (s : List ℕ) (e : ℕ) (some : 0 < e) (within : e ≤ length s) where
-  last : take e s ≡ take (e - 1) s ++ get_or s (e - 1) 0 ∷ []
-  last = let next : e ≡ suc (e - 1) = omega arith in ap (λ (n : ℕ). take n s) next ∙ take-suc s (e - 1) 0 (omega arith)
-
-  pub back_on : get_or s (e - 1) 0 ≡ 0x20 → trimmed_back (take e s) ≡ trimmed_back s → trimmed_back (take (e - 1) s) ≡ trimmed_back s
-  back_on k h = sym (back_space (take (e - 1) s)) ∙ sym (ap trimmed_back (last ∙ rw k)) ∙ h
-
-  pub back_stop : (get_or s (e - 1) 0 ≡ 0x20 → ⊥) → trimmed_back (take e s) ≡ trimmed_back s → take e s ≡ trimmed_back s
-  back_stop k h = last ∙ sym (ap trimmed_back last ∙ back_other (take (e - 1) s) (get_or s (e - 1) 0) (ne_eqb (get_or s (e - 1) 0) 0x20 k)) ∙ h
-
-pub back_done : (s : List ℕ) (e : ℕ) → e ≤ 0 → trimmed_back (take e s) ≡ trimmed_back s → take e s ≡ trimmed_back s
-unfolding trimmed_back
-back_done s e h k = let none : e ≡ 0 = omega arith in let empty : take e s ≡ [] = rw none in empty ∙ sym (ap trimmed_back empty) ∙ k
+back_at [] zero h spaces other = refl
+back_at [] (suc n) h spaces other = absurd (omega arith)
+back_at (b ∷ s) zero h spaces other = rw (all_spaces (b ∷ s) (λ k g. spaces k (omega arith) g))
+back_at (b ∷ s) (suc n) h spaces other =
+    let same : suc n - 1 ≡ n = omega arith in
+    let here : get_or (b ∷ s) n 0 ≡ 0x20 → ⊥ = rw same at (other (omega arith)) in
+    rw (not_all_spaces (b ∷ s) n (omega arith) here)
+    (ap (λ (t : List ℕ). b ∷ t) (back_at s n (omega arith) (λ k g l. spaces (suc k) (omega arith) (omega arith)) (λ g e. here (last n g e))))
+  where
+    last : (m : ℕ) → 0 < m → get_or s (m - 1) 0 ≡ 0x20 → get_or (b ∷ s) m 0 ≡ 0x20
+    last zero g e = absurd (omega arith)
+    last (suc m) g e = let same : suc m - 1 ≡ m = omega arith in rw same at e

@@ -1,6 +1,6 @@
 -- The message that a block with results becomes, its finding; and its writing into lent memory.
 -- Assumes nothing.
-use Rattle.std.specs.Prelude.{ℕ, ◌+◌, ◌/◌, ◌%◌, ◌≡◌, Bool, cond, ◌&&◌, List, [], ◌∷◌, ◌++◌, eqb, leb, ltb, length}
+use Rattle.std.specs.Prelude.{ℕ, ◌+◌, ◌/◌, ◌%◌, ◌≡◌, Bool, cond, ◌&&◌, List, [], ◌∷◌, ◌++◌, eqb, leb, ltb, length, Option, Some, None}
 use Rattle.memory.specs.Parts.{part, splice}
 use Rattle.kinds.specs.Delimiters.{standard}
 use Rattle.kinds.specs.Kinds.{letter_of}
@@ -79,15 +79,15 @@ finding_limit = 557
 abbrev pub is_put : Patient → List ℕ → List ℕ → Bool
 is_put p bs out = eqb (length bs) (results_length p) && leb finding_limit (length out)
 
--- the length of the finding that is written; 0 where none is
-unfoldable pub put_length : Patient → List ℕ → List ℕ → ℕ
-put_length p bs out = cond (is_put p bs out) (length (finding_of p bs)) 0
+-- the length of the finding that is written, if one is
+unfoldable pub put_length : Patient → List ℕ → List ℕ → Option ℕ
+put_length p bs out = cond (is_put p bs out) (Some (length (finding_of p bs))) None
 
 -- the memory after it: the finding over its start; unchanged where none is written
 unfoldable pub put_over : Patient → List ℕ → List ℕ → List ℕ
 put_over p bs out = cond (is_put p bs out) (splice out 0 (finding_of p bs)) out
 
 -- what writing a finding says: the answer, and the memory after it
-pub record FindingPut (p : Patient) (bs out : List ℕ) (r : ℕ) (out' : List ℕ) : Type 0 where
+pub record FindingPut (p : Patient) (bs out : List ℕ) (r : Option ℕ) (out' : List ℕ) : Type 0 where
   pub answer : r ≡ put_length p bs out
   pub after : out' ≡ put_over p bs out

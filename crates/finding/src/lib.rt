@@ -18,15 +18,15 @@ struct Spot {
     width: usize,
 }
 
-// Writes the finding of a block over the start of out, and gives its length; 0 where the block is no such block, or out may be too short.
-pub fn put_finding(patient: Patient, block: &[u8], out: &mut [u8]) -> usize
+// Writes the finding of a block over the start of out, and gives its length, if the block is of the right length and out is long enough for any.
+pub fn put_finding(patient: Patient, block: &[u8], out: &mut [u8]) -> Option<usize>
     ensures { FindingPut patient block.now out.old result out.new }
 {
     if block.len() != patient.results_length() {
-        return 0;
+        return None;
     }
     if out.len() < FINDING_LIMIT {
-        return 0;
+        return None;
     }
-    writing::write(patient, block, out)
+    Some(writing::write(patient, block, out))
 }

@@ -6,28 +6,16 @@ ghost use Rattle.finding.specs.Trimmed.{trimmed_front, trimmed_back, trimmed};
 fn spaces_in_front(text: &[u8]) -> usize
     ensures { (result ≤ length text.now) × (drop result text.now ≡ trimmed_front text.now) }
 {
-    let mut i: usize = 0;
-    while i < text.len() {
-        if text[i] != b' ' {
-            return i;
-        }
-        i += 1;
-    }
-    i
+    text.iter().position(|&b| b != b' ').unwrap_or(text.len())
 }
 
 // How many bytes stand before the spaces at the end.
 fn before_spaces(text: &[u8]) -> usize
     ensures { (result ≤ length text.now) × (take result text.now ≡ trimmed_back text.now) }
 {
-    let mut end = text.len();
-    while 0 < end {
-        if text[end - 1] != b' ' {
-            return end;
-        }
-        end = end - 1;
-    }
-    end
+    text.iter()
+        .rposition(|&b| b != b' ')
+        .map_or(0, |last| last + 1)
 }
 
 // The bytes between.

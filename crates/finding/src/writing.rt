@@ -3,10 +3,9 @@ ghost use Rattle.std.specs.Prelude.{◌≡◌, ◌+◌, ◌≤◌, ◌<◌, leng
 ghost use Rattle.memory.specs.Parts.{splice};
 ghost use Rattle.settings.specs.Settings.{results_length};
 ghost use Rattle.finding.specs.Findings.{finding_limit, finding_of};
-ghost use Rattle.finding.specs.Inner.Templates.{template, template_length, spots_of, no_spot, spot_count, saying, length_put};
+ghost use Rattle.finding.specs.Inner.Templates.{template, template_length, spots_of, no_spot, spot_count, saying};
 
 use crate::Spot;
-use escaping::Put;
 use kinds::Delimiters;
 use settings::Patient;
 
@@ -67,14 +66,6 @@ const OF_THIRTEEN: [Spot; 13] = [
     Spot { at: 218, width: 0 },
 ];
 
-// A byte of the template.
-fn template_at(i: usize) -> u8
-    requires { i < template_length }
-    ensures { result ≡ get_or template i 0 }
-{
-    TEMPLATE[i]
-}
-
 // Where a datum stands.
 fn spot_of(patient: Patient, k: usize) -> Spot
     requires { k < spot_count }
@@ -83,18 +74,6 @@ fn spot_of(patient: Patient, k: usize) -> Spot
     match patient {
         Patient::Ten => OF_TEN[k],
         Patient::Thirteen => OF_THIRTEEN[k],
-    }
-}
-
-// How many bytes were put out.
-fn length_put(put: Put) -> usize
-    ensures { result ≡ length_put put }
-{
-    match put {
-        Put::Done(n) => n,
-        Put::Malformed => 0,
-        Put::NotFitting => 0,
-        Put::BadDelimiters => 0,
     }
 }
 
@@ -110,8 +89,7 @@ fn put_datum(datum: &[u8], out: &mut [u8], at: usize) -> usize
         component: b'^',
         escape: b'&',
     };
-    let put = escaping::escape(standard, plain, &mut out[at..]);
-    let n = length_put(put);
+    let n = escaping::escape(standard, plain, &mut out[at..]).unwrap_or(0);
     at + n
 }
 
@@ -122,10 +100,7 @@ pub fn write(patient: Patient, block: &[u8], out: &mut [u8]) -> usize
 {
     let mut end: usize = 0;
     let mut k: usize = 0;
-    let mut i: usize = 0;
-    while i < TEMPLATE_LENGTH {
-        let b = template_at(i);
-        i += 1;
+    for b in TEMPLATE {
         if b == MARK {
             let spot = spot_of(patient, k);
             let at = spot.at;

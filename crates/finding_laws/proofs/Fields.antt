@@ -1,9 +1,9 @@
 -- Fields that are put together with delimiters between them, and read again.
 -- Assumes nothing.
+use Rattle.std.specs.Prelude.{Some}
 use mathlib.Core.Path.{◌≡◌, refl, ap}
 use mathlib.Core.Bool.{Bool, true, false, not, cond}
 use mathlib.Core.List.{List, [], ◌∷◌, ◌++◌}
-use mathlib.Core.Option.{some}
 use Prim.Native.Nat.{ℕ, suc, ◌≤◌}
 use native.Mathlib.Omega.{arith}
 use lib.Dec.{leb}
@@ -72,7 +72,7 @@ digit_bare b h = rw (other_than 0x30 0x39 0x7c b h (λ l u e. omega arith))
 pub digits_bare : (bs : List ℕ) → all is_digit bs ≡ true → all is_not_bar bs ≡ true
 digits_bare bs h = all_of is_digit is_not_bar digit_bare bs h
 
-pub capitals_plain : (bs : List ℕ) → all is_capital bs ≡ true → unescaped standard bs ≡ some bs
+pub capitals_plain : (bs : List ℕ) → all is_capital bs ≡ true → unescaped standard bs ≡ Some bs
 capitals_plain [] h = refl
 capitals_plain (b ∷ bs) h =
     let c = and_left (is_capital b) (all is_capital bs) h in

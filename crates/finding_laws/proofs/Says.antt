@@ -1,9 +1,9 @@
 -- The finding of every right block with results says what stands in the block.
 -- Assumes nothing.
+use Rattle.std.specs.Prelude.{Some}
 use mathlib.Core.Path.{◌≡◌, refl, sym, ap, ◌∙◌}
 use mathlib.Core.Bool.{true}
 use mathlib.Core.List.{List, [], ◌∷◌, ◌++◌}
-use mathlib.Core.Option.{some}
 use Prim.Native.Nat.{ℕ, ◌+◌, ◌-◌}
 use native.Mathlib.Omega.{arith}
 use lib.ListN.{length, get_or, drop}
@@ -15,7 +15,6 @@ use Rattle.kinds.specs.Delimiters.{standard, delimiters_of}
 use Rattle.kinds.specs.Kinds.{letter_of, kind_of, type_of}
 use Rattle.kinds.specs.declared.Kind.{Kind}
 use Rattle.kinds.specs.declared.Kind.TheVariants.{Result as ResultKind}
-use Rattle.kinds.specs.declared.Letter.TheVariants.{Known}
 use Rattle.records.specs.Fields.{field_of}
 use Rattle.records.specs.Records.{records}
 use Rattle.sequence.specs.Numbers.{number_of}
@@ -43,11 +42,11 @@ own_four p bs = refl
 
 -- a record whose fields are a letter, a number and others
 module _ (m : List ℕ) (k : ℕ) (d : delimiters_of m ≡ standard) {r : List ℕ} (is-r : record_of m k ≡ r) where
-  read_is : (n : ℕ) {f t : List ℕ} → field_of standard.field n r ≡ f → unescaped standard f ≡ some t → read_at m k n ≡ some t
+  read_is : (n : ℕ) {f t : List ℕ} → field_of standard.field n r ≡ f → unescaped standard f ≡ Some t → read_at m k n ≡ Some t
   unfolding read_at
   read_is n e u = rw (d, is-r, e) u
 
-  kind_is : {kind : Kind} {number : ℕ} → type_of (field_of standard.field 1 r) ≡ Known kind → number_of (field_of standard.field 2 r) ≡ number → IsRecord m k kind number
+  kind_is : {kind : Kind} {number : ℕ} → type_of (field_of standard.field 1 r) ≡ Some kind → number_of (field_of standard.field 2 r) ≡ number → IsRecord m k kind number
   kind_is t n = record { type = rw (d, is-r) t; number_is = rw (d, is-r) n }
 
 -- an R record, by its fields
@@ -67,7 +66,7 @@ module _ (g h t : List ℕ) (number : all is_not_bar g ≡ true) (name : all is_
   field_four : field_of standard.field 4 of_result ≡ t
   field_four = field_next 2 letter g (h ∷ t ∷ []) refl ∙ field_next 1 g h (t ∷ []) number ∙ field_next 0 h t [] name ∙ field_first t [] value
 
-  type_one : type_of (field_of standard.field 1 of_result) ≡ Known ResultKind
+  type_one : type_of (field_of standard.field 1 of_result) ≡ Some ResultKind
   unfolding type_of kind_of
   type_one = refl
 

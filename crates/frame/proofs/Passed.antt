@@ -1,6 +1,10 @@
 -- What each test of the shape told of a frame that it takes for whole.
 -- Assumes nothing.
-use mathlib.Core.Path.{◌≡◌, refl}
+use Rattle.std.specs.Prelude.{Err, Ok, Result}
+use Rattle.std.specs.Result.{result_unwrap_or}
+use Rattle.frame.specs.declared.Flaw.TheVariants.{BadNumber, BadText, Torn, Unended, WrongCheck}
+use Rattle.frame.specs.declared.Flaw.{Flaw}
+use mathlib.Core.Path.{◌≡◌, refl, ap}
 use mathlib.Core.Bool.{Bool, true, false, ◌&&◌}
 use mathlib.Core.List.{List}
 use Prim.Native.Nat.{ℕ, ◌+◌, ◌-◌, ◌≤◌, ◌<◌}
@@ -17,13 +21,11 @@ use Rattle.digits.specs.Check.{digits_of, check_of}
 use Rattle.digits.specs.Number.{most_number, digit_for, is_number, number_from}
 use Rattle.frame.specs.Shape.{from_end, digit_in, text_in, counted_in, is_end, end_from, is_ended, is_built, is_checked, inner_of, shape_of}
 use Rattle.frame.specs.declared.End.{End}
-use Rattle.frame.specs.declared.Shape.{Shape}
-use Rattle.frame.specs.declared.Shape.TheVariants.{Unended, Torn, WrongCheck, BadText, BadNumber, Whole}
 
 -- what is whole has passed each test
-pub passed : (a b c d e : Bool) (w : Shape) (n k : ℕ) (end : End)
-    → unless a Unended (unless b Torn (unless c WrongCheck (unless d BadText (unless e BadNumber w)))) ≡ Whole n end k
-    → (a ≡ true) × (b ≡ true) × (c ≡ true) × (d ≡ true) × (e ≡ true) × (w ≡ Whole n end k)
+pub passed : (a b c d e : Bool) (w : Result (ℕ × End × ℕ) Flaw) (n k : ℕ) (end : End)
+    → unless a (Err Unended) (unless b (Err Torn) (unless c (Err WrongCheck) (unless d (Err BadText) (unless e (Err BadNumber) w)))) ≡ Ok (n, end, k)
+    → (a ≡ true) × (b ≡ true) × (c ≡ true) × (d ≡ true) × (e ≡ true) × (w ≡ Ok (n, end, k))
 passed true true true true true w n k end h = (refl, refl, refl, refl, refl, h)
 passed true true true true false w n k end h = let z : ◌≡◌ {A = ℕ} 0 1 = cc in absurd (omega arith)
 passed true true true false e w n k end h = let z : ◌≡◌ {A = ℕ} 0 1 = cc in absurd (omega arith)
@@ -62,23 +64,29 @@ number_told b h =
     let high : b ≤ 0x37 = leb-true b 0x37 (and_right (leb 0x30 b) (leb b 0x37) h) in
     (omega arith, omega arith)
 
+-- what a whole frame holds
+pub same_whole : (n m : ℕ) (end other : End) (k l : ℕ) → ◌≡◌ {A = Result (ℕ × End × ℕ) Flaw} (Ok (n, end, k)) (Ok (m, other, l)) → (n ≡ m) × (end ≡ other) × (k ≡ l)
+same_whole n m end other k l e =
+    let held : ◌≡◌ {A = ℕ × End × ℕ} (n, end, k) (m, other, l) = ap (λ (r : Result (ℕ × End × ℕ) Flaw). result_unwrap_or r (n, end, k)) e in
+    (ap (λ (w : ℕ × End × ℕ). w.0) held, ap (λ (w : ℕ × End × ℕ). w.1) held, ap (λ (w : ℕ × End × ℕ). w.2) held)
+
 -- the bytes collected are its text and six more, by what is built alone
-pub accepted_size : (limit : ℕ) (bs : List ℕ) (n : ℕ) (end : End) (k : ℕ) → shape_of limit bs ≡ Whole n end k → length bs ≡ k + 6
+pub accepted_size : (limit : ℕ) (bs : List ℕ) (n : ℕ) (end : End) (k : ℕ) → shape_of limit bs ≡ Ok (n, end, k) → length bs ≡ k + 6
 unfolding shape_of inner_of
 accepted_size limit bs n end k h =
     let (_, built, _, _, _, whole) =
     passed (is_ended limit bs) (is_built bs) (is_checked bs) (all allowed (text_in bs)) (is_number (digit_in bs))
-    (Whole (number_from (digit_in bs)) (end_from (from_end bs 5)) (length (text_in bs))) n k end h in
+    (Ok (number_from (digit_in bs), end_from (from_end bs 5), length (text_in bs))) n k end h in
     let (six, _, _) = built_told bs built in
-    let size : length (text_in bs) ≡ k = cc whole in
+    let (_, _, size) = same_whole _ _ _ _ _ _ whole in
     let text : length (text_in bs) ≡ length bs - 6 = length_part bs 1 (length bs - 6) (omega arith) in
     omega arith
 
 -- and its text is of allowed bytes (24)
-pub accepted_clean : (limit : ℕ) (bs : List ℕ) (n : ℕ) (end : End) (k : ℕ) → shape_of limit bs ≡ Whole n end k → all allowed (text_in bs) ≡ true
+pub accepted_clean : (limit : ℕ) (bs : List ℕ) (n : ℕ) (end : End) (k : ℕ) → shape_of limit bs ≡ Ok (n, end, k) → all allowed (text_in bs) ≡ true
 unfolding shape_of inner_of
 accepted_clean limit bs n end k h =
     let (_, _, _, clean, _, _) =
     passed (is_ended limit bs) (is_built bs) (is_checked bs) (all allowed (text_in bs)) (is_number (digit_in bs))
-    (Whole (number_from (digit_in bs)) (end_from (from_end bs 5)) (length (text_in bs))) n k end h in
+    (Ok (number_from (digit_in bs), end_from (from_end bs 5), length (text_in bs))) n k end h in
     clean

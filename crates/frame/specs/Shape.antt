@@ -1,8 +1,9 @@
 -- The shape of a frame, from the bytes collected for it: STX is left out, the byte that ended it is counted.
 -- In their order: number digit, text, ETB or ETX, two check digits, CR, LF.
 -- Assumes nothing.
-use Rattle.std.specs.Prelude.{ℕ, ◌-◌, Bool, cond, ◌&&◌, ◌||◌, List, length, get_or, take, leb, ltb}
-use Rattle.std.proofs.Math.Option.{Option, none, some}
+use Rattle.frame.specs.declared.Flaw.TheVariants.{BadNumber, BadText, Torn, Unended, WrongCheck}
+use Rattle.frame.specs.declared.Flaw.{Flaw}
+use Rattle.std.specs.Prelude.{ℕ, ◌-◌, Bool, cond, ◌&&◌, ◌||◌, List, length, get_or, take, leb, ltb, Err, None, Ok, Option, Result, Some}
 use Rattle.memory.specs.Parts.{part}
 use Rattle.memory.specs.Tests.{unless, is, all}
 use Rattle.characters.specs.Control.{etx, lf, cr, etb}
@@ -11,8 +12,6 @@ use Rattle.digits.specs.Check.{check_of, digits_of}
 use Rattle.digits.specs.Number.{is_number, number_from}
 use Rattle.frame.specs.declared.End.{End}
 use Rattle.frame.specs.declared.End.TheVariants.{Etb, Etx}
-use Rattle.frame.specs.declared.Shape.{Shape}
-use Rattle.frame.specs.declared.Shape.TheVariants.{Unended, Torn, WrongCheck, BadText, BadNumber, Whole}
 
 -- the bytes of a frame that are not text: STX, digit, ETB or ETX, two check digits, CR, LF; all but STX are collected [F1]
 abbrev pub around_text : ℕ
@@ -63,21 +62,21 @@ is_checked bs =
     is (digits_of (check_of (counted_in bs))).high (from_end bs 4) && is (digits_of (check_of (counted_in bs))).low (from_end bs 3)
 
 -- 24 and 25, or the frame's number, its end and the length of its text [A24, A25, O4]
-unfoldable pub inner_of : List ℕ → Shape
+unfoldable pub inner_of : List ℕ → Result (ℕ × End × ℕ) Flaw
 inner_of bs =
-    unless (all allowed (text_in bs)) BadText
-    (unless (is_number (digit_in bs)) BadNumber (Whole (number_from (digit_in bs)) (end_from (from_end bs 5)) (length (text_in bs))))
+    unless (all allowed (text_in bs)) (Err BadText)
+    (unless (is_number (digit_in bs)) (Err BadNumber) (Ok (number_from (digit_in bs), end_from (from_end bs 5), length (text_in bs))))
 
 -- the first of 21 to 25 that applies, or the frame [F11, O4]
-unfoldable pub shape_of : ℕ → List ℕ → Shape
+unfoldable pub shape_of : ℕ → List ℕ → Result (ℕ × End × ℕ) Flaw
 shape_of limit bs =
-    unless (is_ended limit bs) Unended (unless (is_built bs) Torn (unless (is_checked bs) WrongCheck (inner_of bs)))
+    unless (is_ended limit bs) (Err Unended) (unless (is_built bs) (Err Torn) (unless (is_checked bs) (Err WrongCheck) (inner_of bs)))
 
 -- the number of each refusal
-abbrev pub refusal_of : Shape → Option ℕ
-refusal_of Unended = some 21
-refusal_of Torn = some 22
-refusal_of WrongCheck = some 23
-refusal_of BadText = some 24
-refusal_of BadNumber = some 25
-refusal_of (Whole number end length) = none
+abbrev pub refusal_of : Result (ℕ × End × ℕ) Flaw → Option ℕ
+refusal_of (Err Unended) = Some 21
+refusal_of (Err Torn) = Some 22
+refusal_of (Err WrongCheck) = Some 23
+refusal_of (Err BadText) = Some 24
+refusal_of (Err BadNumber) = Some 25
+refusal_of (Ok (number, end, length)) = None

@@ -3,29 +3,21 @@ ghost use Rattle.std.specs.Prelude.{◌≡◌, List, [], ◌∷◌, ◌++◌, �
 ghost use Rattle.characters.specs.Control.{lf};
 ghost use Rattle.frame.specs.Shape.{end_from, is_built, is_checked, inner_of};
 
-use super::{End, Shape};
+use super::{End, Flaw};
 use characters::{CR, ETB, ETX};
 use digits::MOST_NUMBER;
 
 // CR stands before the LF, and ETB or ETX fifth from the end.
+#[tactic(auto, using(crate::proofs::Collected::built_short, crate::proofs::Collected::built_long))]
 pub fn is_built(collected: &[u8]) -> bool
     ensures { result ≡ is_built (collected.now ++ (lf ∷ [])) }
 {
     let n = collected.len();
-    if n < 5 {
-        return false;
-    }
-    if collected[n - 1] != CR {
-        return false;
-    }
-    let end = collected[n - 4];
-    if end == ETX {
-        return true;
-    }
-    end == ETB
+    n >= 5 && collected[n - 1] == CR && matches!(collected[n - 4], ETX | ETB)
 }
 
 // The two check digits are those of the check.
+#[tactic(auto, using(crate::proofs::Collected::checked_long))]
 pub fn is_checked(collected: &[u8]) -> bool
     requires { 5 ≤ length collected.now }
     ensures { result ≡ is_checked (collected.now ++ (lf ∷ [])) }
@@ -33,37 +25,32 @@ pub fn is_checked(collected: &[u8]) -> bool
     let n = collected.len();
     let counted = n - 3;
     let digits = digits::check_digits(digits::check_sum(&collected[..counted]));
-    if collected[n - 3] != digits.high {
-        return false;
-    }
-    collected[n - 2] == digits.low
+    collected[n - 3] == digits.high && collected[n - 2] == digits.low
 }
 
 // The text and the number of a frame that is built and checked.
-pub fn inner(collected: &[u8]) -> Shape
+#[tactic(auto, using(crate::proofs::Collected::inner_lent))]
+pub fn inner(collected: &[u8]) -> Result<(u8, End, usize), Flaw>
     requires { 5 ≤ length collected.now }
     ensures { result ≡ inner_of (collected.now ++ (lf ∷ [])) }
 {
     let n = collected.len();
     let end = n - 4;
     if !characters::all_allowed(&collected[1..end]) {
-        return Shape::BadText;
+        return Err(Flaw::BadText);
     }
     let digit = collected[0];
-    if digit < b'0' {
-        return Shape::BadNumber;
+    if digit < b'0' || b'0' + MOST_NUMBER < digit {
+        return Err(Flaw::BadNumber);
     }
-    if b'0' + MOST_NUMBER < digit {
-        return Shape::BadNumber;
-    }
-    Shape::Whole(digit - b'0', end_from(collected[end]), n - 5)
+    Ok((digit - b'0', end_from(collected[end]), n - 5))
 }
 
 fn end_from(b: u8) -> End
     ensures { result ≡ end_from b }
 {
-    if b == ETX {
-        return End::Etx;
+    match b {
+        ETX => End::Etx,
+        _ => End::Etb,
     }
-    End::Etb
 }

@@ -18,33 +18,31 @@ pub enum End {
     Etx,
 }
 
-// A frame that has come: why it is refused, or its number, its end and the length of its text, which starts behind the digit.
+// Why a frame that has come is refused.
 #[derive(Clone, Copy)]
-pub enum Shape {
+pub enum Flaw {
     Unended,
     Torn,
     WrongCheck,
     BadText,
     BadNumber,
-    Whole(u8, End, usize),
 }
 
-// The shape of the frame whose bytes behind STX are those collected and the last one, which has just come.
-pub fn shape_of(limit: usize, collected: &[u8], last: u8) -> Shape
+// The frame whose bytes behind STX are those collected and the last one, which has just come: its number, its end and the length of its
+// text, which starts behind the digit.
+#[tactic(auto, using(crate::proofs::Collected::shape_long, crate::proofs::Collected::shape_open, crate::proofs::Collected::shape_ended, crate::proofs::Collected::built_five))]
+pub fn shape_of(limit: usize, collected: &[u8], last: u8) -> Result<(u8, End, usize), Flaw>
     ensures { result ≡ shape_of limit (collected.now ++ (last ∷ [])) }
 {
     let n = collected.len();
-    if limit <= n + 1 {
-        return Shape::Unended;
-    }
-    if last != LF {
-        return Shape::Unended;
+    if limit <= n + 1 || last != LF {
+        return Err(Flaw::Unended);
     }
     if !judging::is_built(collected) {
-        return Shape::Torn;
+        return Err(Flaw::Torn);
     }
     if !judging::is_checked(collected) {
-        return Shape::WrongCheck;
+        return Err(Flaw::WrongCheck);
     }
     judging::inner(collected)
 }

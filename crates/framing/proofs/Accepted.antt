@@ -1,5 +1,6 @@
 -- What the shape takes for whole is a frame as it is written: nothing else is accepted.
 -- Assumes nothing.
+use Rattle.std.specs.Prelude.{Ok}
 use Rattle.std.proofs.Common.{◌≡◌, ℕ, suc, ◌-◌, ◌<◌, ◌≤◌, Bool, true, false, cond, eqb, List, [], ◌∷◌, ◌++◌, length, take, drop, sym, refl, ap, ◌∙◌, arith, take-append-drop, drop_of_length-le, drop-cons, take-suc, eqb-true}
 use Rattle.memory.specs.Parts.{part}
 use Rattle.memory.specs.Tests.{all}
@@ -9,8 +10,7 @@ use Rattle.digits.specs.Number.{most_number, digit_for, is_number, number_from}
 use Rattle.frame.specs.Shape.{from_end, digit_in, text_in, counted_in, is_end, end_from, is_ended, is_built, is_checked, inner_of, shape_of}
 use Rattle.frame.specs.declared.End.{End}
 use Rattle.frame.specs.declared.End.TheVariants.{Etb, Etx}
-use Rattle.frame.specs.declared.Shape.TheVariants.{Whole}
-use Rattle.frame.proofs.Passed.{passed, ended_told, built_told, checked_told, number_told}
+use Rattle.frame.proofs.Passed.{passed, same_whole, ended_told, built_told, checked_told, number_told}
 use Rattle.framing.specs.Writing.{end_byte, body_of, tail_of, collected_of}
 
 -- an end byte is that of the end it stands for
@@ -79,16 +79,14 @@ module _ (bs : List ℕ) (built : is_built bs ≡ true) (checked : is_checked bs
   spelt l = sym (take-append-drop (length bs - 4) bs) ∙ rw (tail l, body)
 
 -- the theorem
-pub accepted : (limit : ℕ) (bs : List ℕ) (n : ℕ) (end : End) (k : ℕ) → shape_of limit bs ≡ Whole n end k → Accepted limit bs n end k
+pub accepted : (limit : ℕ) (bs : List ℕ) (n : ℕ) (end : End) (k : ℕ) → shape_of limit bs ≡ Ok (n, end, k) → Accepted limit bs n end k
 unfolding shape_of inner_of
 accepted limit bs n end k h =
     let (ended, built, checked, clean, numbered, whole) =
     passed (is_ended limit bs) (is_built bs) (is_checked bs) (all allowed (text_in bs)) (is_number (digit_in bs))
-    (Whole (number_from (digit_in bs)) (end_from (from_end bs 5)) (length (text_in bs))) n k end h in
+    (Ok (number_from (digit_in bs), end_from (from_end bs 5), length (text_in bs))) n k end h in
     let (within, l) = ended_told bs limit ended in
-    let number : number_from (digit_in bs) ≡ n = cc whole in
-    let which : end_from (from_end bs 5) ≡ end = cc whole in
-    let size : length (text_in bs) ≡ k = cc whole in
+    let (number, which, size) = same_whole _ _ _ _ _ _ whole in
     record {
       same = spelt bs built checked numbered l ∙ rw (number, which);
       number = rw number at (number_told (digit_in bs) numbered).0;

@@ -1,5 +1,7 @@
 -- The bytes of a frame in lent memory, store by store.
 -- Assumes nothing.
+use Rattle.std.specs.Prelude.{Err, Ok}
+use Rattle.framing.specs.declared.Refusal.TheVariants.{Malformed, NotFitting}
 use Rattle.std.proofs.Common.{◌≡◌, ℕ, ◌+◌, ◌%◌, ◌<◌, ◌≤◌, List, [], ◌∷◌, ◌++◌, length, get_or, take, set, refl, ap, ◌∙◌, add-one, arith, length-append, length-take-le, take-suc, le-leb}
 use borrow.Author.Tests.{lt-leb}
 use Rattle.memory.specs.Parts.{splice}
@@ -11,7 +13,6 @@ use Rattle.frame.specs.Shape.{around_text}
 use Rattle.framing.specs.Writing.{body_of, tail_of, collected_of, frame_of, put_of, put_in, FramePut}
 use Rattle.digits.proofs.Check.{total_append}
 use Rattle.frame.specs.declared.End.{End}
-use Rattle.framing.specs.declared.Written.TheVariants.{Malformed, NotFitting, Length}
 
 -- two stores at the start, a text behind them, one store more
 module _ (d text x : List ℕ) (a b e : ℕ) (h : length text + 3 ≤ length d) (c : x ≡ splice (set (set d 0 a) 1 b) 2 text) where
@@ -78,11 +79,11 @@ frame_put d number end text h =
 
 -- what each way out of putting a frame says
 module _ (number : ℕ) (end : End) (text out : List ℕ) where
-  pub not_put : most_number < number → FramePut number end text out Malformed out
+  pub not_put : most_number < number → FramePut number end text out (Err Malformed) out
   unfolding put_of put_in
   not_put h = let large = lt-leb number most_number h in record { answer = rw large; after = rw large }
 
-  pub no_room : number ≤ most_number → length out < length text + 7 → FramePut number end text out NotFitting out
+  pub no_room : number ≤ most_number → length out < length text + 7 → FramePut number end text out (Err NotFitting) out
   unfolding put_of put_in
   no_room k h =
       let few = le-leb number most_number k in
@@ -90,7 +91,7 @@ module _ (number : ℕ) (end : End) (text out : List ℕ) where
       record { answer = rw (few, full); after = rw (few, full) }
 
   pub put : {out' : List ℕ} → number ≤ most_number → length text + 7 ≤ length out → out' ≡ splice out 0 (frame_of number end text)
-      → FramePut number end text out (Length (length text + 7)) out'
+      → FramePut number end text out (Ok (length text + 7)) out'
   unfolding put_of put_in
   put k h w =
       let few = le-leb number most_number k in

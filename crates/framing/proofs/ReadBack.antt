@@ -1,5 +1,6 @@
 -- What is written of a frame, read back by the shape, is the same number, end and text, for every limit that it keeps.
 -- Assumes nothing.
+use Rattle.std.specs.Prelude.{Ok}
 use Rattle.std.proofs.Common.{◌≡◌, ℕ, ◌+◌, ◌-◌, ◌<◌, ◌≤◌, true, List, [], ◌∷◌, ◌++◌, length, get_or, take, sym, refl, ◌∙◌, append_assoc, arith, length-append, take_at, get_or-append-add, eq-eqb, le-leb}
 use lib.Seq.{get_or_at}
 use Rattle.memory.specs.Parts.{part}
@@ -12,7 +13,6 @@ use Rattle.frame.specs.Shape.{around_text, text_in, is_end, end_from, is_built, 
 use Rattle.framing.specs.Writing.{end_byte, body_of, tail_of, collected_of}
 use Rattle.frame.specs.declared.End.{End}
 use Rattle.frame.specs.declared.End.TheVariants.{Etb, Etx}
-use Rattle.frame.specs.declared.Shape.TheVariants.{Whole}
 use Rattle.frame.proofs.Collected.{text_in_law, built_long, checked_long, inner_long, shape_ended}
 use Rattle.framing.proofs.Put.{length_body}
 
@@ -78,7 +78,7 @@ module _ (number : ℕ) (end : End) (text : List ℕ) where
 
   -- the theorem: whatever limit the frame keeps, from 7 to 512 and beyond
   pub read_back : (limit : ℕ) → number ≤ most_number → all allowed text ≡ true → length text + around_text ≤ limit
-      → shape_of limit (collected_of number end text) ≡ Whole number end (length text)
+      → shape_of limit (collected_of number end text) ≡ Ok (number, end, length text)
   read_back limit n clean h =
       let within : length early + 1 < limit = omega (arith, long) in
       let back : 0x30 + number - 0x30 ≡ number = omega arith in

@@ -1,7 +1,8 @@
 -- The writing of one frame into lent memory.
 -- Assumes nothing.
-use Rattle.std.specs.Prelude.{◌≡◌, ℕ, ◌+◌, Bool, cond, ◌&&◌, List, [], ◌∷◌, ◌++◌, length, nat_le}
-use Rattle.std.proofs.Math.Option.{Option, none, some}
+use Rattle.framing.specs.declared.Refusal.TheVariants.{Malformed, NotFitting}
+use Rattle.framing.specs.declared.Refusal.{Refusal}
+use Rattle.std.specs.Prelude.{◌≡◌, ℕ, ◌+◌, Bool, cond, ◌&&◌, List, [], ◌∷◌, ◌++◌, length, nat_le, Err, None, Ok, Option, Result, Some}
 use Rattle.memory.specs.Parts.{splice}
 use Rattle.memory.specs.Tests.{unless}
 use Rattle.characters.specs.Control.{stx, etx, lf, cr, etb}
@@ -10,8 +11,6 @@ use Rattle.digits.specs.Number.{most_number, digit_for}
 use Rattle.frame.specs.Shape.{around_text}
 use Rattle.frame.specs.declared.End.{End}
 use Rattle.frame.specs.declared.End.TheVariants.{Etb, Etx}
-use Rattle.framing.specs.declared.Written.{Written}
-use Rattle.framing.specs.declared.Written.TheVariants.{Malformed, NotFitting, Length}
 
 abbrev pub end_byte : End → ℕ
 end_byte Etb = etb
@@ -37,20 +36,20 @@ abbrev pub has_room : List ℕ → List ℕ → Bool
 has_room text out = nat_le (length text + around_text) (length out)
 
 -- the length of the frame written, or why there is none: of any bytes, of which only the number is tested
-unfoldable pub put_of : ℕ → List ℕ → List ℕ → Written
-put_of number text out = unless (nat_le number most_number) Malformed (unless (has_room text out) NotFitting (Length (length text + around_text)))
+unfoldable pub put_of : ℕ → List ℕ → List ℕ → Result ℕ Refusal
+put_of number text out = unless (nat_le number most_number) (Err Malformed) (unless (has_room text out) (Err NotFitting) (Ok (length text + around_text)))
 
 -- the memory after it: the frame over its start, and unchanged where none is written
 unfoldable pub put_in : ℕ → End → List ℕ → List ℕ → List ℕ
 put_in number end text out = cond (nat_le number most_number && has_room text out) (splice out 0 (frame_of number end text)) out
 
 -- what writing a frame says: the answer, and the memory after it
-pub record FramePut (number : ℕ) (end : End) (text out : List ℕ) (r : Written) (out' : List ℕ) : Type 0 where
+pub record FramePut (number : ℕ) (end : End) (text out : List ℕ) (r : Result ℕ Refusal) (out' : List ℕ) : Type 0 where
   pub answer : r ≡ put_of number text out
   pub after : out' ≡ put_in number end text out
 
 -- the number of each refusal
-abbrev pub refused_by : Written → Option ℕ
-refused_by Malformed = some 46
-refused_by NotFitting = some 47
-refused_by (Length n) = none
+abbrev pub refused_by : Result ℕ Refusal → Option ℕ
+refused_by (Err Malformed) = Some 46
+refused_by (Err NotFitting) = Some 47
+refused_by (Ok n) = None

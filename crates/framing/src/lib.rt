@@ -8,25 +8,24 @@ use frame::End;
 
 mod writing; // writing.rt: the parts of a frame in lent memory
 
-// A frame written: why there is none, or its length.
+// Why no frame is written: its number is none, or the memory is too short.
 #[derive(Clone, Copy)]
-pub enum Written {
+pub enum Refusal {
     Malformed,
     NotFitting,
-    Length(usize),
 }
 
-// Writes a frame of any bytes over the start of out: for a text that is known to be allowed and to fit its frame.
-pub fn put_frame(number: u8, end: End, text: &[u8], out: &mut [u8]) -> Written
+// Writes a frame of any bytes over the start of out, and gives its length: for a text that is known to be allowed and to fit its frame.
+pub fn put_frame(number: u8, end: End, text: &[u8], out: &mut [u8]) -> Result<usize, Refusal>
     ensures { FramePut number end text.now out.old result out.new }
 {
     if MOST_NUMBER < number {
-        return Written::Malformed;
+        return Err(Refusal::Malformed);
     }
     let size = text.len() + frame::AROUND_TEXT;
     if out.len() < size {
-        return Written::NotFitting;
+        return Err(Refusal::NotFitting);
     }
     writing::lay_frame(number, end, text, out);
-    Written::Length(size)
+    Ok(size)
 }

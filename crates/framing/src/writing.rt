@@ -40,11 +40,9 @@ fn lay_text(first: u8, text: &[u8], out: &mut [u8]) -> u8
     ensures { (result ≡ (first + total text.now) % 256) × (out.new ≡ splice out.old 2 text.now) }
 {
     let mut sum: u8 = first;
-    let mut i = 0;
-    while i < text.len() {
-        out[i + 2] = text[i];
-        sum = std::num::wrapping_add_u8(sum, text[i]);
-        i += 1;
+    for (i, &b) in text.iter().enumerate() {
+        out[i + 2] = b;
+        sum = std::num::wrapping_add_u8(sum, b);
     }
     sum
 }

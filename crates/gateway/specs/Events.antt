@@ -1,6 +1,7 @@
 -- One event on the gateway, the start of a sending, and one taking: on eight records, what is kept of the readers, the ledger and the lent bytes.
 -- Assumes nothing.
-use Rattle.std.specs.Prelude.{ℕ, false, List, map, length, get_or, set, replicate, ltb}
+use Rattle.answers.specs.declared.Answer.{Answer}
+use Rattle.std.specs.Prelude.{ℕ, false, List, map, length, get_or, set, replicate, ltb, None, Result}
 use Rattle.memory.specs.Sizes.{lines}
 use Rattle.memory.specs.Tests.{unless}
 use Rattle.settings.specs.Settings.{standard_settings, by_dialogue}
@@ -12,14 +13,12 @@ use Rattle.taking.specs.Taking.{took_answer}
 use Rattle.line.specs.Line.{started_line, record_within}
 use Rattle.line.specs.declared.Line.{Line}
 use Rattle.line.specs.declared.State.TheVariants.{Neutral}
-use Rattle.line.specs.declared.Last.TheVariants.{NoneYet}
 use Rattle.answers.specs.declared.Answer.TheVariants.{NoLine}
 use Rattle.looking.specs.declared.Event.{Event}
 use Rattle.receiving.specs.Steps.{Memory, AfterStep, step_of}
 use Rattle.strips.specs.Readers.{Memo, fresh_memo}
 use Rattle.uploads.specs.Uploads.{AfterUpload, upload_of}
 use Rattle.orders.specs.Starts.{can_start, start_look, start_answer, line_started, texts_started}
-use Rattle.orders.specs.declared.Start.{Start}
 use Rattle.gateway.specs.Gateway.{Gateway, Handled}
 
 -- every line as it is set, nothing heard of any reader, the journal empty [E3, B1]
@@ -32,7 +31,7 @@ fresh_gateway = started_gateway (replicate lines standard_settings)
 
 -- line i's record; past the end, what a read gives there
 abbrev pub no_record : Line
-no_record = record { state = Neutral; collected = 0; joined = 0; seconds = 0; next = 0; last = NoneYet; refusing = false; settings = standard_settings }
+no_record = record { state = Neutral; collected = 0; joined = 0; seconds = 0; next = 0; last = None; refusing = false; settings = standard_settings }
 
 abbrev pub line_at : Gateway → ℕ → Line
 line_at g i = get_or g.lines i no_record
@@ -78,7 +77,7 @@ event_of shares g e m =
     (λ p. put_upload g e.line (upload_of shares p (line_at g e.line) (memo_at g e.line) g.ledger e m)))
 
 -- what a start leaves: it sees its own line's record and part of the unfinished texts, and of the other memories their lengths [L11, L13]
-abbrev pub started_with : Start → Gateway → ℕ → List ℕ → Memory → AfterEvent
+abbrev pub started_with : Result (Unit {0}) Answer → Gateway → ℕ → List ℕ → Memory → AfterEvent
 started_with x g i text m = record {
   handled = record {
     gateway = record { lines = set g.lines i (line_started x (line_at g i) text); memos = g.memos; ledger = g.ledger };
@@ -88,7 +87,7 @@ started_with x g i text m = record {
 }
 
 -- on a reader's line nothing is started: 60 [B1]
-abbrev pub start_in : Gateway → ℕ → List ℕ → Memory → Start
+abbrev pub start_in : Gateway → ℕ → List ℕ → Memory → Result (Unit {0}) Answer
 start_in g i text m = start_look i (record_within (line_at g i)) (can_start (line_at g i)) text (length m.journal) (length m.unfinished) (length m.frames)
 
 unfoldable pub start_of : Gateway → ℕ → List ℕ → Memory → AfterEvent

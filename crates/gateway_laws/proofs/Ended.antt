@@ -1,5 +1,8 @@
 -- No event is answered 54, in whatever state: a text that it completes ends with CR.
 -- Assumes nothing.
+use Rattle.std.specs.Prelude.{Err, Ok, Result}
+use Rattle.journal.specs.declared.Refusal.{Refusal}
+use Rattle.faults.specs.declared.Flaw.{Flaw}
 use mathlib.Core.Path.{◌≡◌, refl, sym, ap, subst}
 use mathlib.Core.Logic.{◌≢◌}
 use mathlib.Core.Bool.{Bool, true, false}
@@ -9,13 +12,10 @@ use borrow.Author.Tests.{ne_eqb}
 use lib.Dec.{eqb}
 use lib.ListN.{length}
 use Rattle.faults.specs.Faults.{fault_of}
-use Rattle.faults.specs.declared.Checked.{Checked}
-use Rattle.faults.specs.declared.Checked.TheVariants as checked
 use Rattle.faults.proofs.Places.{fault_ended}
 use Rattle.records.specs.Records.{ends_with_cr}
 use Rattle.journal.specs.Verdicts.{judge_of}
 use Rattle.journal.specs.declared.Ledger.{Ledger}
-use Rattle.journal.specs.declared.Verdict.{Verdict as Judgement}
 use Rattle.line.specs.declared.Line.{Line}
 use Rattle.answers.specs.Paper.{fault_number, is_faulty, number_of}
 use Rattle.answers.specs.declared.Answer.{Answer}
@@ -48,22 +48,22 @@ no_fault a h = every_but (λ b. is_faulty (number_of b)) is54 (λ vs. refl) a h
 
 -- ---- a text that is complete
 
-checked_ended : (x : Checked) → ((place : ℕ) → x ≢ checked.Faulty NoFinalCr place) → is54 (objection x) ≡ false
-checked_ended checked.Message h = refl
-checked_ended checked.NotText h = refl
-checked_ended (checked.Faulty f place) h = ne_eqb (fault_number f) 54 (λ e. h place (ap (λ (g : Fault). checked.Faulty g place) (fault_injective f NoFinalCr e)))
+checked_ended : (x : Result (Unit {0}) Flaw) → ((place : ℕ) → x ≢ Err (Flaw.Faulty NoFinalCr place)) → is54 (objection x) ≡ false
+checked_ended (Ok tt) h = refl
+checked_ended (Err Flaw.NotText) h = refl
+checked_ended (Err (Flaw.Faulty f place)) h = ne_eqb (fault_number f) 54 (λ e. h place (ap (λ (g : Fault). Err (Flaw.Faulty g place)) (fault_injective f NoFinalCr e)))
 
 objection_ended : (text : List ℕ) → ends_with_cr text ≡ true → is54 (objection_to text) ≡ false
 unfolding objection_to
 objection_ended text h = checked_ended (fault_of text) (λ place. fault_ended _ text place h)
 
-room_ended : (q : Judgement) → is54 (room_outcome q).answer ≡ false
-room_ended Judgement.Fits = refl
-room_ended Judgement.NoRoom = refl
-room_ended Judgement.Broken = refl
-room_ended Judgement.NoLine = refl
-room_ended Judgement.WrongSize = refl
-room_ended Judgement.Malformed = refl
+room_ended : (q : Result (Unit {0}) Refusal) → is54 (room_outcome q).answer ≡ false
+room_ended (Ok tt) = refl
+room_ended (Err Refusal.NoRoom) = refl
+room_ended (Err Refusal.Broken) = refl
+room_ended (Err Refusal.NoLine) = refl
+room_ended (Err Refusal.WrongSize) = refl
+room_ended (Err Refusal.Malformed) = refl
 
 -- ---- a look finds no fault
 

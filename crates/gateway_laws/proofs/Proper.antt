@@ -1,19 +1,19 @@
 -- Every verdict gives an answer that goes with its act.
 -- Assumes nothing.
+use Rattle.std.specs.Prelude.{Err, Ok, Result}
+use Rattle.journal.specs.declared.Refusal.{Refusal}
+use Rattle.faults.specs.declared.Flaw.{Flaw}
 use mathlib.Core.Path.{◌≡◌, refl, sym, ap, subst, ◌∙◌}
 use mathlib.Core.List.{List}
 use Prim.Native.Nat.{ℕ}
 use lib.ListN.{length}
 use Rattle.journal.specs.Verdicts.{judge_of}
 use Rattle.journal.specs.declared.Ledger.{Ledger}
-use Rattle.journal.specs.declared.Verdict.{Verdict as Judgement}
 use Rattle.line.specs.declared.Line.{Line}
 use Rattle.looking.specs.Views.{frames_of, texts_of, joined_text}
 use Rattle.looking.specs.Inner.Ready.{Ready}
 use Rattle.looking.specs.Looks.{look_of}
 use Rattle.faults.specs.Faults.{fault_of}
-use Rattle.faults.specs.declared.Checked.{Checked}
-use Rattle.faults.specs.declared.Checked.TheVariants as checked
 use Rattle.deciding.specs.Decisions.{objection, objection_to, room_outcome}
 use Rattle.deciding.proofs.Decisions.{outcome_cases}
 use Rattle.receiving.specs.Verdicts.{outcome_verdict, decided, own_work, work_of, verdict_of}
@@ -87,19 +87,19 @@ proper l = record {
   sends = λ t e. record { stays = refl; awaits = λ n h. refl; goes = λ s n h k. refl; over = refl; given_up = refl };
 }
 
-room_proper : (q : Judgement) (n : ℕ) → Proper (outcome_verdict (room_outcome q) n)
-room_proper Judgement.Fits n = refl
-room_proper Judgement.NoRoom n = refl
-room_proper Judgement.Broken n = refl
-room_proper Judgement.NoLine n = refl
-room_proper Judgement.WrongSize n = refl
-room_proper Judgement.Malformed n = refl
+room_proper : (q : Result (Unit {0}) Refusal) (n : ℕ) → Proper (outcome_verdict (room_outcome q) n)
+room_proper (Ok tt) n = refl
+room_proper (Err Refusal.NoRoom) n = refl
+room_proper (Err Refusal.Broken) n = refl
+room_proper (Err Refusal.NoLine) n = refl
+room_proper (Err Refusal.WrongSize) n = refl
+room_proper (Err Refusal.Malformed) n = refl
 
 -- the answer to a text that is no message decides against it
-checked_against : (x : Checked) → class_of (objection x) ≡ against
-checked_against checked.Message = refl
-checked_against checked.NotText = refl
-checked_against (checked.Faulty f place) = refl
+checked_against : (x : Result (Unit {0}) Flaw) → class_of (objection x) ≡ against
+checked_against (Ok tt) = refl
+checked_against (Err Flaw.NotText) = refl
+checked_against (Err (Flaw.Faulty f place)) = refl
 
 pub objection_against : (text : List ℕ) → class_of (objection_to text) ≡ against
 unfolding objection_to

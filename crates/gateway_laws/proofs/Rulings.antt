@@ -1,6 +1,10 @@
 -- What a ruling on a reader's line was found on: a refusal of 40 to 42, or a line within its limits, memory of the right sizes, and a ruling of five kinds.
 -- What is shown of each kind holds of every ruling.
 -- Assumes nothing.
+use Rattle.strips.specs.declared.Reply.TheVariants.{Again, More}
+use Rattle.strips.specs.declared.Reply.{Reply}
+use Rattle.std.specs.Prelude.{None, Option, Result, Some}
+use Rattle.journal.specs.declared.Refusal.{Refusal}
 use mathlib.Core.Path.{◌≡◌, refl}
 use mathlib.Core.Logic.{◌≢◌}
 use mathlib.Core.Bool.{Bool, true, false, cond, ◌||◌}
@@ -19,7 +23,6 @@ use Rattle.settings.specs.declared.Patient.{Patient}
 use Rattle.settings.specs.declared.Patient.TheVariants.{Ten, Thirteen}
 use Rattle.journal.specs.Verdicts.{judge_of}
 use Rattle.journal.specs.declared.Ledger.{Ledger}
-use Rattle.journal.specs.declared.Verdict.{Verdict as Judgement}
 use Rattle.line.specs.Line.{counts_within, block_within}
 use Rattle.line.specs.declared.Line.{Line}
 use Rattle.answers.specs.declared.Answer.{Answer}
@@ -39,8 +42,6 @@ use Rattle.strips.specs.Readers.{Memo, is_again}
 use Rattle.strips.specs.Sights.{is_inside, ends_block, sight_of}
 use Rattle.strips.specs.Hearings.{reply_answer, hearing_of}
 use Rattle.strips.specs.declared.Reader.{Reader}
-use Rattle.strips.specs.declared.Replied.{Replied}
-use Rattle.strips.specs.declared.Replied.TheVariants.{NoneYet, More, Again}
 use Rattle.strips.specs.declared.Sight.TheVariants.{Ignores, Adds, Judges}
 use Rattle.uploads.specs.Uploads.{Ruling, ruling, leave, add, settle, filing, block_bytes, judged_block, seen_as, ruling_of, ruling_on}
 use Rattle.gateway_laws.specs.Classes.{class_of, quiet, hearing}
@@ -55,10 +56,10 @@ block_room Ten n h = omega arith
 block_room Thirteen n h = omega arith
 
 -- a block that is not for storing is answered 11 or 70 to 72
-reply_hearing : (r : Replied) → class_of (reply_answer r) ≡ hearing
-reply_hearing NoneYet = refl
-reply_hearing More = refl
-reply_hearing Again = refl
+reply_hearing : (r : Option Reply) → class_of (reply_answer r) ≡ hearing
+reply_hearing None = refl
+reply_hearing (Some More) = refl
+reply_hearing (Some Again) = refl
 
 pub hearing_class : (x : Judged) (again : Bool) (r : Reader) → (hearing_of x again r).stores ≡ false → class_of (hearing_of x again r).answer ≡ hearing
 hearing_class judged.OddLength again r e = refl
@@ -78,13 +79,13 @@ module _ (shares : List ℕ) (p : Patient) (l : Line) (w : Memo) (d : Ledger) (i
     pub ignored : P (ruling leave Nothing)
     pub added : l.collected + 1 ≢ results_length p → P (ruling add Nothing)
     pub heard : (r : Reader) (a : Answer) → class_of a ≡ hearing → P (ruling (settle r) a)
-    pub filed : (q : Judgement) → P (filing q w.reader)
+    pub filed : (q : Result (Unit {0}) Refusal) → P (filing q w.reader)
 
   pub every_ruling : (P : Ruling → Type 0) → Rulings P → P (ruling_of shares p l w d i k journal frames)
   unfolding ruling_of sight_of
   every_ruling P c = by_kind k
     where
-      by_hearing : (x : Judged) (again : Bool) (q : Judgement) (stores : Bool) → (hearing_of x again w.reader).stores ≡ stores
+      by_hearing : (x : Judged) (again : Bool) (q : Result (Unit {0}) Refusal) (stores : Bool) → (hearing_of x again w.reader).stores ≡ stores
           → P (unless stores (ruling (settle (hearing_of x again w.reader).reader) (hearing_of x again w.reader).answer) (filing q w.reader))
       by_hearing x again q true e = c.filed q
       by_hearing x again q false e = c.heard (hearing_of x again w.reader).reader (hearing_of x again w.reader).answer (hearing_class x again w.reader e)

@@ -1,10 +1,12 @@
 -- What a taking leaves: 40, 41, 43, 44 and 45 leave everything equal, and only 8 changes the ledger, the journal and the buffer.
 -- Assumes nothing.
+use Rattle.std.specs.Prelude.{Err, None, Ok, Option, Result, Some, ℕ}
+use Rattle.journal.specs.declared.NotTaken.TheVariants.{Broken, BufferShort, NoLine, NothingWaiting, WrongSize}
+use Rattle.journal.specs.declared.NotTaken.{NotTaken}
 use mathlib.Core.Path.{◌≡◌, refl, ap}
 use mathlib.Core.Logic.{◌⊎◌, inl, inr}
 use mathlib.Core.Bool.{Bool, true, false, cond}
 use mathlib.Core.List.{List, [], ◌∷◌}
-use mathlib.Core.Option.{Option, none, some}
 use Prim.Native.Nat.{ℕ}
 use lib.Dec.{leb, ltb, eqb}
 use lib.ListN.{length}
@@ -15,8 +17,6 @@ use Rattle.journal.specs.Entries.{sizes, before, from}
 use Rattle.journal.specs.Chain.{chain}
 use Rattle.journal.specs.Removal.{AfterTaking, after_taking, take_at, take_oldest, take_from, take_of as take_entry}
 use Rattle.journal.specs.declared.Ledger.{Ledger}
-use Rattle.journal.specs.declared.Took.{Took}
-use Rattle.journal.specs.declared.Took.TheVariants.{Taken, NothingWaiting, BufferShort, Broken, NoLine, WrongSize}
 use Rattle.gateway.specs.Events.{AfterTake, take_of}
 use Rattle.taking.specs.Taking.{took_answer}
 use Rattle.gateway.specs.Gateway.{Gateway}
@@ -41,8 +41,8 @@ module _ (d : Ledger) (j b : List ℕ) where
     unmoved_oldest at (e ∷ es) = unmoved_at at e
 
     unmoved_from : (es : Option (List Entry)) → Unmoved (take_from d l es j b)
-    unmoved_from none = λ h. refl
-    unmoved_from (some es) = unmoved_oldest (sizes (before l es)) (from l es)
+    unmoved_from None = λ h. refl
+    unmoved_from (Some es) = unmoved_oldest (sizes (before l es)) (from l es)
 
     unmoved : Unmoved (take_entry d l j b)
     unfolding take_entry
@@ -63,13 +63,13 @@ taking_refused g i j b h =
     }
 
 -- there is no third answer: a taking is refused, or gives an entry
-took_class : (t : Took) → (class_of (took_answer t) ≡ quiet) ⊎ (class_of (took_answer t) ≡ taking)
-took_class (Taken n serial) = inr refl
-took_class NothingWaiting = inl refl
-took_class BufferShort = inl refl
-took_class Broken = inl refl
-took_class NoLine = inl refl
-took_class WrongSize = inl refl
+took_class : (t : Result (ℕ × ℕ) NotTaken) → (class_of (took_answer t) ≡ quiet) ⊎ (class_of (took_answer t) ≡ taking)
+took_class (Ok (n, serial)) = inr refl
+took_class (Err NothingWaiting) = inl refl
+took_class (Err BufferShort) = inl refl
+took_class (Err Broken) = inl refl
+took_class (Err NoLine) = inl refl
+took_class (Err WrongSize) = inl refl
 
 pub taking_class : (g : Gateway) (i : ℕ) (j b : List ℕ) → (class_of (take_of g i j b).handled.answer ≡ quiet) ⊎ (class_of (take_of g i j b).handled.answer ≡ taking)
 unfolding take_of

@@ -1,5 +1,7 @@
 -- The laws of one event on a strip reader's line.
 -- Assumes nothing.
+use Rattle.std.specs.Prelude.{Result, Ok, Err}
+use Rattle.journal.specs.declared.Refusal.{Refusal}
 use mathlib.Core.Path.{◌≡◌, refl, sym, ap, subst, ◌∙◌}
 use mathlib.Core.Logic.{◌≢◌, inl, inr}
 use mathlib.Core.Bool.{true}
@@ -16,7 +18,6 @@ use Rattle.settings.specs.Settings.{results_length}
 use Rattle.settings.specs.declared.Patient.{Patient}
 use Rattle.journal.specs.Storage.{grown, appended}
 use Rattle.journal.specs.declared.Ledger.{Ledger}
-use Rattle.journal.specs.declared.Verdict.{Verdict as Judgement}
 use Rattle.line.specs.Line.{most_seconds, last_within, counts_within, block_within}
 use Rattle.line.specs.declared.Line.{Line}
 use Rattle.answers.specs.declared.Answer.{Answer}
@@ -107,21 +108,21 @@ module _ (p : Patient) (l : Line) (within : block_within p l ≡ true) where
 
 -- ---- every ruling
 
-filing_goes : (q : Judgement) (r : Reader) → GoesWith (filing q r).deed (filing q r).answer
-filing_goes Judgement.Fits r = refl
-filing_goes Judgement.NoRoom r = inr refl
-filing_goes Judgement.Broken r = refl
-filing_goes Judgement.NoLine r = refl
-filing_goes Judgement.WrongSize r = refl
-filing_goes Judgement.Malformed r = refl
+filing_goes : (q : Result (Unit {0}) Refusal) (r : Reader) → GoesWith (filing q r).deed (filing q r).answer
+filing_goes (Ok tt) r = refl
+filing_goes (Err Refusal.NoRoom) r = inr refl
+filing_goes (Err Refusal.Broken) r = refl
+filing_goes (Err Refusal.NoLine) r = refl
+filing_goes (Err Refusal.WrongSize) r = refl
+filing_goes (Err Refusal.Malformed) r = refl
 
-filing_room : (p : Patient) (l : Line) (q : Judgement) (r : Reader) → Leaves-room p l (filing q r).deed
-filing_room p l Judgement.Fits r = tt
-filing_room p l Judgement.NoRoom r = tt
-filing_room p l Judgement.Broken r = tt
-filing_room p l Judgement.NoLine r = tt
-filing_room p l Judgement.WrongSize r = tt
-filing_room p l Judgement.Malformed r = tt
+filing_room : (p : Patient) (l : Line) (q : Result (Unit {0}) Refusal) (r : Reader) → Leaves-room p l (filing q r).deed
+filing_room p l (Ok tt) r = tt
+filing_room p l (Err Refusal.NoRoom) r = tt
+filing_room p l (Err Refusal.Broken) r = tt
+filing_room p l (Err Refusal.NoLine) r = tt
+filing_room p l (Err Refusal.WrongSize) r = tt
+filing_room p l (Err Refusal.Malformed) r = tt
 
 module _ (shares : List ℕ) (p : Patient) (l : Line) (w : Memo) (d : Ledger) (i : ℕ) (k : Kind) (journal frames : List ℕ) where
   abbrev work : Ruling

@@ -1,9 +1,10 @@
 -- One entry: its size, what was written is read back, and what follows it does not matter. All that laws of chains use of it.
 -- Assumes nothing.
-use mathlib.Core.Path.{◌≡◌, sym, ap, ◌∙◌}
+use mathlib.Core.Path.{◌≡◌, refl, sym, ap, ◌∙◌}
 use mathlib.Core.List.{List, ◌++◌}
 use mathlib.Core.Bool.{Bool, true, false}
 use Prim.Native.Nat.{ℕ, ◌+◌, ◌<◌, ◌≤◌}
+use Rattle.std.specs.Prelude.{cond, Some, None}
 use native.Mathlib.Nat.{add-zero}
 use native.Mathlib.Omega.{arith}
 use lib.ListN.{length, take, drop, length-append, take-append-drop}
@@ -14,11 +15,13 @@ use Rattle.memory.specs.Parts.{part, splice}
 use Rattle.packed.specs.Fields.{longest_field, FieldWritten}
 use Rattle.memory.proofs.Parts.{length_part, part_append_left, part_append_right, part_start}
 use Rattle.packed.proofs.Octets.{written_fits}
+use Rattle.memory.proofs.Tests.{clash}
 use Rattle.header.specs.Header.{serial_count, least_head, head_size, entry_size, head_number, header, head_of}
 use Rattle.header.specs.Entry.{Entry, encode, size, starts, first, first_head}
 use Rattle.header.specs.Inner.Entry.{Bytes}
 use Rattle.header.proofs.Heads.{head_size_low, head_size_high, head_number_below, head_header, head_append, length_header, line_below, serial_below, respelt}
 use Rattle.header.proofs.Starts.{Starts, starts_facts}
+use Rattle.header.specs.declared.Header.{Header}
 
 -- an entry that a chain can hold
 pub record Sound (e : Entry) : Type 0 where
@@ -50,21 +53,24 @@ sound_first bs t =
 
 -- ---- what a header that was read says of the bytes
 
-pub first_some : (cs : List ℕ) (b : Bool) → starts cs ≡ b → ((first_head cs).count ≡ 0 → ⊥) → (starts cs ≡ true) × (first_head cs ≡ head_of cs)
+pub first_some : (cs : List ℕ) {h : Header} → first_head cs ≡ Some h → (starts cs ≡ true) × (h ≡ head_of cs)
 unfolding first_head
-first_some cs true e n = (e, rw e)
-first_some cs false e n = absurd (n (rw e))
+first_some cs {h = h} e = by_start (starts cs) refl e
+  where
+    by_start : (b : Bool) → starts cs ≡ b → cond b (Some (head_of cs)) None ≡ Some h → (starts cs ≡ true) × (h ≡ head_of cs)
+    by_start true s q = (s, cc)
+    by_start false s q = clash cc
 
-pub first_none : (cs : List ℕ) (b : Bool) → starts cs ≡ b → (first_head cs).count ≡ 0 → starts cs ≡ false
+pub first_none : (cs : List ℕ) → first_head cs ≡ None → starts cs ≡ false
 unfolding first_head
-first_none cs true e n =
-    let s = starts_facts cs e in
-    let z : (head_of cs).count ≡ 0 = rw e at n in
-    absurd (omega (arith, s.low))
-first_none cs false e n = e
+first_none cs e = by_start (starts cs) refl e
+  where
+    by_start : (b : Bool) → starts cs ≡ b → cond b (Some (head_of cs)) None ≡ None → starts cs ≡ false
+    by_start true s q = clash cc
+    by_start false s q = s
 
 -- bytes that start with a whole entry have its header
-pub first_is : (cs : List ℕ) → starts cs ≡ true → first_head cs ≡ head_of cs
+pub first_is : (cs : List ℕ) → starts cs ≡ true → first_head cs ≡ Some (head_of cs)
 unfolding first_head
 first_is cs t = rw t
 

@@ -1,5 +1,6 @@
 -- The test of a whole entry, as facts.
 -- Assumes nothing.
+use Rattle.std.specs.Prelude.{None, Some}
 use mathlib.Core.Path.{◌≡◌, ap, ◌∙◌}
 use mathlib.Core.List.{List}
 use mathlib.Core.Bool.{true, false, ◌&&◌}
@@ -11,11 +12,10 @@ use borrow.Author.Tests.{leb-true, eqb-true, le-leb, lt-leb, eq-eqb}
 use Rattle.memory.specs.Sizes.{message_limit}
 use Rattle.memory.specs.Parts.{part}
 use Rattle.packed.specs.Fields.{pack, unpack, octets, field_at}
-use Rattle.packed.specs.declared.Field.TheVariants.{Value, Outside}
 use Rattle.memory.proofs.Tests.{and_left, and_right, is_false}
 use Rattle.packed.proofs.Octets.{field_value, field_outside}
 use Rattle.header.specs.Header.{least_head, entry_size, head_widths, fields_of, head_of}
-use Rattle.header.specs.Entry.{is_text, is_head, starts, no_header, first_head}
+use Rattle.header.specs.Entry.{is_text, is_head, starts, first_head}
 use Rattle.header.specs.Inner.Entry.{whole_head}
 use Rattle.header.specs.declared.Header.{Header}
 
@@ -49,11 +49,11 @@ pub head_of_law : (h : Header) (n : ℕ) → Head h n → is_head h n ≡ true
 head_of_law h n f = rw (eq-eqb _ _ f.spare, le-leb _ _ f.low, le-leb _ _ f.high, le-leb _ _ f.room)
 
 -- what the tests of a header say
-pub no_whole : (h : Header) (n : ℕ) → (Head h n → ⊥) → no_header ≡ whole_head h n
+pub no_whole : (h : Header) (n : ℕ) → (Head h n → ⊥) → None ≡ whole_head h n
 unfolding whole_head
 no_whole h n f = rw (is_false (is_head h n) (λ t. f (head_facts h n t)))
 
-pub a_whole : (h : Header) (n : ℕ) → Head h n → h ≡ whole_head h n
+pub a_whole : (h : Header) (n : ℕ) → Head h n → Some h ≡ whole_head h n
 unfolding whole_head
 a_whole h n f = rw (head_of_law h n f)
 
@@ -80,12 +80,12 @@ head_read : (bs : List ℕ) (n : ℕ) → pack (octets least_head) (part bs 0 le
 unfolding head_of
 head_read bs n e = rw (← e)
 
-pub first_read : (bs : List ℕ) (n : ℕ) → field_at bs 0 least_head ≡ Value n → whole_head (fields_of (unpack head_widths n)) (length bs) ≡ first_head bs
+pub first_read : (bs : List ℕ) (n : ℕ) → field_at bs 0 least_head ≡ Some n → whole_head (fields_of (unpack head_widths n)) (length bs) ≡ first_head bs
 unfolding whole_head first_head starts
 first_read bs n e =
     let (room, is) = field_value bs 0 least_head n e in
     ap (λ (h : Header). whole_head h (length bs)) (head_read bs n is) ∙ rw (le-leb least_head (length bs) room)
 
-pub first_unread : (bs : List ℕ) → field_at bs 0 least_head ≡ Outside → no_header ≡ first_head bs
+pub first_unread : (bs : List ℕ) → field_at bs 0 least_head ≡ None → None ≡ first_head bs
 unfolding first_head starts
 first_unread bs e = rw (lt-leb least_head (length bs) (field_outside bs 0 least_head (omega arith) e))

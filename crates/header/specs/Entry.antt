@@ -1,6 +1,6 @@
 -- One entry: its bytes, and whether bytes start with one.
 -- Assumes nothing.
-use Rattle.std.specs.Prelude.{ℕ, List, ◌++◌, Bool, cond, ◌&&◌, length, leb, eqb}
+use Rattle.std.specs.Prelude.{ℕ, List, ◌++◌, Bool, cond, ◌&&◌, length, leb, eqb, Option, Some, None}
 use Rattle.memory.specs.Sizes.{message_limit}
 use Rattle.memory.specs.Parts.{part}
 use Rattle.memory.specs.Tests.{between}
@@ -35,9 +35,6 @@ starts bs = leb least_head (length bs) && is_head (head_of bs) (length bs)
 unfoldable pub first : List ℕ → Entry
 first bs = record { line = (head_of bs).line; serial = (head_of bs).serial; text = part bs (head_size (head_of bs).count) (head_of bs).count }
 
--- its header; where they start with no whole entry, one that no entry has, with text length 0
-abbrev pub no_header : Header
-no_header = record { line = 0; spare = 0; count = 0; serial = 0 }
-
-unfoldable pub first_head : List ℕ → Header
-first_head bs = cond (starts bs) (head_of bs) no_header
+-- its header; none where they start with no whole entry
+unfoldable pub first_head : List ℕ → Option Header
+first_head bs = cond (starts bs) (Some (head_of bs)) None

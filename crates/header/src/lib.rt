@@ -27,6 +27,7 @@ const SPARE_AT: u64 = 268435456;
 const LINE_AT: u64 = 536870912;
 
 // The bytes of a header, and of an entry, by the length of the text.
+#[tactic(auto, unfolding(crate::specs::Header::head_size))]
 pub fn head_size(count: u32) -> usize
     ensures { (result ≡ head_size count) × (result ≤ longest_field) }
 {
@@ -47,6 +48,7 @@ pub fn number(line: u8, count: u32, serial: u16) -> u64
 }
 
 // The header that a number spells: line 3 bits, spare 1, text length 12, serial 16.
+#[tactic(auto, using(crate::proofs::Heads::fields_by_number))]
 fn fields(n: u64) -> Header
     ensures { result ≡ fields_of (unpack head_widths n) }
 {
@@ -58,44 +60,32 @@ fn fields(n: u64) -> Header
     }
 }
 
-// The header, or one with text length 0 where no entry with this header lies within `room` bytes.
-fn whole(h: Header, room: usize) -> Header
+// The header, if an entry with it lies within `room` bytes.
+#[tactic(auto, using(crate::proofs::Starts::no_whole, crate::proofs::Starts::a_whole))]
+fn whole(h: Header, room: usize) -> Option<Header>
     ensures { result ≡ whole_head h room }
 {
-    let none = Header {
-        line: 0,
-        spare: 0,
-        count: 0,
-        serial: 0,
-    };
     // The length's two tests stand side by side: they are compiled to one.
     if h.count < 1 {
-        return none;
+        return None;
     }
     if memory::MESSAGE_LIMIT < h.count {
-        return none;
+        return None;
     }
     if h.spare != 0 {
-        return none;
+        return None;
     }
     let count = h.count as u32;
     if room < entry_size(count) {
-        return none;
+        return None;
     }
-    h
+    Some(h)
 }
 
-// The header of the entry that s starts with, with text length 0 where s starts with no whole entry. No byte of the text is read.
-pub fn entry_at(s: &[u8]) -> Header
+// The header of the entry that s starts with, if it starts with a whole one. No byte of the text is read.
+pub fn entry_at(s: &[u8]) -> Option<Header>
     ensures { result ≡ first_head s.now }
 {
-    match packed::read_field(s, 0, LEAST_HEAD) {
-        packed::Field::Value(n) => whole(fields(n), s.len()),
-        packed::Field::Outside => Header {
-            line: 0,
-            spare: 0,
-            count: 0,
-            serial: 0,
-        },
-    }
+    let n = packed::read_field(s, 0, LEAST_HEAD)?;
+    whole(fields(n), s.len())
 }

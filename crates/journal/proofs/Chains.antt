@@ -1,7 +1,7 @@
 -- Laws of a chain of entries, and of one step of a walk along it.
 -- Assumes nothing.
+use Rattle.std.specs.Prelude.{None, Option, Some}
 use Rattle.std.proofs.Common.{◌≡◌, ℕ, zero, suc, ◌+◌, ◌-◌, ◌<◌, ◌≤◌, Bool, true, false, cond, eqb, List, [], ◌∷◌, ◌++◌, length, get_or, take, drop, sym, refl, ap, ◌∙◌, append_assoc, append-nil, not-suc-le-zero, arith, length-drop, drop_of_length-le, take_all, get_or-set_other, get_or-set_same, drop-drop, eq-eqb, ne_eqb}
-use mathlib.Core.Option.{Option, none, some}
 use native.Mathlib.Decide.{ℕ_discrete}
 use Rattle.memory.specs.Sizes.{lines, message_limit}
 use Rattle.header.specs.Header.{least_head, entry_size, head_of}
@@ -13,10 +13,7 @@ use Rattle.header.proofs.Heads.{head_size_low, line_below}
 use Rattle.header.proofs.Starts.{starts_facts}
 use Rattle.header.proofs.Single.{size_pos, size_first, first_some, first_none, too_few}
 
-pub some_inj : {A : Type 0} (a b : A) → some a ≡ some b → a ≡ b
-some_inj a b e = cc
-
-pub no_some : {A : Type 0} (a : A) (o : Option A) → o ≡ none → o ≡ some a → ⊥
+pub no_some : {A : Type 0} (a : A) (o : Option A) → o ≡ None → o ≡ Some a → ⊥
 no_some a o p q = let z : ◌≡◌ {A = ℕ} 0 1 = cc in omega arith
 
 -- ---- sizes
@@ -70,9 +67,9 @@ chain_steps (suc n) (suc m) (b ∷ bs) h k =
     let f = first (b ∷ bs) in
     let p = size_pos f in
     let l : length (drop (size f) (b ∷ bs)) ≡ suc (length bs) - size f = length-drop (size f) (b ∷ bs) in
-    ap (λ (o : Option (List Entry)). cond (starts (b ∷ bs)) (behind f o) none) (chain_steps n m (drop (size f) (b ∷ bs)) (omega arith) (omega arith))
+    ap (λ (o : Option (List Entry)). cond (starts (b ∷ bs)) (behind f o) None) (chain_steps n m (drop (size f) (b ∷ bs)) (omega arith) (omega arith))
 
-pub entries_nil : entries [] ≡ some []
+pub entries_nil : entries [] ≡ Some []
 unfolding entries
 entries_nil = refl
 
@@ -85,23 +82,23 @@ entries_go (b ∷ bs) t =
     let l : length (drop (size f) (b ∷ bs)) ≡ suc (length bs) - size f = length-drop (size f) (b ∷ bs) in
     rw t (ap (behind f) (chain_steps (length bs) (length (drop (size f) (b ∷ bs))) (drop (size f) (b ∷ bs)) (omega arith) (omega arith)))
 
-pub entries_stop : (bs : List ℕ) → 0 < length bs → starts bs ≡ false → entries bs ≡ none
+pub entries_stop : (bs : List ℕ) → 0 < length bs → starts bs ≡ false → entries bs ≡ None
 unfolding entries
 entries_stop [] h t = absurd (not-suc-le-zero h)
 entries_stop (b ∷ bs) h t = rw t
 
 -- entries in front of a chain
 abbrev pub prepend : List Entry → Option (List Entry) → Option (List Entry)
-prepend ds none = none
-prepend ds (some es) = some (ds ++ es)
+prepend ds None = None
+prepend ds (Some es) = Some (ds ++ es)
 
 pub prepend_nil : (o : Option (List Entry)) → prepend [] o ≡ o
-prepend_nil none = refl
-prepend_nil (some es) = refl
+prepend_nil None = refl
+prepend_nil (Some es) = refl
 
 pub prepend_behind : (ds : List Entry) (e : Entry) (o : Option (List Entry)) → prepend ds (behind e o) ≡ prepend (ds ++ e ∷ []) o
-prepend_behind ds e none = refl
-prepend_behind ds e (some es) = ap some (sym (append_assoc ds (e ∷ []) es))
+prepend_behind ds e None = refl
+prepend_behind ds e (Some es) = ap Some (sym (append_assoc ds (e ∷ []) es))
 
 -- ---- a walk that has passed the entries `done` and stands at `at`
 
@@ -113,11 +110,11 @@ pub record Passed (bs : List ℕ) (at : ℕ) (done : List Entry) : Type 0 where
 pub walk_start : (bs : List ℕ) → Passed bs 0 []
 walk_start bs = record { passed = refl; within = omega arith; rest = sym (prepend_nil (entries bs)) }
 
-pub walk_end : (bs : List ℕ) (at : ℕ) (done : List Entry) → Passed bs at done → length bs ≤ at → entries bs ≡ some done
-walk_end bs at done w h = w.rest ∙ rw (drop_of_length-le bs h, entries_nil) (ap some (append-nil done))
+pub walk_end : (bs : List ℕ) (at : ℕ) (done : List Entry) → Passed bs at done → length bs ≤ at → entries bs ≡ Some done
+walk_end bs at done w h = w.rest ∙ rw (drop_of_length-le bs h, entries_nil) (ap Some (append-nil done))
 
 -- bytes that are too few for a header are no entry
-pub walk_short : (bs : List ℕ) (at : ℕ) (done : List Entry) → Passed bs at done → at < length bs → length bs - at < least_head → entries bs ≡ none
+pub walk_short : (bs : List ℕ) (at : ℕ) (done : List Entry) → Passed bs at done → at < length bs → length bs - at < least_head → entries bs ≡ None
 walk_short bs at done w more h =
     let some_left : 0 < length (drop at bs) = rw length-drop (omega arith) in
     let few : length (drop at bs) < least_head = rw length-drop h in
@@ -132,20 +129,17 @@ pub record Stepped (bs : List ℕ) (at : ℕ) (done : List Entry) (h : Header) :
   pub fits : at + entry_size h.count ≤ length bs
   pub next : Passed bs (at + entry_size h.count) (done ++ first (drop at bs) ∷ [])
 
-module _ (bs : List ℕ) (at : ℕ) (done : List Entry) (w : Passed bs at done) (more : at < length bs) (h : Header) (read : h ≡ first_head (drop at bs)) where
-  pub walk_none : h.count ≡ 0 → entries bs ≡ none
+module _ (bs : List ℕ) (at : ℕ) (done : List Entry) (w : Passed bs at done) (more : at < length bs) where
+  pub walk_none : first_head (drop at bs) ≡ None → entries bs ≡ None
   walk_none z =
-      let c : (first_head (drop at bs)).count ≡ 0 = rw read at z in
       let l : 0 < length (drop at bs) = rw length-drop (omega arith) in
-      w.rest ∙ ap (prepend done) (entries_stop (drop at bs) l (first_none (drop at bs) (starts (drop at bs)) refl c))
+      w.rest ∙ ap (prepend done) (entries_stop (drop at bs) l (first_none (drop at bs) z))
 
-  pub walk_step : (h.count ≡ 0 → ⊥) → Stepped bs at done h
+  pub walk_step : (h : Header) → first_head (drop at bs) ≡ Some h → Stepped bs at done h
   unfolding first
-  walk_step n =
-      let c : (first_head (drop at bs)).count ≡ 0 → ⊥ = rw read at n in
-      let (t, e) = first_some (drop at bs) (starts (drop at bs)) refl c in
+  walk_step h read =
+      let (t, k) = first_some (drop at bs) read in
       let s = starts_facts (drop at bs) t in
-      let k : h ≡ head_of (drop at bs) = read ∙ e in
       let long : size (first (drop at bs)) ≡ entry_size h.count = rw k (size_first (drop at bs) s) in
       let room : entry_size h.count ≤ length (drop at bs) = rw k s.room in
       let fits : at + entry_size h.count ≤ length bs = omega (arith, room, length-drop at bs) in
@@ -168,3 +162,8 @@ module _ (bs : List ℕ) (at : ℕ) (done : List Entry) (w : Passed bs at done) 
 -- the part of a slice that is lent from `at` on
 pub rest_of : (s : List ℕ) (at : ℕ) → take (length s - at) (drop at s) ≡ drop at s
 rest_of s at = take_all (length s - at) (drop at s) (rw length-drop (omega arith))
+
+-- the entry that a walk stands at, where a header was read from the rest that is lent
+pub stepped_at : (bs : List ℕ) (at : ℕ) (done : List Entry) → Passed bs at done → at < length bs → (r : Option Header) (h : Header)
+    → r ≡ first_head (take (length bs - at) (drop at bs)) → r ≡ Some h → Stepped bs at done h
+stepped_at bs at done w more r h read is = walk_step bs at done w more h (ap first_head (sym (rest_of bs at)) ∙ sym read ∙ is)

@@ -1,12 +1,13 @@
 -- Any two outcomes that a contract of this crate allows are equal.
 -- Assumes nothing.
+use Rattle.std.specs.Prelude.{Result}
+use Rattle.journal.specs.declared.Refusal.{Refusal}
 use Rattle.std.proofs.Common.{◌≡◌, ℕ, List, sym, ◌∙◌}
 use Rattle.journal.specs.Chain.{fresh_ledger}
 use Rattle.journal.specs.Verdicts.{judge_of}
 use Rattle.journal.specs.Storage.{Stored}
 use Rattle.journal.specs.Removal.{TakenFrom}
 use Rattle.journal.specs.declared.Ledger.{Ledger}
-use Rattle.journal.specs.declared.Verdict.{Verdict}
 use Rattle.journal.specs.declared.Storing.{Storing}
 use Rattle.journal.specs.declared.Taking.{Taking}
 
@@ -15,7 +16,7 @@ pub fresh_once : {r q : Ledger} → r ≡ fresh_ledger → q ≡ fresh_ledger �
 fresh_once a b = a ∙ sym b
 
 -- `judge`
-pub judged_once : (d : Ledger) (sh : List ℕ) (l n : ℕ) (j : List ℕ) {r q : Verdict} → r ≡ judge_of d sh l n j → q ≡ judge_of d sh l n j → r ≡ q
+pub judged_once : (d : Ledger) (sh : List ℕ) (l n : ℕ) (j : List ℕ) {r q : Result (Unit {0}) Refusal} → r ≡ judge_of d sh l n j → q ≡ judge_of d sh l n j → r ≡ q
 judged_once d sh l n j a b = a ∙ sym b
 
 -- `store`

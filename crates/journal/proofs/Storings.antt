@@ -1,6 +1,9 @@
 -- Storing: what the code did is what the definition says.
 -- Assumes nothing.
-use Rattle.std.proofs.Common.{◌≡◌, ℕ, ◌+◌, ◌<◌, ◌≤◌, Bool, true, false, cond, List, length, sym, refl, ap, ◌∙◌, arith}
+use Rattle.std.specs.Result.{is_ok, is_err}
+use Rattle.std.specs.Prelude.{Result, Ok, Err}
+use Rattle.journal.specs.declared.Refusal.{Refusal}
+use Rattle.std.proofs.Common.{◌≡◌, ℕ, ◌+◌, ◌<◌, ◌≤◌, Bool, true, false, cond, List, length, sym, refl, ap, ◌∙◌, arith, true≢false}
 use Rattle.memory.specs.Sizes.{lines, message_limit, journal_size}
 use Rattle.memory.specs.Parts.{splice}
 use Rattle.memory.specs.Moves.{Copied}
@@ -9,12 +12,10 @@ use Rattle.memory.proofs.Parts.{length_splice, splice_join}
 use Rattle.memory.proofs.Moves.{copied_fits}
 use Rattle.header.specs.Header.{serial_count, head_size, entry_size, head_number, header}
 use Rattle.header.specs.Entry.{encode}
-use Rattle.journal.specs.Answers.{is_fits}
 use Rattle.journal.specs.Verdicts.{judge_of}
 use Rattle.journal.specs.Inner.Storage.{written, Ready, Appended}
 use Rattle.journal.specs.Storage.{grown, appended, after_storing, store_of, Stored}
 use Rattle.journal.specs.declared.Ledger.{Ledger}
-use Rattle.journal.specs.declared.Verdict.{Verdict}
 use Rattle.header.proofs.Heads.{length_header}
 use Rattle.header.proofs.Single.{head_written}
 use Rattle.journal.proofs.Wholes.{kept, used_below}
@@ -41,7 +42,7 @@ two_writes l s at t j bt h n r₁ r₂ j₁ j₂ (line, most, size, fits) q hs n
 -- ---- the verdict and what follows it
 
 module _ (d : Ledger) (sh : List ℕ) (l : ℕ) (t j : List ℕ) where
-  pub ready : is_fits (judge_of d sh l (length t) j) ≡ true → length d.used ≡ lines → Ready d l t j
+  pub ready : is_ok (judge_of d sh l (length t) j) ≡ true → length d.used ≡ lines → Ready d l t j
   ready q u =
       let f = fits_facts d sh l (length t) j q in
       let k = kept d j f.whole in
@@ -56,17 +57,25 @@ module _ (d : Ledger) (sh : List ℕ) (l : ℕ) (t j : List ℕ) where
   -- a storing answers what `judge` would
   pub answer_is_verdict : (store_of d sh l t j).storing.answer ≡ judge_of d sh l (length t) j
   unfolding store_of
-  answer_is_verdict = either (judge_of d sh l (length t) j) (is_fits (judge_of d sh l (length t) j))
+  answer_is_verdict = either (judge_of d sh l (length t) j) (is_ok (judge_of d sh l (length t) j))
     where
-      either : (v : Verdict) (b : Bool) → (cond b (after_storing (grown d l (length t)) v (appended d l t j)) (after_storing d v j)).storing.answer ≡ v
+      either : (v : Result (Unit {0}) Refusal) (b : Bool) → (cond b (after_storing (grown d l (length t)) v (appended d l t j)) (after_storing d v j)).storing.answer ≡ v
       either v true = refl
       either v false = refl
 
-  pub not_stored : (v : Verdict) → v ≡ judge_of d sh l (length t) j → is_fits v ≡ false → Stored d sh l t j (record { ledger = d; answer = v }) j
+  pub not_stored : (v : Result (Unit {0}) Refusal) → v ≡ judge_of d sh l (length t) j → is_ok v ≡ false → Stored d sh l t j (record { ledger = d; answer = v }) j
   unfolding store_of
   not_stored v e f = record { result = rw (← e, f); after = rw (← e, f) }
 
-  pub is_stored : (v : Verdict) (d' : Ledger) (j' : List ℕ) → v ≡ judge_of d sh l (length t) j → is_fits v ≡ true → Appended d l t j d' j'
+  pub is_stored : (v : Result (Unit {0}) Refusal) (d' : Ledger) (j' : List ℕ) → v ≡ judge_of d sh l (length t) j → is_ok v ≡ true → Appended d l t j d' j'
       → Stored d sh l t j (record { ledger = d'; answer = v }) j'
   unfolding store_of
   is_stored v d' j' e f a = record { result = rw (← e, f, a.result); after = rw (← e, f) a.after }
+
+pub no_err : {A E : Type 0} (r : Result A E) → is_err r ≡ false → is_ok r ≡ true
+no_err (Ok a) e = refl
+no_err (Err e) q = absurd (true≢false q)
+
+pub an_err : {A E : Type 0} (r : Result A E) → is_err r ≡ true → is_ok r ≡ false
+an_err (Ok a) e = absurd (true≢false (sym e))
+an_err (Err e) q = refl

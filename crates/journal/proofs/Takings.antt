@@ -1,7 +1,10 @@
 -- Taking: what the code did is what the definition says.
 -- Assumes nothing.
+use Rattle.std.proofs.lemmas.Option.{same_Some}
+use Rattle.std.specs.Option.{is_some}
+use Rattle.std.specs.Prelude.{Err, None, Ok, Option, Some}
+use Rattle.journal.specs.declared.NotTaken.TheVariants.{Broken, BufferShort, NoLine, NothingWaiting, WrongSize}
 use Rattle.std.proofs.Common.{◌≡◌, ℕ, ◌+◌, ◌-◌, ◌<◌, ◌≤◌, Bool, true, false, leb, List, [], ◌∷◌, ◌++◌, length, get_or, take, drop, sym, refl, ap, ◌∙◌, true≢false, arith, length-drop, length-take-le, take-take, drop-drop, le-ltb, lt-ltb, eq-eqb, ne_eqb, le-leb}
-use mathlib.Core.Option.{Option, none, some}
 use borrow.Author.Tests.{lt-leb}
 use Rattle.memory.specs.Sizes.{lines, message_limit, journal_size}
 use Rattle.memory.specs.Parts.{part, splice}
@@ -11,13 +14,12 @@ use Rattle.memory.proofs.Moves.{copied_fits, closed_fits}
 use Rattle.header.specs.Header.{head_size, entry_size, head_of}
 use Rattle.header.specs.Entry.{Entry, size, first, first_head}
 use Rattle.journal.specs.Entries.{sizes, entries, before, from}
-use Rattle.journal.specs.Chain.{chain, is_some}
+use Rattle.journal.specs.Chain.{chain}
 use Rattle.journal.specs.Removal.{shrunk_by, shrunk, without, take_at, take_of, TakenFrom}
 use Rattle.journal.specs.Inner.Removal.{rest, Stands, TakenOut, TakenAt}
 use Rattle.header.specs.declared.Header.{Header}
 use Rattle.journal.specs.declared.Ledger.{Ledger}
 use Rattle.journal.specs.declared.Taking.{Taking}
-use Rattle.journal.specs.declared.Took.TheVariants.{Taken, NothingWaiting, BufferShort, Broken, NoLine, WrongSize}
 use Rattle.header.proofs.Starts.{starts_facts}
 use Rattle.header.proofs.Single.{size_pos, size_first, text_first, first_is}
 use Rattle.journal.proofs.Chains.{sizes_append}
@@ -27,9 +29,12 @@ use Rattle.journal.proofs.Wholes.{Kept}
 
 -- ---- at a place
 
-module _ (d : Ledger) (l at : ℕ) (j : List ℕ) (s : Stands d l at j) (h : Header) (read : h ≡ first_head (take (d.in_use - at) (drop at j))) where
+pub head_there : (d : Ledger) (l at : ℕ) (j : List ℕ) → Stands d l at j → first_head (take (d.in_use - at) (drop at j)) ≡ Some (head_of (rest d at j))
+head_there d l at j s = ap first_head (sym (drop_take at d.in_use j)) ∙ first_is (rest d at j) s.whole
+
+module _ (d : Ledger) (l at : ℕ) (j : List ℕ) (s : Stands d l at j) (h : Header) (read : first_head (take (d.in_use - at) (drop at j)) ≡ Some h) where
   head : h ≡ head_of (rest d at j)
-  head = read ∙ ap first_head (sym (drop_take at d.in_use j)) ∙ first_is (rest d at j) s.whole
+  head = same_Some _ _ (sym read ∙ head_there d l at j s)
 
   pub record Bounds : Type 0 where
     pub long : size (first (rest d at j)) ≡ entry_size h.count
@@ -56,14 +61,14 @@ module _ (d : Ledger) (l at : ℕ) (j : List ℕ) (s : Stands d l at j) (h : Hea
       let m : h.count ≤ d.in_use - start = omega (arith, b.fits, e) in
       rw (n, ← head, drop-drop (head_size h.count) at (take d.in_use j), ← e, drop_take start d.in_use j) (take-take h.count (d.in_use - start) (drop start j) m)
 
-  pub taken_short : (b : List ℕ) → length b < h.count → TakenAt d l at j b (record { ledger = d; answer = BufferShort }) j b
+  pub taken_short : (b : List ℕ) → length b < h.count → TakenAt d l at j b (record { ledger = d; answer = Err BufferShort }) j b
   unfolding take_at
   taken_short b k =
       let e : leb (length (first (rest d at j)).text) (length b) ≡ false = lt-leb (length (first (rest d at j)).text) (length b) (omega (arith, text_long)) in
       record { result = rw e; after = rw e; lent = rw e }
 
   pub taken_at : (b j' b' : List ℕ) (d' : Ledger) (n : ℕ) → n ≡ entry_size h.count → h.count ≤ length b → TakenOut at h.count d.in_use j b j' b' → d' ≡ shrunk_by d l n
-      → TakenAt d l at j b (record { ledger = d'; answer = Taken h.count h.serial }) j' b'
+      → TakenAt d l at j b (record { ledger = d'; answer = Ok (h.count, h.serial) }) j' b'
   unfolding take_at shrunk without first
   taken_at b j' b' d' n q k out less =
       let x = bounds in
@@ -113,7 +118,7 @@ module _ (d : Ledger) (l at : ℕ) (j : List ℕ) (line : l < lines) (long : len
   oldest (f ∷ fs) e n =
       let w = k.whole in
       let split : before l k.es ++ f ∷ fs ≡ k.es = ap (λ (x : List Entry). before l k.es ++ x) (sym e) ∙ before_from l k.es in
-      let there : entries (take d.in_use j) ≡ some (before l k.es ++ f ∷ fs) = w.there ∙ ap some (sym split) in
+      let there : entries (take d.in_use j) ≡ Some (before l k.es ++ f ∷ fs) = w.there ∙ ap Some (sym split) in
       let o = entries_cons (rest d at j) f fs (rw p (entries_drop (before l k.es) (f ∷ fs) (take d.in_use j) there)) in
       let m : length (rest d at j) ≡ d.in_use - at = rw (length-drop, length-take-le d.in_use j w.room) in
       record {
@@ -133,7 +138,7 @@ module _ (d : Ledger) (l at : ℕ) (j : List ℕ) (line : l < lines) (long : len
   pub an_oldest : (at ≡ d.in_use → ⊥) → Oldest
   an_oldest n = oldest (from l k.es) refl n
 
-  pub none_waits : (b : List ℕ) → at ≡ d.in_use → TakenFrom d l j b (record { ledger = d; answer = NothingWaiting }) j b
+  pub none_waits : (b : List ℕ) → at ≡ d.in_use → TakenFrom d l j b (record { ledger = d; answer = Err NothingWaiting }) j b
   unfolding take_of
   none_waits b q =
       let e₀ = lt-ltb l lines line in
@@ -159,22 +164,22 @@ module _ (d : Ledger) (l at : ℕ) (j : List ℕ) (line : l < lines) (long : len
 -- ---- the tests in front
 
 module _ (d : Ledger) (l : ℕ) (j b : List ℕ) where
-  pub taken_line : lines ≤ l → TakenFrom d l j b (record { ledger = d; answer = NoLine }) j b
+  pub taken_line : lines ≤ l → TakenFrom d l j b (record { ledger = d; answer = Err NoLine }) j b
   unfolding take_of
   taken_line h = record { result = rw (le-ltb l lines h); after = rw (le-ltb l lines h); lent = rw (le-ltb l lines h) }
 
-  pub taken_size : l < lines → (length j ≡ journal_size → ⊥) → TakenFrom d l j b (record { ledger = d; answer = WrongSize }) j b
+  pub taken_size : l < lines → (length j ≡ journal_size → ⊥) → TakenFrom d l j b (record { ledger = d; answer = Err WrongSize }) j b
   unfolding take_of
   taken_size h n =
       let e₀ = lt-ltb l lines h in
       let e₁ = ne_eqb (length j) journal_size n in
       record { result = rw (e₀, e₁); after = rw (e₀, e₁); lent = rw (e₀, e₁) }
 
-  is_none : (o : Option (List Entry)) → is_some o ≡ false → o ≡ none
-  is_none none e = refl
-  is_none (some es) e = absurd (true≢false e)
+  is_none : (o : Option (List Entry)) → is_some o ≡ false → o ≡ None
+  is_none None e = refl
+  is_none (Some es) e = absurd (true≢false e)
 
-  pub taken_broken : l < lines → length j ≡ journal_size → is_some (chain d j) ≡ false → TakenFrom d l j b (record { ledger = d; answer = Broken }) j b
+  pub taken_broken : l < lines → length j ≡ journal_size → is_some (chain d j) ≡ false → TakenFrom d l j b (record { ledger = d; answer = Err Broken }) j b
   unfolding take_of
   taken_broken h s n =
       let e₀ = lt-ltb l lines h in

@@ -1,7 +1,6 @@
 -- The journal that a ledger tells of: whole, or broken (answer 43).
 -- Assumes nothing.
-use Rattle.std.specs.Prelude.{ℕ, zero, suc, Bool, true, false, cond, ◌&&◌, List, length, take, replicate, nat_eq, nat_le, slice_index}
-use Rattle.std.proofs.Math.Option.{Option, none, some}
+use Rattle.std.specs.Prelude.{ℕ, zero, suc, Bool, true, cond, ◌&&◌, List, length, take, replicate, nat_eq, nat_le, slice_index, None, Option, Some}
 use Rattle.memory.specs.Sizes.{lines}
 use Rattle.header.specs.Entry.{Entry}
 use Rattle.journal.specs.Entries.{entries, total}
@@ -21,13 +20,9 @@ abbrev pub agree : List ℕ → List Entry → Bool
 agree used es = every lines (λ l. nat_eq (slice_index used l) (total l es))
 
 abbrev pub counted : List ℕ → Option (List Entry) → Option (List Entry)
-counted used none = none
-counted used (some es) = cond (agree used es) (some es) none
+counted used None = None
+counted used (Some es) = cond (agree used es) (Some es) None
 
 -- the entries waiting; none exactly if the journal is broken: the bytes in use exceed it, are no whole chain, or its sums are not the used counts [A43, J9, J10]
 unfoldable pub chain : Ledger → List ℕ → Option (List Entry)
-chain d j = cond (nat_le d.in_use (length j)) (counted d.used (entries (take d.in_use j))) none
-
-abbrev pub is_some : {A : Type 0} → Option A → Bool
-is_some none = false
-is_some (some a) = true
+chain d j = cond (nat_le d.in_use (length j)) (counted d.used (entries (take d.in_use j))) None

@@ -1,13 +1,12 @@
 -- Bytes as a chain of entries, one behind the other in the order of storing.
 -- Assumes nothing.
-use Rattle.std.specs.Prelude.{ℕ, zero, suc, ◌+◌, Bool, true, false, cond, List, [], ◌∷◌, length, drop, ◌==◌}
-use Rattle.std.proofs.Math.Option.{Option, none, some}
+use Rattle.std.specs.Prelude.{ℕ, zero, suc, ◌+◌, Bool, true, false, cond, List, [], ◌∷◌, length, drop, ◌==◌, None, Option, Some}
 use Rattle.header.specs.Entry.{Entry, size, starts, first}
 
 -- an entry in front of a chain, if that is one
 abbrev pub behind : Entry → Option (List Entry) → Option (List Entry)
-behind e none = none
-behind e (some es) = some (e ∷ es)
+behind e None = None
+behind e (Some es) = Some (e ∷ es)
 
 abbrev pub is_empty : List ℕ → Bool
 is_empty [] = true
@@ -15,8 +14,8 @@ is_empty (b ∷ bs) = false
 
 -- the chain that bytes are, looked for through at most n entries
 abbrev pub chain_in : ℕ → List ℕ → Option (List Entry)
-chain_in zero bs = cond (is_empty bs) (some []) none
-chain_in (suc n) bs = cond (is_empty bs) (some []) (cond (starts bs) (behind (first bs) (chain_in n (drop (size (first bs)) bs))) none)
+chain_in zero bs = cond (is_empty bs) (Some []) None
+chain_in (suc n) bs = cond (is_empty bs) (Some []) (cond (starts bs) (behind (first bs) (chain_in n (drop (size (first bs)) bs))) None)
 
 -- the entries that bytes are a whole chain of; none where they are not. No entry is empty, so there are no more entries than bytes. [J1, J9]
 unfoldable pub entries : List ℕ → Option (List Entry)

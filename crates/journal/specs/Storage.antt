@@ -1,14 +1,14 @@
 -- What a storing does to the ledger and the journal, and what it answers.
 -- Assumes nothing.
-use Rattle.std.specs.Prelude.{◌≡◌, ℕ, ◌+◌, ◌%◌, cond, List, length, slice_index, slice_set}
+use Rattle.std.specs.Result.{is_ok}
+use Rattle.journal.specs.declared.Refusal.{Refusal}
+use Rattle.std.specs.Prelude.{◌≡◌, ℕ, ◌+◌, ◌%◌, cond, List, length, slice_index, slice_set, Result}
 use Rattle.memory.specs.Parts.{splice}
 use Rattle.header.specs.Header.{serial_count, entry_size}
 use Rattle.header.specs.Entry.{Entry, encode}
 use Rattle.room.specs.Room.{raised}
-use Rattle.journal.specs.Answers.{is_fits}
 use Rattle.journal.specs.Verdicts.{judge_of}
 use Rattle.journal.specs.declared.Ledger.{Ledger}
-use Rattle.journal.specs.declared.Verdict.{Verdict}
 use Rattle.journal.specs.declared.Storing.{Storing}
 
 -- the entry that a text becomes: it gets the line's serial [J3]
@@ -35,12 +35,12 @@ pub record AfterStoring : Type 0 where
   pub storing : Storing
   pub journal : List ℕ
 
-abbrev pub after_storing : Ledger → Verdict → List ℕ → AfterStoring
+abbrev pub after_storing : Ledger → Result (Unit {0}) Refusal → List ℕ → AfterStoring
 after_storing d v j = record { storing = record { ledger = d; answer = v }; journal = j }
 
 -- stored if it fits; otherwise nothing changes
-abbrev pub store_by : Verdict → Ledger → ℕ → List ℕ → List ℕ → AfterStoring
-store_by v d l t j = cond (is_fits v) (after_storing (grown d l (length t)) v (appended d l t j)) (after_storing d v j)
+abbrev pub store_by : Result (Unit {0}) Refusal → Ledger → ℕ → List ℕ → List ℕ → AfterStoring
+store_by v d l t j = cond (is_ok v) (after_storing (grown d l (length t)) v (appended d l t j)) (after_storing d v j)
 
 unfoldable pub store_of : Ledger → List ℕ → ℕ → List ℕ → List ℕ → AfterStoring
 store_of d shares l t j = store_by (judge_of d shares l (length t) j) d l t j

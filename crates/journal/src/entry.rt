@@ -33,16 +33,11 @@ fn grow(ledger: crate::Ledger, line: usize, size: usize) -> crate::Ledger
     requires { (line < lines) × (ledger.in_use + size ≤ journal_size) × (slice_index ledger.used line ≤ ledger.in_use) }
     ensures { result ≡ grown_by ledger line size }
 {
-    let mut used = ledger.used;
-    used[line] += size as u32;
-    let mut serials = ledger.serials;
-    let serial = serials[line];
-    serials[line] = std::num::wrapping_add_u16(serial, 1);
-    crate::Ledger {
-        in_use: ledger.in_use + size,
-        used,
-        serials,
-    }
+    let mut grown = ledger;
+    grown.in_use += size;
+    grown.used[line] += size as u32;
+    grown.serials[line] = grown.serials[line].wrapping_add(1);
+    grown
 }
 
 // Takes out the entry that stands at `at`, if its text fits into the buffer.
@@ -57,18 +52,18 @@ pub fn take_at(
     ensures { TakenAt ledger line at journal.old buffer.old result journal.new buffer.new }
 {
     let in_use = ledger.in_use;
-    let h = header::entry_at(&journal[at..in_use]);
+    let h = header::entry_at(&journal[at..in_use]).unwrap();
     let count = h.count;
     if buffer.len() < count {
         return crate::Taking {
             ledger,
-            answer: crate::Took::BufferShort,
+            answer: Err(crate::NotTaken::BufferShort),
         };
     }
     take_out(at, count, in_use, journal, buffer);
     crate::Taking {
         ledger: shrink(ledger, line, header::entry_size(count as u32)),
-        answer: crate::Took::Taken(count, h.serial),
+        answer: Ok((count, h.serial)),
     }
 }
 
@@ -89,12 +84,8 @@ fn shrink(ledger: crate::Ledger, line: usize, size: usize) -> crate::Ledger
     requires { (line < lines) × (size ≤ journal_size) × (size ≤ ledger.in_use) × (size ≤ slice_index ledger.used line) }
     ensures { result ≡ shrunk_by ledger line size }
 {
-    let mut used = ledger.used;
-    used[line] -= size as u32;
-    let serials = ledger.serials;
-    crate::Ledger {
-        in_use: ledger.in_use - size,
-        used,
-        serials,
-    }
+    let mut shrunk = ledger;
+    shrunk.in_use -= size;
+    shrunk.used[line] -= size as u32;
+    shrunk
 }

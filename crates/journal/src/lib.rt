@@ -4,7 +4,6 @@
 
 ghost use Rattle.std.specs.Prelude.{◌≡◌};
 ghost use Rattle.journal.specs.Chain.{fresh_ledger};
-ghost use Rattle.journal.specs.Answers.{is_fits};
 ghost use Rattle.journal.specs.Verdicts.{judge_of};
 ghost use Rattle.journal.specs.Storage.{Stored};
 ghost use Rattle.journal.specs.Removal.{TakenFrom};
@@ -32,10 +31,9 @@ impl Ledger {
     }
 }
 
-// 4, 31, 40, 41, 43 and 46.
+// Why a text is not stored: 31, 40, 41, 43 and 46.
 #[derive(Clone, Copy)]
-pub enum Verdict {
-    Fits,
+pub enum Refusal {
     NoRoom,
     Broken,
     NoLine,
@@ -43,10 +41,9 @@ pub enum Verdict {
     Malformed,
 }
 
-// 8 with the text's length and the serial, 40, 41, 43, 44 and 45.
+// Why nothing is taken: 40, 41, 43, 44 and 45.
 #[derive(Clone, Copy)]
-pub enum Took {
-    Taken(usize, u16),
+pub enum NotTaken {
     NothingWaiting,
     BufferShort,
     Broken,
@@ -54,58 +51,52 @@ pub enum Took {
     WrongSize,
 }
 
+// The ledger stands beside the answer, and not in its Ok: `Stored` and `TakenFrom`, of which journal_laws speaks, say what it is after a
+// refusal too.
 #[derive(Clone, Copy)]
 pub struct Storing {
     pub ledger: Ledger,
-    pub answer: Verdict,
+    pub answer: Result<(), Refusal>,
 }
 
 #[derive(Clone, Copy)]
 pub struct Taking {
     pub ledger: Ledger,
-    pub answer: Took,
+    pub answer: Result<(usize, u16), NotTaken>,
 }
 
 // Whether a text of `length` bytes may be stored on the line, and if not, why.
-pub fn judge(ledger: Ledger, shares: [u16; 8], line: u8, length: usize, journal: &[u8]) -> Verdict
+pub fn judge(
+    ledger: Ledger,
+    shares: [u16; 8],
+    line: u8,
+    length: usize,
+    journal: &[u8],
+) -> Result<(), Refusal>
     ensures { result ≡ judge_of ledger shares line length journal.now }
 {
     let l = line as usize;
     if memory::LINES <= l {
-        return Verdict::NoLine;
+        return Err(Refusal::NoLine);
     }
     if journal.len() != memory::JOURNAL_SIZE {
-        return Verdict::WrongSize;
+        return Err(Refusal::WrongSize);
     }
     if length < 1 {
-        return Verdict::Malformed;
+        return Err(Refusal::Malformed);
     }
     if memory::MESSAGE_LIMIT < length {
-        return Verdict::Malformed;
+        return Err(Refusal::Malformed);
     }
-    let seen = chain::look(ledger, l, journal);
-    if !seen.whole {
-        return Verdict::Broken;
+    if chain::look(ledger, l, journal).is_none() {
+        return Err(Refusal::Broken);
     }
     let mut used = ledger.used;
     used[l] += header::entry_size(length as u32) as u32;
     if !room::has_room(used, shares) {
-        return Verdict::NoRoom;
+        return Err(Refusal::NoRoom);
     }
-    Verdict::Fits
-}
-
-fn is_fits(verdict: Verdict) -> bool
-    ensures { result ≡ is_fits verdict }
-{
-    match verdict {
-        Verdict::Fits => true,
-        Verdict::NoRoom => false,
-        Verdict::Broken => false,
-        Verdict::NoLine => false,
-        Verdict::WrongSize => false,
-        Verdict::Malformed => false,
-    }
+    Ok(())
 }
 
 // Stores a text as the line's newest entry, if the verdict is that it fits.
@@ -113,7 +104,7 @@ pub fn store(ledger: Ledger, shares: [u16; 8], line: u8, text: &[u8], journal: &
     ensures { Stored ledger shares line text.now journal.old result journal.new }
 {
     let verdict = judge(ledger, shares, line, text.len(), journal);
-    if !is_fits(verdict) {
+    if verdict.is_err() {
         return Storing {
             ledger,
             answer: verdict,
@@ -134,27 +125,25 @@ pub fn take(ledger: Ledger, line: u8, journal: &mut [u8], buffer: &mut [u8]) -> 
     if memory::LINES <= l {
         return Taking {
             ledger,
-            answer: Took::NoLine,
+            answer: Err(NotTaken::NoLine),
         };
     }
     if journal.len() != memory::JOURNAL_SIZE {
         return Taking {
             ledger,
-            answer: Took::WrongSize,
+            answer: Err(NotTaken::WrongSize),
         };
     }
-    let seen = chain::look(ledger, l, journal);
-    if !seen.whole {
+    let Some(at) = chain::look(ledger, l, journal) else {
         return Taking {
             ledger,
-            answer: Took::Broken,
+            answer: Err(NotTaken::Broken),
         };
-    }
-    let at = seen.oldest;
+    };
     if at == ledger.in_use {
         return Taking {
             ledger,
-            answer: Took::NothingWaiting,
+            answer: Err(NotTaken::NothingWaiting),
         };
     }
     entry::take_at(ledger, l, at, journal, buffer)

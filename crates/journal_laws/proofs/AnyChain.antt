@@ -1,9 +1,10 @@
 -- A whole chain, whatever the lines claim: it is held over no shares, and so storing and taking give a whole chain again.
 -- Assumes nothing.
+use Rattle.std.specs.Result.{is_ok}
+use Rattle.std.specs.Prelude.{Some}
 use mathlib.Core.Path.{◌≡◌}
 use mathlib.Core.List.{List, [], ◌∷◌, ◌++◌}
 use mathlib.Core.Bool.{true}
-use mathlib.Core.Option.{some}
 use Prim.Native.Nat.{ℕ, ◌<◌, ◌≤◌, max}
 use native.Mathlib.Nat.{le_trans}
 use native.Mathlib.Omega.{arith}
@@ -15,7 +16,6 @@ use Rattle.header.specs.Entry.{Entry}
 use Rattle.journal.specs.Entries.{sizes, total, before, from}
 use Rattle.journal.specs.Chain.{chain}
 use Rattle.room.specs.Room.{sum_to, claim, claims, raised}
-use Rattle.journal.specs.Answers.{is_fits}
 use Rattle.journal.specs.Verdicts.{judge_of}
 use Rattle.journal.specs.Storage.{new_entry, grown, appended}
 use Rattle.journal.specs.Removal.{shrunk, without}
@@ -41,7 +41,7 @@ fewer sh u = sum_le lines (claim [] u) (claim sh u) (λ l q. more (get_or u l 0)
 
 module _ (d : Ledger) (j : List ℕ) (es : List Entry) where
   pub whole_held : length j ≡ journal_size → length d.used ≡ lines → length d.serials ≡ lines → ((l : ℕ) → l < lines → get_or d.serials l 0 < serial_count)
-      → chain d j ≡ some es → Held [] d j es
+      → chain d j ≡ Some es → Held [] d j es
   whole_held long used serials below whole =
       let k = kept_some d j es whole in
       let same : sum_to lines (λ l. get_or d.used l 0) ≡ sum_to lines (λ l. total l k.es) = sum_same lines (λ l. get_or d.used l 0) (λ l. total l k.es) k.whole.sums in
@@ -55,7 +55,7 @@ module _ (d : Ledger) (j : List ℕ) (es : List Entry) where
       }
 
   -- stored: the entries before, and one more at the end
-  pub store_whole : (sh : List ℕ) (l : ℕ) (t : List ℕ) → Held [] d j es → is_fits (judge_of d sh l (length t) j) ≡ true
+  pub store_whole : (sh : List ℕ) (l : ℕ) (t : List ℕ) → Held [] d j es → is_ok (judge_of d sh l (length t) j) ≡ true
       → Held [] (grown d l (length t)) (appended d l t j) (es ++ new_entry d l t ∷ [])
   store_whole sh l t h q =
       let f = fits_facts d sh l (length t) j q in

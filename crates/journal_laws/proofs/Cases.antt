@@ -1,5 +1,12 @@
 -- What a storing and a taking do to a journal that is held: its entries afterwards, and the answer. 41 and 43 never come.
 -- Assumes nothing.
+use Rattle.std.specs.Option.{is_some}
+use Rattle.std.specs.Result.{is_ok}
+use Rattle.std.specs.Prelude.{Err, Ok, Result, ℕ}
+use Rattle.journal.specs.declared.Refusal.TheVariants.{Malformed, NoLine, NoRoom}
+use Rattle.journal.specs.declared.Refusal.{Refusal}
+use Rattle.journal.specs.declared.NotTaken.TheVariants.{BufferShort, NothingWaiting}
+use Rattle.journal.specs.declared.NotTaken.{NotTaken}
 use mathlib.Core.Path.{◌≡◌, refl, ap, ◌∙◌}
 use mathlib.Core.Logic.{◌⊎◌, inl, inr}
 use mathlib.Core.List.{List, [], ◌∷◌, ◌++◌}
@@ -15,19 +22,14 @@ use Rattle.memory.specs.Parts.{splice}
 use Rattle.header.specs.Header.{entry_size}
 use Rattle.header.specs.Entry.{Entry}
 use Rattle.journal.specs.Entries.{sizes, before, from}
-use Rattle.journal.specs.Chain.{is_some}
 use Rattle.room.specs.Room.{fits, raised}
-use Rattle.journal.specs.Answers.{is_fits, verdict_number, took_paper}
+use Rattle.journal.specs.Answers.{verdict_number, took_paper}
 use Rattle.journal.specs.Verdicts.{judge_of}
 use Rattle.journal.specs.Storage.{new_entry, grown, appended, after_storing, store_of}
 use Rattle.journal.specs.Removal.{shrunk, without, after_taking, take_at, take_of}
 use Rattle.journal_laws.specs.Held.{Held}
 use Rattle.journal_laws.specs.Runs.{given}
 use Rattle.journal.specs.declared.Ledger.{Ledger}
-use Rattle.journal.specs.declared.Verdict.{Verdict}
-use Rattle.journal.specs.declared.Verdict.TheVariants.{Fits, NoRoom, NoLine, Malformed}
-use Rattle.journal.specs.declared.Took.{Took}
-use Rattle.journal.specs.declared.Took.TheVariants.{Taken, NothingWaiting, BufferShort}
 use Rattle.journal.proofs.Judged.{judged_line_law, judged_text, judged_room}
 use Rattle.journal_laws.proofs.Keeps.{store_held, take_held}
 
@@ -35,24 +37,24 @@ use Rattle.journal_laws.proofs.Keeps.{store_held, take_held}
 
 pub record Stores (sh : List ℕ) (d : Ledger) (l : ℕ) (t j : List ℕ) (es : List Entry) : Type 0 where
   pub line : l < lines
-  pub is : store_of d sh l t j ≡ after_storing (grown d l (length t)) Fits (appended d l t j)
+  pub is : store_of d sh l t j ≡ after_storing (grown d l (length t)) (Ok tt) (appended d l t j)
   pub held : Held sh (grown d l (length t)) (appended d l t j) (es ++ new_entry d l t ∷ [])
 
 pub record Stays (sh : List ℕ) (d : Ledger) (l : ℕ) (t j : List ℕ) : Type 0 where
-  pub verdict : Verdict
+  pub verdict : Result (Unit {0}) Refusal
   pub is : store_of d sh l t j ≡ after_storing d verdict j
-  pub no : is_fits verdict ≡ false
+  pub no : is_ok verdict ≡ false
   pub sized : eqb (verdict_number verdict) 41 ≡ false
   pub whole : eqb (verdict_number verdict) 43 ≡ false
 
 module _ (sh : List ℕ) (d : Ledger) (l : ℕ) (t j : List ℕ) (es : List Entry) (h : Held sh d j es) where
-  stays : (v : Verdict) → v ≡ judge_of d sh l (length t) j → is_fits v ≡ false → eqb (verdict_number v) 41 ≡ false → eqb (verdict_number v) 43 ≡ false → Stays sh d l t j
+  stays : (v : Result (Unit {0}) Refusal) → v ≡ judge_of d sh l (length t) j → is_ok v ≡ false → eqb (verdict_number v) 41 ≡ false → eqb (verdict_number v) 43 ≡ false → Stays sh d l t j
   unfolding store_of
   stays v e f a b = record { verdict = v; is = rw (← e, f); no = f; sized = a; whole = b }
 
   module _ (line : l < lines) (low : 1 ≤ length t) (high : length t ≤ message_limit) where
     -- the verdict is room's alone
-    pub held_judged : (b : Bool) → fits sh (raised d.used l (entry_size (length t))) ≡ b → cond b Fits NoRoom ≡ judge_of d sh l (length t) j
+    pub held_judged : (b : Bool) → fits sh (raised d.used l (entry_size (length t))) ≡ b → cond b (Ok tt) (Err NoRoom) ≡ judge_of d sh l (length t) j
     held_judged b f = judged_room d sh l (length t) j line h.long low high b (ap is_some h.whole) f
 
     -- stored exactly if the claims then fit
@@ -62,18 +64,18 @@ module _ (sh : List ℕ) (d : Ledger) (l : ℕ) (t j : List ℕ) (es : List Entr
 
     decided : (b : Bool) → fits sh (raised d.used l (entry_size (length t))) ≡ b → Stores sh d l t j es ⊎ Stays sh d l t j
     decided true f = inl (store_fits f)
-    decided false f = inr (stays NoRoom (held_judged false f) refl refl refl)
+    decided false f = inr (stays (Err NoRoom) (held_judged false f) refl refl refl)
 
   pub store_cases : Stores sh d l t j es ⊎ Stays sh d l t j
   store_cases = elim (dec_lt l lines) [
     | yes line ↦ elim (dec_le 1 (length t)) [
       | yes low ↦ elim (dec_le (length t) message_limit) [
         | yes high ↦ decided line low high (fits sh (raised d.used l (entry_size (length t)))) refl
-        | no high ↦ inr (stays Malformed (judged_text d sh l (length t) j line h.long (λ p q. high q)) refl refl refl)
+        | no high ↦ inr (stays (Err Malformed) (judged_text d sh l (length t) j line h.long (λ p q. high q)) refl refl refl)
       ]
-      | no low ↦ inr (stays Malformed (judged_text d sh l (length t) j line h.long (λ p q. low p)) refl refl refl)
+      | no low ↦ inr (stays (Err Malformed) (judged_text d sh l (length t) j line h.long (λ p q. low p)) refl refl refl)
     ]
-    | no line ↦ inr (stays NoLine (judged_line_law d sh l (length t) j (omega arith)) refl refl refl)
+    | no line ↦ inr (stays (Err NoLine) (judged_line_law d sh l (length t) j (omega arith)) refl refl refl)
   ]
 
 -- ---- a taking: the line's oldest entry, or nothing changes
@@ -83,11 +85,11 @@ pub record Gives (sh : List ℕ) (d : Ledger) (l : ℕ) (j b : List ℕ) (es : L
   pub fs : List Entry
   pub oldest : from l es ≡ e ∷ fs
   pub fits : length e.text ≤ length b
-  pub is : take_of d l j b ≡ after_taking (shrunk d l e) (Taken (length e.text) e.serial) (without d (sizes (before l es)) e j) (splice b 0 e.text)
+  pub is : take_of d l j b ≡ after_taking (shrunk d l e) (Ok (length e.text, e.serial)) (without d (sizes (before l es)) e j) (splice b 0 e.text)
   pub held : Held sh (shrunk d l e) (without d (sizes (before l es)) e j) (before l es ++ fs)
 
 pub record Keeps (d : Ledger) (l : ℕ) (j b : List ℕ) : Type 0 where
-  pub answer : Took
+  pub answer : Result (ℕ × ℕ) NotTaken
   pub is : take_of d l j b ≡ after_taking d answer j b
   pub no : (c : List ℕ) → given answer c ≡ []
   pub sized : eqb (get_or (took_paper answer) 0 0) 41 ≡ false
@@ -96,9 +98,9 @@ pub record Keeps (d : Ledger) (l : ℕ) (j b : List ℕ) : Type 0 where
 module _ (sh : List ℕ) (d : Ledger) (l : ℕ) (j b : List ℕ) (es : List Entry) (h : Held sh d j es) where
   no_line : lines ≤ l → Keeps d l j b
   unfolding take_of
-  no_line n = record { answer = Took.NoLine; is = rw (le-ltb l lines n); no = λ c. refl; sized = refl; whole = refl }
+  no_line n = record { answer = Err NotTaken.NoLine; is = rw (le-ltb l lines n); no = λ c. refl; sized = refl; whole = refl }
 
-  pub take_empty : l < lines → from l es ≡ [] → take_of d l j b ≡ after_taking d NothingWaiting j b
+  pub take_empty : l < lines → from l es ≡ [] → take_of d l j b ≡ after_taking d (Err NothingWaiting) j b
   unfolding take_of
   take_empty line q = rw (lt-ltb l lines line, eq-eqb (length j) journal_size h.long, h.whole, q)
 
@@ -112,18 +114,18 @@ module _ (sh : List ℕ) (d : Ledger) (l : ℕ) (j b : List ℕ) (es : List Entr
     take_gives n =
         record { e = e; fs = fs; oldest = q; fits = n; is = take_reaches ∙ rw (le-leb (length e.text) (length b) n); held = take_held sh d l j es h line e fs q }
 
-    pub take_short : length b < length e.text → take_of d l j b ≡ after_taking d BufferShort j b
+    pub take_short : length b < length e.text → take_of d l j b ≡ after_taking d (Err BufferShort) j b
     unfolding take_at
     take_short n = take_reaches ∙ rw (lt-leb (length e.text) (length b) n)
 
     by_length : Gives sh d l j b es ⊎ Keeps d l j b
     by_length = elim (dec_le (length e.text) (length b)) [
       | yes n ↦ inl (take_gives n)
-      | no n ↦ inr (record { answer = BufferShort; is = take_short (omega arith); no = λ c. refl; sized = refl; whole = refl })
+      | no n ↦ inr (record { answer = Err BufferShort; is = take_short (omega arith); no = λ c. refl; sized = refl; whole = refl })
     ]
 
   by_oldest : (line : l < lines) (fs : List Entry) → from l es ≡ fs → Gives sh d l j b es ⊎ Keeps d l j b
-  by_oldest line [] q = inr (record { answer = NothingWaiting; is = take_empty line q; no = λ c. refl; sized = refl; whole = refl })
+  by_oldest line [] q = inr (record { answer = Err NothingWaiting; is = take_empty line q; no = λ c. refl; sized = refl; whole = refl })
   by_oldest line (e ∷ fs) q = by_length line e fs q
 
   pub take_cases : Gives sh d l j b es ⊎ Keeps d l j b

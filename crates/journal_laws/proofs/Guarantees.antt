@@ -1,5 +1,6 @@
 -- What the room rule gives: a line's own share is guaranteed, one line alone reaches all but the others' shares, and what is freed can be stored again.
 -- Assumes nothing.
+use Rattle.std.specs.Prelude.{Ok}
 use mathlib.Core.Path.{◌≡◌, sym, ◌∙◌}
 use mathlib.Core.List.{List, [], ◌∷◌, ◌++◌}
 use mathlib.Core.Bool.{true, false}
@@ -19,7 +20,6 @@ use Rattle.journal.specs.Verdicts.{judge_of}
 use Rattle.journal.specs.Removal.{shrunk, without}
 use Rattle.journal_laws.specs.Held.{Held}
 use Rattle.journal.specs.declared.Ledger.{Ledger}
-use Rattle.journal.specs.declared.Verdict.TheVariants.{Fits}
 use Rattle.journal.proofs.Oldest.{total_oldest}
 use Rattle.room.proofs.Totals.{sum_swap, raised_own, raised_other, lowered_own, lowered_other, claims_le, claims_own_share, claims_lowered, claims_raised_le}
 use Rattle.journal.proofs.Wholes.{whole_facts}
@@ -28,13 +28,13 @@ use Rattle.journal_laws.proofs.Keeps.{fresh_held, take_held}
 
 -- the verdict of a journal that is held, on an entry that fits
 judged_fits : (sh : List ℕ) (d : Ledger) (l n : ℕ) (j : List ℕ) (es : List Entry) → Held sh d j es → l < lines → 1 ≤ n → n ≤ message_limit
-    → claims sh (raised d.used l (entry_size n)) ≤ journal_size → judge_of d sh l n j ≡ Fits
+    → claims sh (raised d.used l (entry_size n)) ≤ journal_size → judge_of d sh l n j ≡ Ok tt
 judged_fits sh d l n j es h line low high c =
     sym (judged_room d sh l n j line h.long low high true (rw h.whole) (le-leb (claims sh (raised d.used l (entry_size n))) journal_size c))
 
 -- no entry is refused that goes, with its header, into the unused part of its line's share
 pub never_refused : (sh : List ℕ) (d : Ledger) (l n : ℕ) (j : List ℕ) (es : List Entry) → Held sh d j es → l < lines → 1 ≤ n → n ≤ message_limit
-    → get_or d.used l 0 + entry_size n ≤ get_or sh l 0 → judge_of d sh l n j ≡ Fits
+    → get_or d.used l 0 + entry_size n ≤ get_or sh l 0 → judge_of d sh l n j ≡ Ok tt
 never_refused sh d l n j es h line low high s =
     judged_fits sh d l n j es h line low high (rw (claims_own_share sh d.used l (entry_size n) h.lines_used line s) h.claimed)
 
@@ -79,7 +79,7 @@ module _ (sh : List ℕ) (d : Ledger) (l : ℕ) (j : List ℕ) (es : List Entry)
   enough = rw ((whole_facts d j es h.whole).sums l line) (total_oldest l es e fs is)
 
   -- on the line itself: after its oldest entry is taken, an entry no larger than that one is never refused
-  pub freed_own : (n : ℕ) → 1 ≤ n → n ≤ message_limit → entry_size n ≤ size e → judge_of (shrunk d l e) sh l n (without d (sizes (before l es)) e j) ≡ Fits
+  pub freed_own : (n : ℕ) → 1 ≤ n → n ≤ message_limit → entry_size n ≤ size e → judge_of (shrunk d l e) sh l n (without d (sizes (before l es)) e j) ≡ Ok tt
   unfolding shrunk
   freed_own n low high small =
       let u = d.used in
@@ -93,7 +93,7 @@ module _ (sh : List ℕ) (d : Ledger) (l : ℕ) (j : List ℕ) (es : List Entry)
 
   -- on any other line, where the whole entry lay beyond its own line's share
   pub freed_other : (k n : ℕ) → k < lines → 1 ≤ n → n ≤ message_limit → entry_size n ≤ size e → get_or sh l 0 + size e ≤ get_or d.used l 0
-      → judge_of (shrunk d l e) sh k n (without d (sizes (before l es)) e j) ≡ Fits
+      → judge_of (shrunk d l e) sh k n (without d (sizes (before l es)) e j) ≡ Ok tt
   unfolding shrunk
   freed_other k n other low high small beyond =
       let u = d.used in

@@ -1,9 +1,9 @@
 -- A fresh journal is held, and storing and taking keep it held, over any shares.
 -- Assumes nothing.
+use Rattle.std.specs.Prelude.{Some}
 use mathlib.Core.Path.{◌≡◌, refl, sym, ap, ◌∙◌}
 use mathlib.Core.List.{List, [], ◌∷◌, ◌++◌, append_assoc}
 use mathlib.Core.Bool.{true}
-use mathlib.Core.Option.{some}
 use Prim.Native.Nat.{ℕ, ◌+◌, ◌-◌, ◌%◌, ◌<◌, ◌≤◌}
 use native.Mathlib.Nat.{le_trans}
 use native.Mathlib.Omega.{arith}
@@ -85,7 +85,7 @@ module _ (sh : List ℕ) (d : Ledger) (l : ℕ) (t j : List ℕ) (es : List Entr
   bytes : take (d.in_use + entry_size (length t)) (splice j d.in_use (encode (new_entry d l t))) ≡ take d.in_use j ++ encode (new_entry d l t)
   bytes = rw (← long) (take_through j d.in_use (encode (new_entry d l t)) within)
 
-  chained : entries (take (d.in_use + entry_size (length t)) (splice j d.in_use (encode (new_entry d l t)))) ≡ some (es ++ new_entry d l t ∷ [])
+  chained : entries (take (d.in_use + entry_size (length t)) (splice j d.in_use (encode (new_entry d l t)))) ≡ Some (es ++ new_entry d l t ∷ [])
   chained =
       ap entries bytes
       ∙ entries_append es (take d.in_use j) (encode (new_entry d l t)) (whole_facts d j es h.whole).there
@@ -142,21 +142,21 @@ module _ (sh : List ℕ) (d : Ledger) (l : ℕ) (j : List ℕ) (es : List Entry)
       let a : sizes es ≡ sizes (before l es) + sizes (e ∷ fs) = ap sizes split ∙ sizes_append (before l es) (e ∷ fs) in
       omega (arith, in_use_is d j es h.whole, a)
 
-  there : entries (take d.in_use j) ≡ some (before l es ++ e ∷ fs)
-  there = (whole_facts d j es h.whole).there ∙ ap some split
+  there : entries (take d.in_use j) ≡ Some (before l es ++ e ∷ fs)
+  there = (whole_facts d j es h.whole).there ∙ ap Some split
 
-  front : entries (take (sizes (before l es)) j) ≡ some (before l es)
+  front : entries (take (sizes (before l es)) j) ≡ Some (before l es)
   front =
       let n : sizes (before l es) ≤ d.in_use = omega (arith, in_use) in
       rw (take-take (sizes (before l es)) d.in_use j n) at (entries_take (before l es) (e ∷ fs) (take d.in_use j) there)
 
   -- what moves down is the chain behind the entry
-  back : entries (later j (sizes (before l es)) (size e) d.in_use) ≡ some fs
+  back : entries (later j (sizes (before l es)) (size e) d.in_use) ≡ Some fs
   unfolding part
   back =
       let b : before l es ++ e ∷ fs ≡ (before l es ++ e ∷ []) ++ fs = sym (append_assoc (before l es) (e ∷ []) fs) in
       let n : sizes (before l es ++ e ∷ []) ≡ sizes (before l es) + size e = sizes_append (before l es) (e ∷ []) ∙ omega arith in
-      rw (← (drop_take (sizes (before l es) + size e) d.in_use j), ← n) (entries_drop (before l es ++ e ∷ []) fs (take d.in_use j) (there ∙ ap some b))
+      rw (← (drop_take (sizes (before l es) + size e) d.in_use j), ← n) (entries_drop (before l es ++ e ∷ []) fs (take d.in_use j) (there ∙ ap Some b))
 
   moved_long : length (later j (sizes (before l es)) (size e) d.in_use) ≡ sizes fs
   moved_long =
@@ -169,7 +169,7 @@ module _ (sh : List ℕ) (d : Ledger) (l : ℕ) (j : List ℕ) (es : List Entry)
   in_journal : sizes (before l es) + length (later j (sizes (before l es)) (size e) d.in_use) ≤ length j
   in_journal = omega (arith, new_end, (whole_facts d j es h.whole).room)
 
-  closed : entries (take (d.in_use - size e) (splice j (sizes (before l es)) (later j (sizes (before l es)) (size e) d.in_use))) ≡ some (before l es ++ fs)
+  closed : entries (take (d.in_use - size e) (splice j (sizes (before l es)) (later j (sizes (before l es)) (size e) d.in_use))) ≡ Some (before l es ++ fs)
   closed =
       let bytes = take_through j (sizes (before l es)) (later j (sizes (before l es)) (size e) d.in_use) in_journal in
       rw (← new_end)

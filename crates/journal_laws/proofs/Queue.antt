@@ -1,5 +1,6 @@
 -- Each line is a queue: in any run of storings and takings, what went in on a line is what came out, oldest first, and then what still waits.
 -- Assumes nothing.
+use Rattle.std.specs.Result.{is_ok}
 use mathlib.Core.Path.{◌≡◌, refl, sym, ap, ◌∙◌, subst}
 use mathlib.Core.Logic.{◌⊎◌, inl, inr}
 use mathlib.Core.List.{List, [], ◌∷◌, ◌++◌, append_assoc, append-nil}
@@ -20,7 +21,6 @@ use Rattle.header.specs.Entry.{Entry}
 use Rattle.journal.specs.Entries.{before, from}
 use Rattle.journal.specs.Chain.{fresh_ledger}
 use Rattle.room.specs.Room.{sum_to}
-use Rattle.journal.specs.Answers.{is_fits}
 use Rattle.journal.specs.Storage.{new_entry, grown, AfterStoring}
 use Rattle.journal.specs.Removal.{shrunk, AfterTaking}
 use Rattle.journal_laws.specs.Held.{Held}
@@ -136,7 +136,7 @@ module _ (sh : List ℕ) where
         held = subst (λ (x : AfterStoring). Held sh x.storing.ledger x.journal (es ++ new_entry s.ledger l t ∷ [])) (sym p.is) p.held;
         queue = λ k q. rw (p.is, only_append, texts_append, one_text (eqb l k) s.ledger l k t refl (h.serials k q));
         serial = λ k q.
-            subst (λ (x : AfterStoring). get_or x.storing.ledger.serials k 0 ≡ (get_or s.ledger.serials k 0 + length (cond (eqb l k && is_fits x.storing.answer) (t ∷ []) [])) % serial_count) (sym p.is)
+            subst (λ (x : AfterStoring). get_or x.storing.ledger.serials k 0 ≡ (get_or s.ledger.serials k 0 + length (cond (eqb l k && is_ok x.storing.answer) (t ∷ []) [])) % serial_count) (sym p.is)
             (one_serial (eqb l k) s.ledger l k t refl (rw h.lines_serials p.line) (h.serials k q));
       }
   put_moves s l t es (inr p) h =
@@ -145,7 +145,7 @@ module _ (sh : List ℕ) where
         held = subst (λ (x : AfterStoring). Held sh x.storing.ledger x.journal es) (sym p.is) h;
         queue = λ k q. rw (p.is, p.no, no_text (eqb l k) t) (append-nil (waiting k es));
         serial = λ k q.
-            subst (λ (x : AfterStoring). get_or x.storing.ledger.serials k 0 ≡ (get_or s.ledger.serials k 0 + length (cond (eqb l k && is_fits x.storing.answer) (t ∷ []) [])) % serial_count) (sym p.is)
+            subst (λ (x : AfterStoring). get_or x.storing.ledger.serials k 0 ≡ (get_or s.ledger.serials k 0 + length (cond (eqb l k && is_ok x.storing.answer) (t ∷ []) [])) % serial_count) (sym p.is)
             (rw (p.no, no_text (eqb l k) t) (same_serial (get_or s.ledger.serials k 0) (h.serials k q)));
       }
 

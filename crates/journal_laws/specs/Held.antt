@@ -1,7 +1,6 @@
 -- The invariant of ledger and journal, over any shares.
 -- Assumes nothing.
-use Rattle.std.specs.Prelude.{ℕ, ◌<◌, ◌≤◌, ◌≡◌, List, length, get_or}
-use Rattle.std.proofs.Math.Option.{some}
+use Rattle.std.specs.Prelude.{ℕ, ◌<◌, ◌≤◌, ◌≡◌, List, length, get_or, Some}
 use Rattle.memory.specs.Sizes.{lines, journal_size}
 use Rattle.header.specs.Header.{serial_count}
 use Rattle.header.specs.Entry.{Entry}
@@ -15,5 +14,5 @@ pub record Held (shares : List ℕ) (d : Ledger) (j : List ℕ) (es : List Entry
   pub lines_used : length d.used ≡ lines
   pub lines_serials : length d.serials ≡ lines
   pub serials : (l : ℕ) → l < lines → get_or d.serials l 0 < serial_count
-  pub whole : chain d j ≡ some es
+  pub whole : chain d j ≡ Some es
   pub claimed : claims shares d.used ≤ journal_size

@@ -1,14 +1,14 @@
 -- Runs of storings and takings on any lines, and what goes in and comes out on one line, read off the answers and the buffers.
 -- Assumes nothing.
-use Rattle.std.specs.Prelude.{ℕ, suc, ◌%◌, List, [], ◌∷◌, ◌++◌, cond, ◌&&◌, take, eqb}
+use Rattle.std.specs.Result.{is_ok}
+use Rattle.journal.specs.declared.NotTaken.TheVariants.{Broken, BufferShort, NoLine, NothingWaiting, WrongSize}
+use Rattle.journal.specs.declared.NotTaken.{NotTaken}
+use Rattle.std.specs.Prelude.{ℕ, suc, ◌%◌, List, [], ◌∷◌, ◌++◌, cond, ◌&&◌, take, eqb, Err, Ok, Result}
 use Rattle.header.specs.Header.{serial_count}
 use Rattle.header.specs.Entry.{Entry}
-use Rattle.journal.specs.Answers.{is_fits}
 use Rattle.journal.specs.Storage.{store_of}
 use Rattle.journal.specs.Removal.{take_of}
 use Rattle.journal.specs.declared.Ledger.{Ledger}
-use Rattle.journal.specs.declared.Took.{Took}
-use Rattle.journal.specs.declared.Took.TheVariants.{Taken, NothingWaiting, BufferShort, Broken, NoLine, WrongSize}
 
 -- the storing of a text on a line, or a taking from a line into a buffer
 pub data Operation : Type 0 where
@@ -42,13 +42,13 @@ abbrev pub waiting : ℕ → List Entry → List Numbered
 waiting l es = texts (only l es)
 
 -- what a taking left in the buffer, by its answer
-abbrev pub given : Took → List ℕ → List Numbered
-given (Taken n serial) b = record { serial = serial; text = take n b } ∷ []
-given NoLine b = []
-given WrongSize b = []
-given Broken b = []
-given NothingWaiting b = []
-given BufferShort b = []
+abbrev pub given : Result (ℕ × ℕ) NotTaken → List ℕ → List Numbered
+given (Ok (n, serial)) b = record { serial = serial; text = take n b } ∷ []
+given (Err NoLine) b = []
+given (Err WrongSize) b = []
+given (Err Broken) b = []
+given (Err NothingWaiting) b = []
+given (Err BufferShort) b = []
 
 module _ (shares : List ℕ) where
   abbrev pub next : State → Operation → State
@@ -61,7 +61,7 @@ module _ (shares : List ℕ) where
 
   -- the text that an operation stores on line k, and the one that it takes from line k
   abbrev pub goes_in : ℕ → State → Operation → List (List ℕ)
-  goes_in k s (put l t) = cond (eqb l k && is_fits (store_of s.ledger shares l t s.journal).storing.answer) (t ∷ []) []
+  goes_in k s (put l t) = cond (eqb l k && is_ok (store_of s.ledger shares l t s.journal).storing.answer) (t ∷ []) []
   goes_in k s (get l b) = []
 
   abbrev pub comes_out : ℕ → State → Operation → List Numbered

@@ -1,302 +1,223 @@
 // The journal run by hand: steps from the standard input, one to a line, and after each what it answered, by its number, and what it left.
 #![tactic(auto)]
 
-ghost use Rattle.std.specs.Prelude.{◌≡◌, ◌<◌, ◌≤◌, length, IfOk};
+ghost use Rattle.std.specs.Prelude.{◌≡◌};
 ghost use Rattle.journal.specs.Answers.{verdict_number};
 
-use std::io;
-use std::io::Read;
+use journal::{Ledger, NotTaken, Refusal};
+use std::{array, io};
 
-// Memory for any number of a step, which are below this, so that as many bytes as it says can be lent.
+// Memory for any number of a step, which has 16 bits, so that as many bytes as it says can be lent.
 const MOST: usize = 65536;
+
 // The bytes that are shown: one more than the journal has, so that more can be lent too, and those of the buffer.
 const BYTES: usize = 32769;
 
 const BUFFER: usize = 4200;
 
 // The most bytes of the standard input that are read.
-const INPUT: usize = 4096;
+const INPUT: u64 = 4096;
 
-fn number(verdict: journal::Verdict) -> usize
-    ensures { result ≡ verdict_number verdict }
-{
-    match verdict {
-        journal::Verdict::Fits => 4,
-        journal::Verdict::NoRoom => 31,
-        journal::Verdict::Broken => 43,
-        journal::Verdict::NoLine => 40,
-        journal::Verdict::WrongSize => 41,
-        journal::Verdict::Malformed => 46,
-    }
-}
-
-// Shows what a taking answered, and gives what it left.
-fn taken(rt: &impl Print, taken: journal::Taking) -> io::Result<journal::Ledger> {
-    match taken.answer {
-        journal::Took::Taken(n, serial) => took_text(rt, n, serial)?,
-        journal::Took::NothingWaiting => word(rt, 44)?,
-        journal::Took::BufferShort => word(rt, 45)?,
-        journal::Took::Broken => word(rt, 43)?,
-        journal::Took::NoLine => word(rt, 40)?,
-        journal::Took::WrongSize => word(rt, 41)?,
-    }
-    Ok(taken.ledger)
-}
-
-fn took_text(rt: &impl Print, n: usize, serial: u16) -> io::Result<()> {
-    word(rt, 8)?;
-    word(rt, n)?;
-    word(rt, serial as usize)
-}
-
-// Shows what a storing answered, and gives what it left.
-fn stored(rt: &impl Print, stored: journal::Storing) -> io::Result<journal::Ledger> {
-    word(rt, number(stored.answer))?;
-    Ok(stored.ledger)
-}
-
-fn byte(rt: &impl Print, b: u8) -> io::Result<()> {
-    rt.write_all(&[b])
-}
-
-fn word(rt: &impl Print, n: usize) -> io::Result<()> {
-    print!(rt; " {n}")
-}
-
-// Each step but a fresh start is shown; a comment is not. F is the least letter of a step.
-fn heading(rt: &impl Print, letter: u8, line: usize, n: usize) -> io::Result<()> {
-    if b'F' < letter {
-        byte(rt, letter)?;
-        word(rt, line)?;
-        word(rt, n)?;
-        byte(rt, b':')?;
-        end_change(rt, letter)?;
-    }
-    Ok(())
-}
-
-// A change answers nothing, so its line ends with the heading.
-fn end_change(rt: &impl Print, letter: u8) -> io::Result<()> {
-    match letter {
-        b'J' | b'S' | b'T' => Ok(()),
-        _ => byte(rt, b'\n'),
-    }
-}
-
-// What a call left: the end in use, the line's used count and next serial, and the bytes of the journal.
-fn ledger_left(
-    rt: &impl Print,
-    line: usize,
-    ledger: journal::Ledger,
-    bytes: [u8; MOST],
-) -> io::Result<()> {
-    rt.write_all(b" |")?;
-    word(rt, ledger.in_use)?;
-    line_left(rt, line, ledger.used, ledger.serials)?;
-    word(rt, digest(bytes, BYTES))
-}
-
-fn line_left(rt: &impl Print, line: usize, used: [u32; 8], serials: [u16; 8]) -> io::Result<()> {
-    if line < 8 {
-        word(rt, used[line] as usize)?;
-        word(rt, serials[line] as usize)?;
-    }
-    Ok(())
-}
-
-fn call_left(
-    rt: &impl Print,
-    line: usize,
-    ledger: journal::Ledger,
-    bytes: [u8; MOST],
-) -> io::Result<()> {
-    ledger_left(rt, line, ledger, bytes)?;
-    byte(rt, b'\n')
-}
-
-// What a taking left, also in the buffer.
-fn taking_left(
-    rt: &impl Print,
-    line: usize,
-    ledger: journal::Ledger,
-    bytes: [u8; MOST],
-    buffer: [u8; MOST],
-) -> io::Result<()> {
-    ledger_left(rt, line, ledger, bytes)?;
-    word(rt, digest(buffer, BUFFER))?;
-    byte(rt, b'\n')
-}
-
-// A number of the first n bytes, so that a change of any of them shows.
-fn digest(s: [u8; MOST], n: usize) -> usize
-    requires { n ≤ 65536 }
-{
-    let mut sum: usize = 7;
-    for i in 0..n {
-        sum = (sum * 31 + wide(s[i])) % 1000003;
-    }
-    sum
-}
-
-fn wide(b: u8) -> usize
-    ensures { result < 256 }
-{
-    b as usize
-}
-
-// Bytes that differ from place to place, and begin by what `first` says, so that texts differ.
-fn filled(first: usize, gap: usize) -> [u8; MOST]
-    requires { gap < 251 }
-    ensures { 65536 ≡ length result }
-{
-    let mut s = [0u8; MOST];
-    let mut value = first % 256 * 7 % 251;
-    for i in 0..MOST {
-        s[i] = value as u8;
-        value = (value + gap) % 251;
-    }
-    s
-}
-
-// Stores a text of n bytes, another for each place of the steps.
-fn store(
-    rt: &impl Print,
-    ledger: journal::Ledger,
-    line: u8,
-    n: usize,
-    place: usize,
-    bytes: &mut [u8],
-) -> io::Result<journal::Ledger>
-    requires { n < 65536 }
-{
-    let text = filled(place, 7);
-    stored(
-        rt,
-        journal::store(ledger, room::shares(), line, &text[..n], bytes),
-    )
-}
-
-fn judge(
-    rt: &impl Print,
-    ledger: journal::Ledger,
-    line: usize,
-    n: usize,
-    lent: usize,
-    bytes: [u8; MOST],
-) -> io::Result<()>
-    requires { lent < 65536 }
-{
-    let on = (line % 256) as u8;
-    let verdict = journal::judge(ledger, room::shares(), on, n, &bytes[..lent]);
-    word(rt, number(verdict))?;
-    call_left(rt, line, ledger, bytes)
-}
-
-fn poked(mut bytes: [u8; MOST], at: usize, n: usize) -> [u8; MOST]
-    ensures { 65536 ≡ length result }
-{
-    bytes[at % MOST] = (n % 256) as u8;
-    bytes
-}
-
-// A fresh start, and what no caller does, to break the journal: the end in use, a used count, a serial.
-fn changed(mut ledger: journal::Ledger, letter: u8, line: usize, n: usize) -> journal::Ledger
-    requires { n < 65536 }
-{
-    match letter {
-        b'F' => ledger = journal::Ledger::fresh(),
-        b'I' => ledger.in_use = n,
-        b'U' => ledger.used[line % 8] = n as u32,
-        b'N' => ledger.serials[line % 8] = n as u16,
-        _ => {}
-    }
-    ledger
-}
-
-// The letter of the step: a capital, or # for a comment.
-fn letter_after(letter: u8, b: u8) -> u8 {
-    if b == b'#' {
-        return b;
-    }
-    if b < b'A' {
-        return letter;
-    }
-    if b < b'[' {
-        return b;
-    }
-    letter
-}
-
-// The number so far: a digit adds to it, and any other byte begins the next.
-fn number_after(n: usize, b: u8) -> usize
-    requires { n < 65536 }
-    ensures { result < 65536 }
-{
-    if b < b'0' {
-        return 0;
-    }
-    if b < b':' {
-        return (n * 10 + wide(b % 16)) % 65536;
-    }
-    0
+fn main(rt: HostRuntime) -> io::Result<()> {
+    let steps = vectors::first_bytes(rt.alloc(), rt.stdin(), INPUT)?;
+    run(&rt, &steps)
 }
 
 fn run(rt: &impl Print, steps: &[u8]) -> io::Result<()> {
-    let mut bytes = filled(0, 3);
+    let mut desk = Desk::new();
     let mut buffer = filled(0, 5);
-    let mut ledger = journal::Ledger::fresh();
-    let mut lent = memory::JOURNAL_SIZE;
-    let mut letter = b'#';
-    let mut line: usize = 0;
-    let mut n: usize = 0;
-    for place in 0..steps.len() {
-        let b = steps[place];
-        if b == b'\n' {
-            heading(rt, letter, line, n)?;
-            let on = (line % 256) as u8;
-            match letter {
-                b'T' => {
-                    let taking = journal::take(ledger, on, &mut bytes[..lent], &mut buffer[..n]);
-                    ledger = taken(rt, taking)?;
-                    taking_left(rt, line, ledger, bytes, buffer)?;
-                }
-                b'S' => {
-                    ledger = store(rt, ledger, on, n, place, &mut bytes[..lent])?;
-                    call_left(rt, line, ledger, bytes)?;
-                }
-                b'J' => judge(rt, ledger, line, n, lent, bytes)?,
-                b'P' => bytes = poked(bytes, line, n),
-                b'L' => lent = n,
-                _ => ledger = changed(ledger, letter, line, n),
-            }
-        } else if b == b' ' {
-            line = n;
-            n = 0;
+    let mut step = Step {
+        letter: b'#',
+        line: 0,
+        n: 0,
+    };
+    for (place, b) in steps.iter().enumerate() {
+        if *b == b'\n' {
+            desk.perform(rt, step, place, &mut buffer)?;
         } else {
-            letter = letter_after(letter, b);
-            n = number_after(n, b);
+            step = step.read(*b);
         }
     }
     Ok(())
 }
 
-// Reads until the memory is full or the reader is at its end, and gives the number of bytes that were read.
-fn read_full<R: Read>(reader: &mut R, input: &mut [u8]) -> io::Result<usize>
-    ensures { IfOk result (λ n. n ≤ length input.new) }
-{
-    let mut n = 0;
-    while n < input.len() {
-        let more = reader.read(&mut input[n..])?;
-        if more == 0 {
-            return Ok(n);
-        }
-        n += more;
-    }
-    Ok(n)
+// A step: its letter, a capital or # for a comment, and two numbers. What a line of the input leaves out stays from the one before it.
+// The letter is the input's byte and no enum, as a capital that does nothing is shown too.
+#[derive(Clone, Copy, Debug)]
+struct Step {
+    letter: u8,
+    line: u16,
+    n: u16,
 }
 
-fn main(rt: HostRuntime) -> io::Result<()> {
-    let mut steps = [0u8; INPUT];
-    let n = read_full(&mut rt.stdin(), &mut steps)?;
-    run(&rt, &steps[..n])
+impl Step {
+    // The step after the next byte of its line: a digit adds to the number, and any other byte begins the next.
+    fn read(self, b: u8) -> Step {
+        match b {
+            b' ' => Step {
+                line: self.n,
+                n: 0,
+                ..self
+            },
+            b'0'..=b'9' => Step {
+                n: self.n.wrapping_mul(10).wrapping_add(u16::from(b - b'0')),
+                ..self
+            },
+            b'#' | b'A'..=b'Z' => Step {
+                letter: b,
+                n: 0,
+                ..self
+            },
+            _ => Step { n: 0, ..self },
+        }
+    }
+
+    // The line as the journal is given it.
+    fn on(self) -> u8 {
+        (self.line % 256) as u8
+    }
+}
+
+// What the steps work on: the ledger, and the journal's memory with how much of it is lent.
+// The memory is an array and no `Vec`: it has one length, and is lent whole or in part, as hosts lend theirs.
+#[derive(Drop)]
+struct Desk {
+    ledger: Ledger,
+    bytes: [u8; MOST],
+    lent: u16,
+}
+
+impl Desk {
+    fn new() -> Desk {
+        Desk {
+            ledger: Ledger::fresh(),
+            bytes: filled(0, 3),
+            lent: memory::JOURNAL_SIZE as u16,
+        }
+    }
+
+    // Each step but a comment and a fresh start is shown: F is the least letter of a step.
+    fn perform(
+        &mut self,
+        rt: &impl Print,
+        step: Step,
+        place: usize,
+        buffer: &mut [u8; MOST],
+    ) -> io::Result<()> {
+        let is_shown = b'F' < step.letter;
+        if is_shown {
+            let letter = char::from(step.letter);
+            print!(rt; "{letter} {} {}:", step.line, step.n)?;
+        }
+        match step.letter {
+            b'T' => self.take(rt, step, buffer),
+            b'S' => self.store(rt, step, place),
+            b'J' => self.judge(rt, step),
+            _ => {
+                self.change(step);
+                if is_shown { println!(rt) } else { Ok(()) }
+            }
+        }
+    }
+
+    fn take(&mut self, rt: &impl Print, step: Step, buffer: &mut [u8; MOST]) -> io::Result<()> {
+        let lent = usize::from(self.lent);
+        let taking = journal::take(
+            self.ledger,
+            step.on(),
+            &mut self.bytes[..lent],
+            &mut buffer[..usize::from(step.n)],
+        );
+        self.ledger = taking.ledger;
+        match taking.answer {
+            Ok((n, serial)) => print!(rt; " 8 {n} {serial}"),
+            Err(NotTaken::NothingWaiting) => print!(rt; " 44"),
+            Err(NotTaken::BufferShort) => print!(rt; " 45"),
+            Err(NotTaken::Broken) => print!(rt; " 43"),
+            Err(NotTaken::NoLine) => print!(rt; " 40"),
+            Err(NotTaken::WrongSize) => print!(rt; " 41"),
+        }?;
+        self.show_left(rt, step.line)?;
+        println!(rt; " {}", digest(&buffer[..BUFFER]))
+    }
+
+    // Stores a text of n bytes, another for each place of the steps.
+    fn store(&mut self, rt: &impl Print, step: Step, place: usize) -> io::Result<()> {
+        let text = filled(place, 7);
+        let lent = usize::from(self.lent);
+        let storing = journal::store(
+            self.ledger,
+            room::shares(),
+            step.on(),
+            &text[..usize::from(step.n)],
+            &mut self.bytes[..lent],
+        );
+        self.ledger = storing.ledger;
+        print!(rt; " {}", number(storing.answer))?;
+        self.show_left(rt, step.line)?;
+        println!(rt)
+    }
+
+    fn judge(&self, rt: &impl Print, step: Step) -> io::Result<()> {
+        let lent = usize::from(self.lent);
+        let verdict = journal::judge(
+            self.ledger,
+            room::shares(),
+            step.on(),
+            usize::from(step.n),
+            &self.bytes[..lent],
+        );
+        print!(rt; " {}", number(verdict))?;
+        self.show_left(rt, step.line)?;
+        println!(rt)
+    }
+
+    // A fresh start, how much is lent, and what no caller does, to break the journal: the end in use, a used count, a serial, a byte.
+    fn change(&mut self, step: Step) {
+        let line = usize::from(step.line);
+        match step.letter {
+            b'F' => self.ledger = Ledger::fresh(),
+            b'L' => self.lent = step.n,
+            b'I' => self.ledger.in_use = usize::from(step.n),
+            b'U' => self.ledger.used[line % 8] = u32::from(step.n),
+            b'N' => self.ledger.serials[line % 8] = step.n,
+            b'P' => self.bytes[line] = (step.n % 256) as u8,
+            _ => {}
+        }
+    }
+
+    // What a call left: the end in use, the line's used count and next serial, and the bytes of the journal.
+    fn show_left(&self, rt: &impl Print, line: u16) -> io::Result<()> {
+        print!(rt; " | {}", self.ledger.in_use)?;
+        if line < 8 {
+            let line = usize::from(line);
+            print!(rt; " {} {}", self.ledger.used[line], self.ledger.serials[line])?;
+        }
+        print!(rt; " {}", digest(&self.bytes[..BYTES]))
+    }
+}
+
+fn number(verdict: Result<(), Refusal>) -> u8
+    ensures { result ≡ verdict_number verdict }
+{
+    match verdict {
+        Ok(()) => 4,
+        Err(Refusal::NoRoom) => 31,
+        Err(Refusal::Broken) => 43,
+        Err(Refusal::NoLine) => 40,
+        Err(Refusal::WrongSize) => 41,
+        Err(Refusal::Malformed) => 46,
+    }
+}
+
+// A number of bytes, so that a change of any of them shows.
+fn digest(bytes: &[u8]) -> u32 {
+    bytes.iter().fold(7, |sum, b| {
+        ((u64::from(sum) * 31 + u64::from(*b)) % 1000003) as u32
+    })
+}
+
+// Bytes that differ from place to place, and begin by what `first` says, so that texts differ.
+fn filled(first: usize, gap: u8) -> [u8; MOST] {
+    array::from_fn(|i| ((first % 256 * 7 + i % 251 * usize::from(gap)) % 251) as u8)
 }

@@ -31,19 +31,9 @@ pub fn put_reader(numbers: &mut [u16; NUMBERS], i: usize, reader: Reader)
         return;
     }
     let at = i * FIELDS;
-    let reply = reader.reply;
-    numbers[at + REPLY] = strips::reply_number(reply);
-    numbers[at + SINCE] = yes_number(reader.since);
-    numbers[at + KEPT] = yes_number(reader.kept);
-}
-
-fn yes_number(b: bool) -> u16
-    ensures { result ≡ yes b }
-{
-    if b {
-        return 1;
-    }
-    0
+    numbers[at + REPLY] = strips::reply_number(reader.reply);
+    numbers[at + SINCE] = u16::from(reader.since);
+    numbers[at + KEPT] = u16::from(reader.kept);
 }
 
 // Whether a line's last stored block begins with these bytes, compared as it lies.
@@ -57,14 +47,8 @@ pub fn is_kept(numbers: &[u16; NUMBERS], i: usize, block: &[u8]) -> bool
         return false;
     }
     let at = BLOCKS + i * BLOCK_LIMIT;
-    let mut k = 0;
-    while k < block.len() {
-        if wide(block[k]) != numbers[at + k] {
-            return false;
-        }
-        k += 1;
-    }
-    true
+    let kept = &numbers[at..at + block.len()];
+    block.iter().zip(kept).all(|(&b, &n)| u16::from(b) == n)
 }
 
 // Keeps a block as a line's last stored one.
@@ -78,15 +62,7 @@ pub fn keep(numbers: &mut [u16; NUMBERS], i: usize, block: &[u8])
         return;
     }
     let at = BLOCKS + i * BLOCK_LIMIT;
-    let mut k = 0;
-    while k < block.len() {
-        numbers[at + k] = wide(block[k]);
-        k += 1;
+    for (k, &b) in block.iter().enumerate() {
+        numbers[at + k] = u16::from(b);
     }
-}
-
-fn wide(b: u8) -> u16
-    ensures { result ≡ b }
-{
-    b as u16
 }

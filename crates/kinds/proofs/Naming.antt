@@ -1,5 +1,6 @@
 -- What it tells that a field or a byte names a type.
 -- Assumes nothing.
+use Rattle.std.specs.Prelude.{None, Option, Some}
 use mathlib.Core.Path.{◌≡◌, refl, ap, sym}
 use mathlib.Core.Bool.{Bool, true, false, cond}
 use mathlib.Core.List.{List}
@@ -12,32 +13,30 @@ use Rattle.memory.specs.Tests.{is}
 use Rattle.kinds.specs.Kinds.{letter_of, kind_of, type_of, is_terminator}
 use Rattle.kinds.specs.declared.Kind.{Kind}
 use Rattle.kinds.specs.declared.Kind.TheVariants.{Header, Patient, Order, Result, Query, Terminator, Comment, Manufacturer}
-use Rattle.kinds.specs.declared.Letter.{Letter}
-use Rattle.kinds.specs.declared.Letter.TheVariants.{Known, Unknown}
 
 -- a field that names a type is one byte, which names it
-pub letter : (f : List ℕ) (k : Kind) → type_of f ≡ Known k → (length f ≡ 1) × (kind_of (get_or f 0 0) ≡ Known k)
+pub letter : (f : List ℕ) (k : Kind) → type_of f ≡ Some k → (length f ≡ 1) × (kind_of (get_or f 0 0) ≡ Some k)
 unfolding type_of
 letter f k h = by_length (eqb (length f) 1) refl h
   where
-    by_length : (b : Bool) → eqb (length f) 1 ≡ b → cond b (kind_of (get_or f 0 0)) Unknown ≡ Known k → (length f ≡ 1) × (kind_of (get_or f 0 0) ≡ Known k)
+    by_length : (b : Bool) → eqb (length f) 1 ≡ b → cond b (kind_of (get_or f 0 0)) None ≡ Some k → (length f ≡ 1) × (kind_of (get_or f 0 0) ≡ Some k)
     by_length true e g = (eqb-true (length f) 1 e, g)
     by_length false e g = let z : ◌≡◌ {A = ℕ} 0 1 = cc in absurd (omega arith)
 
 -- the byte L names the type L, and no other byte does
-same_kind : (a b : Kind) → ◌≡◌ {A = Letter} (Known a) (Known b) → b ≡ a
+same_kind : (a b : Kind) → ◌≡◌ {A = (Option Kind)} (Some a) (Some b) → b ≡ a
 same_kind a b e = cc
 
-pub l_names : (b : ℕ) (k : Kind) → kind_of b ≡ Known k → is (letter_of Terminator) b ≡ is_terminator k
+pub l_names : (b : ℕ) (k : Kind) → kind_of b ≡ Some k → is (letter_of Terminator) b ≡ is_terminator k
 unfolding kind_of
 l_names b k h = by_l (is (letter_of Terminator) b) refl
   where
     other : (a₁ a₂ a₃ a₄ a₅ a₆ a₇ : Bool)
-        → cond a₁ (Known Header)
-        (cond a₂ (Known Patient)
-        (cond a₃ (Known Order)
-        (cond a₄ (Known Result) (cond a₅ (Known Query) (cond a₆ (Known Comment) (cond a₇ (Known Manufacturer) Unknown))))))
-        ≡ Known k
+        → cond a₁ (Some Header)
+        (cond a₂ (Some Patient)
+        (cond a₃ (Some Order)
+        (cond a₄ (Some Result) (cond a₅ (Some Query) (cond a₆ (Some Comment) (cond a₇ (Some Manufacturer) None))))))
+        ≡ Some k
         → is_terminator k ≡ false
     other true a₂ a₃ a₄ a₅ a₆ a₇ e = ap is_terminator (same_kind Header k e)
     other false true a₃ a₄ a₅ a₆ a₇ e = ap is_terminator (same_kind Patient k e)

@@ -1,5 +1,6 @@
 -- Any two outcomes that a contract of this crate allows are equal.
 -- Assumes nothing.
+use Rattle.std.specs.Prelude.{Option}
 use mathlib.Core.Path.{◌≡◌, sym, ◌∙◌}
 use mathlib.Core.Bool.{Bool}
 use mathlib.Core.List.{List}
@@ -9,7 +10,6 @@ use Rattle.kinds.specs.Kinds.{kind_of, may_follow}
 use Rattle.kinds.specs.Header.{is_header}
 use Rattle.kinds.specs.declared.Delimiters.{Delimiters}
 use Rattle.kinds.specs.declared.Kind.{Kind}
-use Rattle.kinds.specs.declared.Letter.{Letter}
 
 -- `Delimiters::of_four`
 pub four_once : (four : List ℕ) {r q : Delimiters} → r ≡ four_at 0 four → q ≡ four_at 0 four → r ≡ q
@@ -28,7 +28,7 @@ pub allowed_once : (d : Delimiters) {r q : Bool} → r ≡ are_delimiters d → 
 allowed_once d a b = a ∙ sym b
 
 -- `kind_of`
-pub kind_once : (b : ℕ) {r q : Letter} → r ≡ kind_of b → q ≡ kind_of b → r ≡ q
+pub kind_once : (b : ℕ) {r q : Option Kind} → r ≡ kind_of b → q ≡ kind_of b → r ≡ q
 kind_once b a e = a ∙ sym e
 
 -- `may_follow`

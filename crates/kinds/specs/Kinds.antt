@@ -1,11 +1,9 @@
 -- The eight record types, and what may follow what.
 -- Assumes nothing.
-use Rattle.std.specs.Prelude.{ℕ, List, [], ◌∷◌, Bool, false, true, cond, ◌||◌, eqb, length, get_or}
+use Rattle.std.specs.Prelude.{ℕ, List, [], ◌∷◌, Bool, false, true, cond, ◌||◌, eqb, length, get_or, None, Option, Some}
 use Rattle.memory.specs.Tests.{is}
 use Rattle.kinds.specs.declared.Kind.{Kind}
 use Rattle.kinds.specs.declared.Kind.TheVariants.{Header, Patient, Order, Result, Query, Terminator, Comment, Manufacturer}
-use Rattle.kinds.specs.declared.Letter.{Letter}
-use Rattle.kinds.specs.declared.Letter.TheVariants.{Known, Unknown}
 
 -- H P O R Q L C M [R5]
 abbrev pub letter_of : Kind → ℕ
@@ -19,20 +17,20 @@ letter_of Comment = 0x43
 letter_of Manufacturer = 0x4d
 
 -- the type that a letter names [R5]
-unfoldable pub kind_of : ℕ → Letter
+unfoldable pub kind_of : ℕ → Option Kind
 kind_of b =
-    cond (is (letter_of Header) b) (Known Header)
-    (cond (is (letter_of Patient) b) (Known Patient)
-    (cond (is (letter_of Order) b) (Known Order)
-    (cond (is (letter_of Result) b) (Known Result)
-    (cond (is (letter_of Query) b) (Known Query)
-    (cond (is (letter_of Terminator) b) (Known Terminator)
-    (cond (is (letter_of Comment) b) (Known Comment)
-    (cond (is (letter_of Manufacturer) b) (Known Manufacturer) Unknown)))))))
+    cond (is (letter_of Header) b) (Some Header)
+    (cond (is (letter_of Patient) b) (Some Patient)
+    (cond (is (letter_of Order) b) (Some Order)
+    (cond (is (letter_of Result) b) (Some Result)
+    (cond (is (letter_of Query) b) (Some Query)
+    (cond (is (letter_of Terminator) b) (Some Terminator)
+    (cond (is (letter_of Comment) b) (Some Comment)
+    (cond (is (letter_of Manufacturer) b) (Some Manufacturer) None)))))))
 
 -- the type that a record's first field names: the field is exactly the letter [R5]
-unfoldable pub type_of : List ℕ → Letter
-type_of f = cond (eqb (length f) 1) (kind_of (get_or f 0 0)) Unknown
+unfoldable pub type_of : List ℕ → Option Kind
+type_of f = cond (eqb (length f) 1) (kind_of (get_or f 0 0)) None
 
 -- the types that may follow a type, C and M passed over: behind H and P: P O Q L; behind O and R: O R P Q L; behind Q: Q P L; behind L: nothing.
 -- C and M may follow any but L. They are passed over themselves, so their own rows are never asked. [R6, R7]

@@ -5,7 +5,6 @@ ghost use Rattle.std.specs.Prelude.{◌≡◌, get_or};
 ghost use Rattle.kinds.specs.Delimiters.{four_at, delimiters_of, is_delimiter, different, are_delimiters};
 ghost use Rattle.kinds.specs.Kinds.{kind_of, may_follow};
 ghost use Rattle.kinds.specs.Header.{is_header};
-ghost use Rattle.kinds.specs.Inner.Rows.{row_of};
 
 // How many delimiters a header names.
 pub const DELIMITERS: usize = 4;
@@ -37,10 +36,11 @@ impl Delimiters {
 fn byte_at(text: &[u8], i: usize) -> u8
     ensures { result ≡ get_or text.now i 0 }
 {
-    if i < text.len() { text[i] } else { 0 }
+    text.get(i).copied().unwrap_or(0)
 }
 
 // The delimiters in force in a text: the four behind its first byte.
+#[tactic(auto, unfolding(crate::specs::Delimiters::delimiters_of))]
 pub fn delimiters_of(text: &[u8]) -> Delimiters
     ensures { result ≡ delimiters_of text.now }
 {
@@ -53,56 +53,35 @@ pub fn delimiters_of(text: &[u8]) -> Delimiters
 }
 
 // Whether a byte may be a delimiter.
+#[tactic(auto, unfolding(crate::specs::Delimiters::is_delimiter))]
 pub fn is_delimiter(b: u8) -> bool
     ensures { result ≡ is_delimiter b }
 {
-    match b {
-        b'0'..=b'9' => false,
-        b'A'..=b'Z' => false,
-        b'a'..=b'z' => false,
-        0x21..=0x7e => true,
-        _ => false,
-    }
+    b.is_ascii_punctuation()
 }
 
+#[tactic(auto, unfolding(crate::specs::Delimiters::different))]
 fn are_different(d: Delimiters) -> bool
     ensures { result ≡ different d }
 {
-    if d.repeat == d.field {
-        return false;
-    }
-    if d.component == d.field {
-        return false;
-    }
-    if d.escape == d.field {
-        return false;
-    }
-    if d.component == d.repeat {
-        return false;
-    }
-    if d.escape == d.repeat {
-        return false;
-    }
-    d.escape != d.component
+    d.repeat != d.field
+        && d.component != d.field
+        && d.escape != d.field
+        && d.component != d.repeat
+        && d.escape != d.repeat
+        && d.escape != d.component
 }
 
 // Whether the four may be the delimiters of a message.
+#[tactic(auto, unfolding(crate::specs::Delimiters::are_delimiters))]
 pub fn are_delimiters(d: Delimiters) -> bool
     ensures { result ≡ are_delimiters d }
 {
-    if !is_delimiter(d.field) {
-        return false;
-    }
-    if !is_delimiter(d.repeat) {
-        return false;
-    }
-    if !is_delimiter(d.component) {
-        return false;
-    }
-    if !is_delimiter(d.escape) {
-        return false;
-    }
-    are_different(d)
+    is_delimiter(d.field)
+        && is_delimiter(d.repeat)
+        && is_delimiter(d.component)
+        && is_delimiter(d.escape)
+        && are_different(d)
 }
 
 // The record types, in the order of their rows: H P O R Q L C M.
@@ -118,27 +97,21 @@ pub enum Kind {
     Manufacturer,
 }
 
-// What a letter names.
-#[derive(Clone, Copy)]
-pub enum Letter {
-    Known(Kind),
-    Unknown,
-}
-
-// The type that a letter names.
-pub fn kind_of(b: u8) -> Letter
+// The type that a letter names, if it names one.
+#[tactic(auto, unfolding(crate::specs::Kinds::kind_of))]
+pub fn kind_of(b: u8) -> Option<Kind>
     ensures { result ≡ kind_of b }
 {
     match b {
-        b'H' => Letter::Known(Kind::Header),
-        b'P' => Letter::Known(Kind::Patient),
-        b'O' => Letter::Known(Kind::Order),
-        b'R' => Letter::Known(Kind::Result),
-        b'Q' => Letter::Known(Kind::Query),
-        b'L' => Letter::Known(Kind::Terminator),
-        b'C' => Letter::Known(Kind::Comment),
-        b'M' => Letter::Known(Kind::Manufacturer),
-        _ => Letter::Unknown,
+        b'H' => Some(Kind::Header),
+        b'P' => Some(Kind::Patient),
+        b'O' => Some(Kind::Order),
+        b'R' => Some(Kind::Result),
+        b'Q' => Some(Kind::Query),
+        b'L' => Some(Kind::Terminator),
+        b'C' => Some(Kind::Comment),
+        b'M' => Some(Kind::Manufacturer),
+        _ => None,
     }
 }
 
@@ -154,36 +127,17 @@ pub const FOLLOWERS: [[bool; 8]; 8] = [
     [false, false, false, false, false, false, false, false],
 ];
 
-fn row_of(k: Kind) -> usize
-    ensures { result ≡ row_of k }
-{
-    match k {
-        Kind::Header => 0,
-        Kind::Patient => 1,
-        Kind::Order => 2,
-        Kind::Result => 3,
-        Kind::Query => 4,
-        Kind::Terminator => 5,
-        Kind::Comment => 6,
-        Kind::Manufacturer => 7,
-    }
-}
-
 // Whether a record of type k may stand where `other` is the last record that is neither C nor M.
 pub fn may_follow(other: Kind, k: Kind) -> bool
     ensures { result ≡ may_follow other k }
 {
-    let i = row_of(other);
-    let j = row_of(k);
-    FOLLOWERS[i][j]
+    FOLLOWERS[other as usize][k as usize]
 }
 
 // Whether the record is a header by the delimiters that it names itself: five bytes, and the first is H.
+#[tactic(auto, using(crate::proofs::Named::own_header))]
 pub fn is_header(rec: &[u8]) -> bool
     ensures { result ≡ is_header (delimiters_of rec.now) rec.now }
 {
-    if rec.len() < 5 {
-        return false;
-    }
-    rec[0] == b'H'
+    rec.len() >= 5 && rec[0] == b'H'
 }

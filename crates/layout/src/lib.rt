@@ -76,18 +76,14 @@ pub fn fresh(numbers: &mut [u16; NUMBERS], counts: &mut [u32; COUNTS])
     ensures { Fresh numbers.new counts.new }
 {
     *numbers = [0u16; NUMBERS];
-    numbers[0 * FIELDS + NEXT] = 1;
-    numbers[1 * FIELDS + NEXT] = 1;
-    numbers[2 * FIELDS + NEXT] = 1;
-    numbers[3 * FIELDS + NEXT] = 1;
-    numbers[4 * FIELDS + NEXT] = 1;
-    numbers[5 * FIELDS + NEXT] = 1;
-    numbers[6 * FIELDS + NEXT] = 1;
-    numbers[7 * FIELDS + NEXT] = 1;
+    for i in 0..memory::LINES {
+        numbers[i * FIELDS + NEXT] = 1;
+    }
     *counts = [0u32; COUNTS];
 }
 
-// Every line fresh and set to speak what is said; or 42, and nothing is changed, where that is nothing that a line can speak.
+// Every line fresh and set to speak what is said; or 42, and nothing is changed, where that is nothing that a line can speak. A number, as
+// `ngachodui_start_3` hands it on to C.
 pub fn start(
     speaks: &[u16; memory::LINES],
     numbers: &mut [u16; NUMBERS],
@@ -106,27 +102,15 @@ pub fn start(
 fn put_speaks(speaks: &[u16; memory::LINES], numbers: &mut [u16; NUMBERS])
     ensures { numbers.new ≡ all_put speaks.now numbers.old }
 {
-    numbers[0 * FIELDS + SPEAKS] = speaks[0];
-    numbers[1 * FIELDS + SPEAKS] = speaks[1];
-    numbers[2 * FIELDS + SPEAKS] = speaks[2];
-    numbers[3 * FIELDS + SPEAKS] = speaks[3];
-    numbers[4 * FIELDS + SPEAKS] = speaks[4];
-    numbers[5 * FIELDS + SPEAKS] = speaks[5];
-    numbers[6 * FIELDS + SPEAKS] = speaks[6];
-    numbers[7 * FIELDS + SPEAKS] = speaks[7];
+    for (i, n) in speaks.iter().enumerate() {
+        numbers[i * FIELDS + SPEAKS] = *n;
+    }
 }
 
 fn can_start(speaks: &[u16; memory::LINES]) -> bool
     ensures { result ≡ can_start speaks.now }
 {
-    let mut i = 0;
-    while i < memory::LINES {
-        if !is_spoken(speaks[i]) {
-            return false;
-        }
-        i += 1;
-    }
-    true
+    speaks.iter().all(|n| is_spoken(*n))
 }
 
 // Whether a line can speak this.

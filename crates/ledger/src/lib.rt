@@ -9,6 +9,7 @@ use journal::Ledger;
 use layout::{COUNTS, FIELDS, NUMBERS, SERIAL};
 
 // The ledger that the numbers stand for.
+#[tactic(auto, unfolding(crate::specs::Ledgers::ledger_of))]
 pub fn ledger_of(numbers: &[u16; NUMBERS], counts: &[u32; COUNTS]) -> Ledger
     ensures { LedgerRead numbers.now counts.now result }
 {
@@ -20,6 +21,7 @@ pub fn ledger_of(numbers: &[u16; NUMBERS], counts: &[u32; COUNTS]) -> Ledger
 }
 
 // Puts the serial of a line's next entry.
+#[tactic(auto, using(memory::proofs::Branches::branches))]
 pub fn put_serial(numbers: &mut [u16; NUMBERS], i: usize, serial: u16)
     ensures { numbers.new ≡ serial_after numbers.old i serial }
 {
@@ -30,6 +32,7 @@ pub fn put_serial(numbers: &mut [u16; NUMBERS], i: usize, serial: u16)
 }
 
 // Puts a line's used count, and how many bytes are in use.
+#[tactic(auto, using(memory::proofs::Branches::branches))]
 pub fn put_used(counts: &mut [u32; COUNTS], i: usize, own: u32, all: u32)
     ensures { counts.new ≡ counts_after counts.old i own all }
 {

@@ -53,12 +53,6 @@ module _ (l : Line) where
   unfolding within_limits
   within_of w = rw (le-leb _ _ w.collected, le-leb _ _ w.joined, le-leb _ _ w.seconds, le-leb _ _ w.next, w.last, w.state, w.frames)
 
--- where its counts are within the limits, its last number and its state tell
-pub within_rest : (l : Line) → l.collected ≤ frame_limit - 2 → l.joined ≤ message_limit → l.seconds ≤ most_seconds → l.next ≤ most_number
-    → within_limits l ≡ (last_within l.last && state_within l.state) && speaks_frames l.settings
-unfolding within_limits most_collected
-within_rest l c j s n = rw (le-leb l.collected (frame_limit - 2) c, le-leb l.joined message_limit j, le-leb l.seconds most_seconds s, le-leb l.next most_number n)
-
 -- every transition keeps the limits
 pub fresh_within : within_limits fresh_line ≡ true
 unfolding within_limits most_collected

@@ -1,6 +1,6 @@
 -- The record of a line: fresh, within its limits, and what each kind of event leaves of it.
 -- Assumes nothing.
-use Rattle.std.specs.Prelude.{ℕ, ◌-◌, Bool, true, false, ◌&&◌, leb, ltb}
+use Rattle.std.specs.Prelude.{ℕ, ◌-◌, Bool, true, false, ◌&&◌, leb, ltb, None, Option, Some}
 use Rattle.memory.specs.Sizes.{message_limit, frame_limit}
 use Rattle.digits.specs.Number.{most_number, next_number}
 use Rattle.settings.specs.Settings.{results_length, standard_settings, speaks_frames, by_dialogue}
@@ -11,8 +11,6 @@ use Rattle.line.specs.declared.Sending.{Sending}
 use Rattle.line.specs.declared.Sending.TheVariants.{Asking, Pausing, Offering}
 use Rattle.line.specs.declared.State.{State}
 use Rattle.line.specs.declared.State.TheVariants.{Neutral, Waiting, Inside, Out}
-use Rattle.line.specs.declared.Last.{Last}
-use Rattle.line.specs.declared.Last.TheVariants.{NoneYet, Number}
 
 -- a frame is judged at the last byte of its line's limit at the latest, and STX is not collected; today every line has the same limit [E7]
 unfoldable pub most_collected : Line → ℕ
@@ -24,7 +22,7 @@ most_seconds = 29
 
 -- neutral, counts 0, next number 1, no last number, not refusing; and it speaks what is set [E2, E3, B1]
 abbrev pub started_line : Settings → Line
-started_line t = record { state = Neutral; collected = 0; joined = 0; seconds = 0; next = 1; last = NoneYet; refusing = false; settings = t }
+started_line t = record { state = Neutral; collected = 0; joined = 0; seconds = 0; next = 1; last = None; refusing = false; settings = t }
 
 -- and frames, unless it is said otherwise [E2, E3]
 abbrev pub fresh_line : Line
@@ -32,16 +30,16 @@ fresh_line = started_line standard_settings
 
 -- where a transfer is opened, and where it is over: what the old record had of a transfer is gone [L5]
 abbrev pub opened_line : Line → Line
-opened_line l = record { state = Waiting; collected = 0; joined = 0; seconds = 0; next = 1; last = NoneYet; refusing = false; settings = l.settings }
+opened_line l = record { state = Waiting; collected = 0; joined = 0; seconds = 0; next = 1; last = None; refusing = false; settings = l.settings }
 
 -- and where it is over [L6]
 abbrev pub closed_line : Line → Line
-closed_line l = record { state = Neutral; collected = 0; joined = 0; seconds = 0; next = 1; last = NoneYet; refusing = false; settings = l.settings }
+closed_line l = record { state = Neutral; collected = 0; joined = 0; seconds = 0; next = 1; last = None; refusing = false; settings = l.settings }
 
 -- a last number, if there is one, is the number of a frame [E11]
-abbrev pub last_within : Last → Bool
-last_within NoneYet = true
-last_within (Number n) = leb n most_number
+abbrev pub last_within : Option ℕ → Bool
+last_within None = true
+last_within (Some n) = leb n most_number
 
 -- a frame is sent, and our ENQ refused, at most so often [S7, S9]
 abbrev pub most_tries : ℕ
@@ -98,7 +96,7 @@ waiting_line l =
 -- and the number advances, with so many bytes joined [F9, L8]
 abbrev pub accepted_line : Line → ℕ → Line
 accepted_line l count =
-    record { state = Waiting; collected = 0; joined = count; seconds = 0; next = next_number l.next; last = Number l.next; refusing = l.refusing; settings = l.settings }
+    record { state = Waiting; collected = 0; joined = count; seconds = 0; next = next_number l.next; last = Some l.next; refusing = l.refusing; settings = l.settings }
 
 -- or nothing is joined any more, and the line refuses [F10, L10]
 abbrev pub refusing_line : Line → Line
@@ -107,7 +105,7 @@ refusing_line l =
 
 -- the start of a sending of so many bytes: our ENQ awaits its reply, and nothing of an old record is left [S1, L13]
 abbrev pub asked_line : Line → ℕ → Line
-asked_line l count = record { state = Out (Asking 0); collected = 0; joined = count; seconds = 0; next = 1; last = NoneYet; refusing = false; settings = l.settings }
+asked_line l count = record { state = Out (Asking 0); collected = 0; joined = count; seconds = 0; next = 1; last = None; refusing = false; settings = l.settings }
 
 -- a sending goes on, with the number of its frame: its seconds begin anew, and none is carried on [S10, L14]
 abbrev pub gone_line : Line → Sending → ℕ → Line

@@ -1,11 +1,9 @@
 -- Seconds on an open line.
 -- Assumes nothing.
-use Rattle.std.specs.Prelude.{ℕ, ◌+◌, cond, leb}
+use Rattle.std.specs.Prelude.{ℕ, ◌+◌, cond, leb, None, Option, Some}
 use Rattle.line.specs.Line.{most_seconds}
 use Rattle.line.specs.declared.Line.{Line}
-use Rattle.line.specs.declared.Passed.{Passed}
-use Rattle.line.specs.declared.Passed.TheVariants.{Counted, RanOut}
 
 -- they add up, and at 30 or more the time has run out [E8, E9]
-unfoldable pub passed_of : Line → ℕ → Passed
-passed_of l s = cond (leb (l.seconds + s) most_seconds) (Counted (l.seconds + s)) RanOut
+unfoldable pub passed_of : Line → ℕ → Option ℕ
+passed_of l s = cond (leb (l.seconds + s) most_seconds) (Some (l.seconds + s)) None

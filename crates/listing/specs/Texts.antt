@@ -1,16 +1,12 @@
 -- The lines of the replay listing, and what writing one into lent memory says.
 -- Assumes nothing.
-use Rattle.std.specs.Prelude.{◌≡◌, ℕ, ◌+◌, cond, List, [], ◌∷◌, ◌++◌, length}
+use Rattle.std.specs.Prelude.{◌≡◌, ℕ, ◌+◌, cond, List, [], ◌∷◌, ◌++◌, length, None, Option, Some}
 use Rattle.memory.specs.Moves.{fits_at, copied}
 use Rattle.memory.specs.Tests.{is}
 use Rattle.digits.specs.Check.{digits_of}
 use Rattle.digits.specs.declared.Digits.{Digits}
 use Rattle.answers.specs.Paper.{reply_of}
-use Rattle.answers.specs.declared.Reply.{Reply}
-use Rattle.answers.specs.declared.Reply.TheVariants.{Silence, Byte}
 use Rattle.decimal.specs.Decimal.{decimal_of}
-use Rattle.listing.specs.declared.Written.{Written}
-use Rattle.listing.specs.declared.Written.TheVariants.{To, NotFitting}
 
 abbrev pub space : ℕ
 space = 0x20
@@ -35,9 +31,9 @@ abbrev pub no_digits : Digits
 no_digits = record { high = 0x2d; low = 0x2d }
 
 -- a reply as two hex digits [T7]
-abbrev pub reply_in : Reply → Digits
-reply_in Silence = no_digits
-reply_in (Byte b) = digits_of b
+abbrev pub reply_in : Option ℕ → Digits
+reply_in None = no_digits
+reply_in (Some b) = digits_of b
 
 abbrev pub reply_digits : ℕ → Digits
 reply_digits number = reply_in (reply_of number)
@@ -78,10 +74,10 @@ unfoldable pub fault_text : ℕ → List ℕ
 fault_text line = line_text ++ (decimal_of line ++ no_event_text)
 
 -- where the text ends, or no room for it
-unfoldable pub end_of : List ℕ → List ℕ → ℕ → Written
-end_of text out at = cond (fits_at out at text) (To (at + length text)) NotFitting
+unfoldable pub end_of : List ℕ → List ℕ → ℕ → Option ℕ
+end_of text out at = cond (fits_at out at text) (Some (at + length text)) None
 
 -- what writing a text says: the answer, and the memory after it, which is unchanged where the text has no room
-pub record TextWritten (text out : List ℕ) (at : ℕ) (r : Written) (out' : List ℕ) : Type 0 where
+pub record TextWritten (text out : List ℕ) (at : ℕ) (r : Option ℕ) (out' : List ℕ) : Type 0 where
   pub answer : r ≡ end_of text out at
   pub after : out' ≡ copied out at text

@@ -3,7 +3,6 @@ ghost use Rattle.std.specs.Prelude.{◌≡◌, ◌+◌, ◌≤◌, length, nat_l
 ghost use Rattle.memory.specs.Parts.{splice};
 ghost use Rattle.listing.specs.Texts.{word_text, last_text, no_digits, reply_digits, row_text};
 
-use answers::Reply;
 use digits::Digits;
 
 // The answer to a taking that took an entry: its row shows the entry's length.
@@ -86,8 +85,8 @@ fn reply_digits(number: u8) -> Digits
 {
     let reply = answers::reply_to(number);
     match reply {
-        Reply::Silence => dashes(),
-        Reply::Byte(b) => digits::check_digits(b),
+        None => dashes(),
+        Some(b) => digits::check_digits(b),
     }
 }
 

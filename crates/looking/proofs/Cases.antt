@@ -1,5 +1,8 @@
 -- The look at an event goes to one of these cases: what holds of each of them holds of every look.
 -- Assumes nothing.
+use Rattle.std.specs.Prelude.{Err, None, Ok, Result, Some, ℕ}
+use Rattle.frame.specs.declared.Flaw.TheVariants.{BadNumber, BadText, Torn, Unended, WrongCheck}
+use Rattle.frame.specs.declared.Flaw.{Flaw}
 use mathlib.Core.Path.{◌≡◌, refl}
 use mathlib.Core.Bool.{Bool, true, false, cond}
 use mathlib.Core.List.{List}
@@ -13,8 +16,6 @@ use Rattle.characters.specs.Control.{lf, stx}
 use Rattle.frame.specs.Shape.{shape_of}
 use Rattle.frame.specs.declared.End.{End}
 use Rattle.frame.specs.declared.End.TheVariants.{Etb, Etx}
-use Rattle.frame.specs.declared.Shape.{Shape}
-use Rattle.frame.specs.declared.Shape.TheVariants.{Unended as NotEnded, Torn as IsTorn, WrongCheck as Unchecked, BadText as Foreign, BadNumber as Unnumbered, Whole}
 use Rattle.frame.proofs.Passed.{accepted_size}
 use Rattle.records.specs.Records.{ends_with_cr, ends_with_l}
 use Rattle.line.specs.Line.{most_collected, most_seconds, sending_within}
@@ -32,7 +33,6 @@ use Rattle.sending.specs.Onward.{byte_onward, seconds_onward}
 use Rattle.sending.specs.declared.Onward.{Onward}
 use Rattle.sending.specs.declared.Onward.TheVariants.{Stays, Waits, Goes, Ends, GivesUp}
 use Rattle.sending.proofs.Fits.{OnwardFits, byte_fits, seconds_fits}
-use Rattle.line.specs.declared.Passed.TheVariants.{Counted, RanOut}
 use Rattle.line.specs.declared.Turn.{Turn}
 use Rattle.line.specs.declared.Turn.TheVariants.{Refused, Again, Missed, Overlong, InTurn}
 use Rattle.line.proofs.Limits.{within_facts}
@@ -103,7 +103,7 @@ module _ (P : Look → Type 0) (l : Line) (c : Cases P l) where
   unfolding passed_of
   by_seconds_law s = sum (leb (l.seconds + s) most_seconds) refl
     where
-      sum : (b : Bool) → leb (l.seconds + s) most_seconds ≡ b → P (passed_look (cond b (Counted (l.seconds + s)) RanOut))
+      sum : (b : Bool) → leb (l.seconds + s) most_seconds ≡ b → P (passed_look (cond b (Some (l.seconds + s)) None))
       sum true e = c.counts (l.seconds + s) (leb-true (l.seconds + s) most_seconds e)
       sum false e = c.timed_out
 
@@ -119,13 +119,13 @@ module _ (P : Look → Type 0) (l : Line) (c : Cases P l) where
   by_turn InTurn number end n text h e = by_end end n text (h, (in_turn_due l number n e).room)
 
   module _ (t f : List ℕ) (own : Own l t f) where
-    by_shape : (b : ℕ) (s : Shape) → shape_of frame_limit (frame_bytes l b f) ≡ s → P (shape_look s l t f)
-    by_shape b NotEnded e = c.unended
-    by_shape b IsTorn e = c.torn
-    by_shape b Unchecked e = c.unchecked
-    by_shape b Foreign e = c.foreign
-    by_shape b Unnumbered e = c.unnumbered
-    by_shape b (Whole number end n) e =
+    by_shape : (b : ℕ) (s : Result (ℕ × End × ℕ) Flaw) → shape_of frame_limit (frame_bytes l b f) ≡ s → P (shape_look s l t f)
+    by_shape b (Err Unended) e = c.unended
+    by_shape b (Err Torn) e = c.torn
+    by_shape b (Err WrongCheck) e = c.unchecked
+    by_shape b (Err BadText) e = c.foreign
+    by_shape b (Err BadNumber) e = c.unnumbered
+    by_shape b (Ok (number, end, n)) e =
         let size = accepted_size frame_limit (frame_bytes l b f) number end n e in
         by_turn (turn_of l number n) number end n (joined_text l n t f) (omega (arith, size, length_frame l b t f own)) refl
 

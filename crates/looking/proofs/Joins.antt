@@ -1,6 +1,9 @@
 -- What the text of a frame has passed, on any line, where a look joins it: it is of allowed bytes (24), and with it the line's text is within the limit (28).
 -- Where the look decides, that text ends with CR (29).
 -- Assumes nothing.
+use Rattle.std.specs.Prelude.{Err, None, Ok, Option, Result, Some, ℕ}
+use Rattle.frame.specs.declared.Flaw.TheVariants.{BadNumber, BadText, Torn, Unended, WrongCheck}
+use Rattle.frame.specs.declared.Flaw.{Flaw}
 use mathlib.Core.Path.{◌≡◌, refl, ap, ◌∙◌}
 use mathlib.Core.Bool.{Bool, true, false, cond}
 use mathlib.Core.List.{List, [], ◌∷◌}
@@ -17,8 +20,6 @@ use Rattle.characters.specs.Allowed.{allowed}
 use Rattle.frame.specs.Shape.{text_in, shape_of}
 use Rattle.frame.specs.declared.End.{End}
 use Rattle.frame.specs.declared.End.TheVariants.{Etb, Etx}
-use Rattle.frame.specs.declared.Shape.{Shape}
-use Rattle.frame.specs.declared.Shape.TheVariants.{Unended as NotEnded, Torn as IsTorn, WrongCheck as Unchecked, BadText as Foreign, BadNumber as Unnumbered, Whole}
 use Rattle.frame.proofs.Passed.{accepted_size, accepted_clean}
 use Rattle.records.specs.Records.{ends_with_cr, ends_with_l}
 use Rattle.line.specs.Line.{most_collected}
@@ -31,8 +32,6 @@ use Rattle.line.specs.declared.Sending.{Sending}
 use Rattle.sending.specs.Onward.{byte_onward, seconds_onward}
 use Rattle.sending.specs.declared.Onward.{Onward}
 use Rattle.sending.specs.declared.Onward.TheVariants.{Stays, Waits, Goes, Ends, GivesUp}
-use Rattle.line.specs.declared.Passed.{Passed}
-use Rattle.line.specs.declared.Passed.TheVariants.{Counted, RanOut}
 use Rattle.line.specs.declared.Turn.{Turn}
 use Rattle.line.specs.declared.Turn.TheVariants.{Refused, Again, Missed, Overlong, InTurn}
 use Rattle.line.proofs.Turns.{in_turn_due}
@@ -112,9 +111,9 @@ module _ (l : Line) (texts frames : List ℕ) where
   by_onward Ends = tt
   by_onward GivesUp = tt
 
-  by_passed : (p : Passed) → Joins (passed_look p)
-  by_passed (Counted n) = tt
-  by_passed RanOut = tt
+  by_passed : (p : Option ℕ) → Joins (passed_look p)
+  by_passed (Some n) = tt
+  by_passed None = tt
 
   by_cr : (n : ℕ) (b : Bool) → Joinable l n texts frames → ends_with_cr (joined_text l n texts frames) ≡ b
       → Joins (unless b (Done (Refuses NoCr)) (cond (ends_with_l (joined_text l n texts frames)) (Decides n) (Done (Accepts n))))
@@ -132,13 +131,13 @@ module _ (l : Line) (texts frames : List ℕ) where
   by_turn Overlong number end n c e = tt
   by_turn InTurn number end n c e = by_end end n (record { clean = c; short = joined_short n (in_turn_due l number n e).room })
 
-  by_shape : (b : ℕ) (s : Shape) → shape_of frame_limit (frame_bytes l b frames) ≡ s → Joins (shape_look s l texts frames)
-  by_shape b NotEnded e = tt
-  by_shape b IsTorn e = tt
-  by_shape b Unchecked e = tt
-  by_shape b Foreign e = tt
-  by_shape b Unnumbered e = tt
-  by_shape b (Whole number end n) e =
+  by_shape : (b : ℕ) (s : Result (ℕ × End × ℕ) Flaw) → shape_of frame_limit (frame_bytes l b frames) ≡ s → Joins (shape_look s l texts frames)
+  by_shape b (Err Unended) e = tt
+  by_shape b (Err Torn) e = tt
+  by_shape b (Err WrongCheck) e = tt
+  by_shape b (Err BadText) e = tt
+  by_shape b (Err BadNumber) e = tt
+  by_shape b (Ok (number, end, n)) e =
       let text = frame_text_law l b frames n (accepted_size frame_limit (frame_bytes l b frames) number end n e) in
       by_turn (turn_of l number n) number end n (rw text at (accepted_clean frame_limit (frame_bytes l b frames) number end n e)) refl
 

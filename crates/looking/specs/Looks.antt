@@ -1,14 +1,14 @@
 -- What an event comes to, read off its own line alone: the record, and its parts of the unfinished texts and of the frames. Neither the journal nor another line is looked at.
 -- Assumes nothing.
-use Rattle.std.specs.Prelude.{ℕ, cond, List, eqb, ltb, length}
+use Rattle.frame.specs.declared.Flaw.TheVariants.{BadNumber, BadText, Torn, Unended, WrongCheck}
+use Rattle.frame.specs.declared.Flaw.{Flaw}
+use Rattle.std.specs.Prelude.{ℕ, cond, List, eqb, ltb, length, Err, None, Ok, Option, Result, Some}
 use Rattle.memory.specs.Sizes.{lines, frame_limit}
 use Rattle.memory.specs.Tests.{unless, is}
 use Rattle.characters.specs.Control.{stx, lf}
 use Rattle.frame.specs.Shape.{shape_of}
 use Rattle.frame.specs.declared.End.{End}
 use Rattle.frame.specs.declared.End.TheVariants.{Etb, Etx}
-use Rattle.frame.specs.declared.Shape.{Shape}
-use Rattle.frame.specs.declared.Shape.TheVariants.{Unended as NotEnded, Torn as IsTorn, WrongCheck as Unchecked, BadText as Foreign, BadNumber as Unnumbered, Whole}
 use Rattle.records.specs.Records.{ends_with_cr, ends_with_l}
 use Rattle.line.specs.Line.{most_collected, within_limits}
 use Rattle.line.specs.Seconds.{passed_of}
@@ -18,8 +18,6 @@ use Rattle.line.specs.declared.Line.{Line}
 use Rattle.line.specs.declared.State.{State}
 use Rattle.line.specs.declared.State.TheVariants.{Neutral, Waiting, Inside, Out}
 use Rattle.line.specs.declared.Sending.{Sending}
-use Rattle.line.specs.declared.Passed.{Passed}
-use Rattle.line.specs.declared.Passed.TheVariants.{Counted, RanOut}
 use Rattle.line.specs.declared.Turn.{Turn}
 use Rattle.line.specs.declared.Turn.TheVariants.{Refused, Again, Missed, Overlong, InTurn}
 use Rattle.answers.specs.declared.Answer.TheVariants.{Nothing, Repeated, Ended, Dropped, TimedOut, Busy, Unended, Torn, WrongCheck, BadText, BadNumber, Refusing, OutOfTurn, TooLong, NoCr, NoLine, WrongSize, BeyondLimits, Sends, GivenUp}
@@ -51,13 +49,13 @@ turn_look Overlong end n text = Done (Refuses TooLong)
 turn_look InTurn end n text = end_look end n text
 
 -- a frame, by its shape: 21 to 25 [O4]
-abbrev pub shape_look : Shape → Line → List ℕ → List ℕ → Look
-shape_look NotEnded l texts frames = Done (Refuses Unended)
-shape_look IsTorn l texts frames = Done (Refuses Torn)
-shape_look Unchecked l texts frames = Done (Refuses WrongCheck)
-shape_look Foreign l texts frames = Done (Refuses BadText)
-shape_look Unnumbered l texts frames = Done (Refuses BadNumber)
-shape_look (Whole number end n) l texts frames = turn_look (turn_of l number n) end n (joined_text l n texts frames)
+abbrev pub shape_look : Result (ℕ × End × ℕ) Flaw → Line → List ℕ → List ℕ → Look
+shape_look (Err Unended) l texts frames = Done (Refuses Unended)
+shape_look (Err Torn) l texts frames = Done (Refuses Torn)
+shape_look (Err WrongCheck) l texts frames = Done (Refuses WrongCheck)
+shape_look (Err BadText) l texts frames = Done (Refuses BadText)
+shape_look (Err BadNumber) l texts frames = Done (Refuses BadNumber)
+shape_look (Ok (number, end, n)) l texts frames = turn_look (turn_of l number n) end n (joined_text l n texts frames)
 
 -- the frame that the byte b ends
 unfoldable pub frame_look : Line → ℕ → List ℕ → List ℕ → Look
@@ -88,9 +86,9 @@ by_state Inside neutral waiting inside sending = inside
 by_state (Out s) neutral waiting inside sending = sending s
 
 -- seconds on an open line [A7]
-abbrev pub passed_look : Passed → Look
-passed_look (Counted n) = Done (Counts n)
-passed_look RanOut = Done (Closes TimedOut)
+abbrev pub passed_look : Option ℕ → Look
+passed_look (Some n) = Done (Counts n)
+passed_look None = Done (Closes TimedOut)
 
 -- what a byte or seconds make of a sending: everything is answered 9, but a byte in the pause (0) and what drops it (61) [A9, A61, S4]
 abbrev pub onward_look : Onward → Look

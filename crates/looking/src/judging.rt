@@ -8,7 +8,7 @@ ghost use Rattle.looking.specs.Looks.{frame_look, turn_look, end_look};
 
 use super::{Act, Look, done};
 use answers::Answer;
-use frame::{End, Shape};
+use frame::{End, Flaw};
 use line::{Line, Turn};
 use records::Ending;
 
@@ -20,12 +20,12 @@ pub fn look_frame(line: Line, i: usize, b: u8, unfinished: &[u8], frames: &[u8])
     let start = i * memory::FRAME_PART;
     let end = start + line.collected as usize;
     match frame::shape_of(memory::FRAME_LIMIT, &frames[start..end], b) {
-        Shape::Unended => done(Act::Refuse, Answer::Unended),
-        Shape::Torn => done(Act::Refuse, Answer::Torn),
-        Shape::WrongCheck => done(Act::Refuse, Answer::WrongCheck),
-        Shape::BadText => done(Act::Refuse, Answer::BadText),
-        Shape::BadNumber => done(Act::Refuse, Answer::BadNumber),
-        Shape::Whole(number, end, n) => look_turn(line, i, number, end, n, unfinished, frames),
+        Err(Flaw::Unended) => done(Act::Refuse, Answer::Unended),
+        Err(Flaw::Torn) => done(Act::Refuse, Answer::Torn),
+        Err(Flaw::WrongCheck) => done(Act::Refuse, Answer::WrongCheck),
+        Err(Flaw::BadText) => done(Act::Refuse, Answer::BadText),
+        Err(Flaw::BadNumber) => done(Act::Refuse, Answer::BadNumber),
+        Ok((number, end, n)) => look_turn(line, i, number, end, n, unfinished, frames),
     }
 }
 

@@ -59,6 +59,7 @@ pub enum Look {
 }
 
 // An event on the line whose record this is: 40, 41, 42, then its work. Of the journal only its length is asked.
+#[tactic(auto, using(crate::proofs::Alone::look_no_line, crate::proofs::Alone::look_size, crate::proofs::Alone::look_beyond, crate::proofs::Alone::look_work, crate::proofs::Alone::ready))]
 pub fn look_alone(line: Line, e: Event, journal: usize, unfinished: &[u8], frames: &[u8]) -> Look
     ensures { result ≡ look_alone line e journal unfinished.now frames.now }
 {
@@ -72,8 +73,7 @@ pub fn look_alone(line: Line, e: Event, journal: usize, unfinished: &[u8], frame
     if !line.is_within_limits() {
         return done(Act::Leave, Answer::BeyondLimits);
     }
-    let kind = e.kind;
-    states::look(line, i, kind, unfinished, frames)
+    states::look(line, i, e.kind, unfinished, frames)
 }
 
 // A look that decides no message.
@@ -87,11 +87,7 @@ fn done(act: Act, answer: Answer) -> Look
 pub fn are_right(journal: usize, unfinished: usize, frames: usize) -> bool
     ensures { result ≡ right_lengths journal unfinished frames }
 {
-    if journal != memory::JOURNAL_SIZE {
-        return false;
-    }
-    if unfinished != memory::UNFINISHED_SIZE {
-        return false;
-    }
-    frames == memory::FRAMES_SIZE
+    journal == memory::JOURNAL_SIZE
+        && unfinished == memory::UNFINISHED_SIZE
+        && frames == memory::FRAMES_SIZE
 }

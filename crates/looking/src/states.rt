@@ -12,7 +12,7 @@ ghost use Rattle.looking.specs.Looks.{neutral_look, waiting_look, inside_look, p
 use super::{Act, Kind, Look, done, judging};
 use answers::{Answer, Parcel};
 use characters::{ENQ, EOT, LF, STX};
-use line::{Line, Passed, Sending, State};
+use line::{Line, Sending, State};
 use sending::Onward;
 
 pub fn look(line: Line, i: usize, kind: Kind, unfinished: &[u8], frames: &[u8]) -> Look
@@ -25,12 +25,12 @@ pub fn look(line: Line, i: usize, kind: Kind, unfinished: &[u8], frames: &[u8]) 
     }
 }
 
+#[tactic(auto, unfolding(crate::specs::Looks::byte_look))]
 fn look_byte(line: Line, i: usize, b: u8, unfinished: &[u8], frames: &[u8]) -> Look
     requires { Ready line i unfinished.now frames.now }
     ensures { result ≡ byte_look line b (texts_of i unfinished.now) (frames_of i frames.now) }
 {
-    let state = line.state;
-    match state {
+    match line.state {
         State::Neutral => look_neutral(b),
         State::Waiting => look_waiting(line, b),
         State::Inside => look_inside(line, i, b, unfinished, frames),
@@ -38,63 +38,57 @@ fn look_byte(line: Line, i: usize, b: u8, unfinished: &[u8], frames: &[u8]) -> L
     }
 }
 
+#[tactic(auto, unfolding(crate::specs::Looks::neutral_look))]
 fn look_neutral(b: u8) -> Look
     ensures { result ≡ neutral_look b }
 {
-    if b == ENQ {
-        return done(Act::Open, Answer::Opened);
+    match b {
+        ENQ => done(Act::Open, Answer::Opened),
+        _ => done(Act::Leave, Answer::Nothing),
     }
-    done(Act::Leave, Answer::Nothing)
 }
 
+#[tactic(auto, unfolding(crate::specs::Looks::waiting_look))]
 fn look_waiting(line: Line, b: u8) -> Look
     ensures { result ≡ waiting_look line b }
 {
-    if b == STX {
-        return done(Act::Begin, Answer::Nothing);
+    match b {
+        STX => done(Act::Begin, Answer::Nothing),
+        EOT if line.joined == 0 => done(Act::Close, Answer::Ended),
+        EOT => done(Act::Close, Answer::Dropped),
+        ENQ => done(Act::Leave, Answer::Busy),
+        _ => done(Act::Leave, Answer::Nothing),
     }
-    if b == EOT {
-        if line.joined == 0 {
-            return done(Act::Close, Answer::Ended);
-        }
-        return done(Act::Close, Answer::Dropped);
-    }
-    if b == ENQ {
-        return done(Act::Leave, Answer::Busy);
-    }
-    done(Act::Leave, Answer::Nothing)
 }
 
+#[tactic(auto, unfolding(crate::specs::Looks::inside_look, line::specs::Line::most_collected))]
 fn look_inside(line: Line, i: usize, b: u8, unfinished: &[u8], frames: &[u8]) -> Look
     requires { Ready line i unfinished.now frames.now }
     ensures { result ≡ inside_look line b (texts_of i unfinished.now) (frames_of i frames.now) }
 {
-    if b != LF {
-        if line.collected != Line::MOST_COLLECTED {
-            return done(Act::Collect, Answer::Nothing);
-        }
+    if b != LF && line.collected != Line::MOST_COLLECTED {
+        return done(Act::Collect, Answer::Nothing);
     }
     judging::look_frame(line, i, b, unfinished, frames)
 }
 
+#[tactic(auto, unfolding(crate::specs::Looks::seconds_look))]
 fn look_seconds(line: Line, s: u8) -> Look
     ensures { result ≡ seconds_look line s }
 {
-    let state = line.state;
-    match state {
+    match line.state {
         State::Neutral => done(Act::Leave, Answer::Nothing),
-        State::Waiting => look_passed(line.pass(s)),
-        State::Inside => look_passed(line.pass(s)),
+        State::Waiting | State::Inside => look_passed(line.pass(s)),
         State::Out(sending) => look_onward(sending::on_seconds(line, sending, s)),
     }
 }
 
-fn look_passed(passed: Passed) -> Look
+fn look_passed(passed: Option<u8>) -> Look
     ensures { result ≡ passed_look passed }
 {
     match passed {
-        Passed::Counted(n) => done(Act::Count(n), Answer::Nothing),
-        Passed::RanOut => done(Act::Close, Answer::TimedOut),
+        Some(n) => done(Act::Count(n), Answer::Nothing),
+        None => done(Act::Close, Answer::TimedOut),
     }
 }
 
@@ -120,10 +114,7 @@ fn look_onward(onward: Onward) -> Look
     match onward {
         Onward::Stays => done(Act::Leave, Answer::Nothing),
         Onward::Waits(n) => done(Act::Await(n), Answer::Sends(Parcel::Empty)),
-        Onward::Goes(sending, n) => {
-            let parcel = parcel_of(sending);
-            done(Act::Go(sending, n), Answer::Sends(parcel))
-        }
+        Onward::Goes(sending, n) => done(Act::Go(sending, n), Answer::Sends(parcel_of(sending))),
         Onward::Ends => done(Act::Close, Answer::Sends(Parcel::Ending)),
         Onward::GivesUp => done(Act::Close, Answer::GivenUp),
     }

@@ -3,16 +3,17 @@
 use mathlib.Core.Path.{◌≡◌, sym, ap, ◌∙◌}
 use mathlib.Core.Bool.{Bool, true, false}
 use mathlib.Core.List.{List, ◌++◌, append-nil}
-use Prim.Native.Nat.{ℕ, suc, ◌+◌, ◌-◌, ◌≤◌, ◌<◌}
+use Prim.Native.Nat.{ℕ, ◌+◌, ◌-◌, ◌≤◌, ◌<◌}
 use native.Mathlib.Nat.{add-zero, zero-add}
 use native.Mathlib.Decide.{dec_le}
 use native.Mathlib.Omega.{arith}
-use lib.ListN.{length, take, drop, get_or, set, length-take, length-drop, drop_of_length-le}
-use lib.Seq.{take-suc, take_all, length-take-le}
+use lib.ListN.{length, take, drop, length-take, length-drop, drop_of_length-le}
+use lib.Seq.{take_all, length-take-le, drop-drop}
+use borrow.Rule.Slice.PartMut.{put_mid}
 use borrow.Author.Tests.{le-leb, lt-leb}
 use Rattle.memory.specs.Parts.{part, splice}
 use Rattle.memory.specs.Moves.{copied, has_gap, later, closed_up, Copied, ClosedUp}
-use Rattle.memory.proofs.Parts.{length_part, part_start, part_lent, part_part, part_add, part_behind, take_through, splice_from, splice_join, set_behind}
+use Rattle.memory.proofs.Parts.{length_part, part_start, part_lent, part_part, part_add, part_behind, take_through, splice_from, splice_join}
 
 -- what was laid over the start of a buffer is there
 pub held : (b s : List ℕ) {b' : List ℕ} → length s ≤ length b → b' ≡ splice b 0 s → take (length s) b' ≡ s
@@ -24,14 +25,12 @@ piece_held b d at n h k e =
     let long : length (part d at n) ≡ n = length_part d at n k in
     rw long at (held b (part d at n) (rw long h) (e ∙ ap (splice b 0) (part_lent d at n)))
 
--- one byte more of s is copied to `at`
-pub copy_more : (d : List ℕ) (at : ℕ) (s : List ℕ) (i : ℕ) → at + length s ≤ length d → i < length s
-    → set (splice d at (take i s)) (at + i) (get_or s i 0) ≡ splice d at (take (suc i) s)
-copy_more d at s i h k =
-    let n : length (take i s) ≡ i = length-take-le i s (omega arith) in
-    ap (λ (m : ℕ). set (splice d at (take i s)) (at + m) (get_or s i 0)) (sym n)
-    ∙ set_behind d at (take i s) (get_or s i 0) (omega arith)
-    ∙ ap (splice d at) (sym (take-suc s i 0 k))
+-- the n bytes of d from `at` on were lent, and are s now
+pub put_splice : (d : List ℕ) (at n : ℕ) {s x : List ℕ} → x ≡ s → length s ≡ n → put_mid at (at + n - at) d x ≡ splice d at s
+unfolding splice
+put_splice d at n {s} h e =
+    let long : at + n - at ≡ length s = omega arith in
+    rw (long, h, drop-drop)
 
 -- a piece more of s is copied
 pub copy_on : (d : List ℕ) (at : ℕ) (s : List ℕ) (i n : ℕ) → at + length s ≤ length d → i + n ≤ length s

@@ -69,6 +69,9 @@ module _ (s : List ℕ) (ends : ends_with_cr s ≡ true) where
         | no ge ↦ let same : i ≡ length s - 1 = omega arith in never_both (ends_with_cr s) ends (rw same at n)
       ]
 
+  pub passes : (i : ℕ) → i < length s → ordinary (get_or s i 0) ≡ true → (breaks (get_or s i 0) ≡ false) × (i + 1 < length s)
+  passes i h o = let on : breaks (get_or s i 0) ≡ false = ap not o in (on, not_last i h (unbroken (get_or s i 0) on).1)
+
   -- and so does the rest of it
   pub ends_behind : (at : ℕ) → at < length s → ends_with_cr (drop at s) ≡ true
   ends_behind at h =

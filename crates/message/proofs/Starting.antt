@@ -1,5 +1,6 @@
 -- What the bytes at the start of a text that ends with CR tell of its first record, before the end of that is known.
 -- Assumes nothing.
+use Rattle.std.specs.Prelude.{None, Option, Some}
 use Rattle.std.proofs.Common.{◌≡◌, ℕ, suc, ◌+◌, ◌<◌, ◌≤◌, min, Bool, true, false, cond, not, eqb, List, [], ◌∷◌, length, get_or, take, drop, sym, refl, ap, ◌∙◌, arith, drop_of_length-le, get_or-take, take-take, ne_eqb, eqb-true}
 use native.Mathlib.Decide.{dec_lt}
 use Rattle.memory.specs.Tests.{is, find}
@@ -9,24 +10,22 @@ use Rattle.characters.specs.Allowed.{allowed, ordinary}
 use Rattle.kinds.specs.Kinds.{letter_of, kind_of, type_of, may_follow}
 use Rattle.records.specs.Fields.{before, behind}
 use Rattle.records.specs.Records.{ends_with_cr}
-use Rattle.sequence.specs.Numbers.{number_of, count_of}
-use Rattle.faults.specs.Message.{type_in, number_in, is_next}
-use Rattle.faults.specs.Inner.Next.{comes}
+use Rattle.sequence.specs.Numbers.{number_of, count_of, counted}
+use Rattle.faults.specs.Message.{type_in, number_in, is_next, next_counts}
+use Rattle.faults.specs.Inner.Next.{comes, counts_behind}
 use Rattle.message.specs.Inner.Rest.{breaks}
 use Rattle.kinds.specs.declared.Delimiters.{Delimiters}
 use Rattle.sequence.specs.declared.Counts.{Counts}
 use Rattle.kinds.specs.declared.Kind.{Kind}
 use Rattle.kinds.specs.declared.Kind.TheVariants.{Header, Patient, Order, Result, Query, Terminator, Comment, Manufacturer}
-use Rattle.kinds.specs.declared.Letter.{Letter}
-use Rattle.kinds.specs.declared.Letter.TheVariants.{Known, Unknown}
 use Rattle.sequence.proofs.Decimal.{number_none}
-use Rattle.records.proofs.Scans.{find_hit, find_upto, before_length, before_first}
+use Rattle.records.proofs.Scans.{tail_at, rest_part, find_hit, find_upto, before_length, before_first}
 use Rattle.kinds.proofs.Naming.{letter}
 use Rattle.faults.proofs.Head.{find_window, known_second}
-use Rattle.message.proofs.Breaks.{cr_within, ordinary_plain}
+use Rattle.message.proofs.Breaks.{cr_some, cr_within, not_last, ordinary_plain, unbroken}
 
 -- CR names no type
-pub cr_names_none : (b : ℕ) → is cr b ≡ true → kind_of b ≡ Unknown
+pub cr_names_none : (b : ℕ) → is cr b ≡ true → kind_of b ≡ None
 unfolding kind_of
 cr_names_none b e = rw (eqb-true b cr e)
 
@@ -42,32 +41,36 @@ letters_ordinary Terminator = refl
 letters_ordinary Comment = refl
 letters_ordinary Manufacturer = refl
 
-names_ordinary : (b : ℕ) (k : Kind) → kind_of b ≡ Known k → ordinary b ≡ true
+names_ordinary : (b : ℕ) (k : Kind) → kind_of b ≡ Some k → ordinary b ≡ true
 unfolding kind_of
 names_ordinary b k h =
     or Header _ (or Patient _ (or Order _ (or Result _ (or Query _ (or Terminator _ (or Comment _ (or Manufacturer _ none))))))) h
   where
-    none : Unknown ≡ Known k → ordinary b ≡ true
+    none : None ≡ Some k → ordinary b ≡ true
     none e = let z : ◌≡◌ {A = ℕ} 0 1 = cc in absurd (omega arith)
 
-    or : (j : Kind) (l : Letter) → (l ≡ Known k → ordinary b ≡ true) → cond (is (letter_of j) b) (Known j) l ≡ Known k → ordinary b ≡ true
+    or : (j : Kind) (l : Option Kind) → (l ≡ Some k → ordinary b ≡ true) → cond (is (letter_of j) b) (Some j) l ≡ Some k → ordinary b ≡ true
     or j l go = by_test_law (is (letter_of j) b) refl
       where
-        by_test_law : (t : Bool) → is (letter_of j) b ≡ t → cond t (Known j) l ≡ Known k → ordinary b ≡ true
+        by_test_law : (t : Bool) → is (letter_of j) b ≡ t → cond t (Some j) l ≡ Some k → ordinary b ≡ true
         by_test_law true e g = ap ordinary (eqb-true b (letter_of j) e) ∙ letters_ordinary j
         by_test_law false e g = go g
 
+-- so it is not the last of a text that ends with CR
+pub second_byte : (s : List ℕ) → ends_with_cr s ≡ true → (k : Kind) → kind_of (get_or s 0 0) ≡ Some k → 1 < length s
+second_byte s ends k h = not_last s ends 0 (cr_some s ends) (unbroken (get_or s 0 0) (ap not (names_ordinary (get_or s 0 0) k h))).1
+
 -- what is before the first b names a type exactly if b stands at index 1 and the first byte names it
 module _ (b : ℕ) (s : List ℕ) where
-  pub type_unknown : kind_of (get_or s 0 0) ≡ Unknown → type_of (before b s) ≡ Unknown
+  pub type_unknown : kind_of (get_or s 0 0) ≡ None → type_of (before b s) ≡ None
   unfolding type_of
   type_unknown h = by_length (eqb (length (before b s)) 1) refl
     where
-      by_length : (t : Bool) → eqb (length (before b s)) 1 ≡ t → cond t (kind_of (get_or (before b s) 0 0)) Unknown ≡ Unknown
+      by_length : (t : Bool) → eqb (length (before b s)) 1 ≡ t → cond t (kind_of (get_or (before b s) 0 0)) None ≡ None
       by_length true e = ap kind_of (before_first b s (sym (before_length b s) ∙ eqb-true (length (before b s)) 1 e)) ∙ h
       by_length false e = refl
 
-  pub type_long : (find (is b) s ≡ 1 → ⊥) → type_of (before b s) ≡ Unknown
+  pub type_long : (find (is b) s ≡ 1 → ⊥) → type_of (before b s) ≡ None
   unfolding type_of
   type_long n = rw (before_length b s, ne_eqb (find (is b) s) 1 n)
 
@@ -134,6 +137,12 @@ module _ (b : ℕ) (s : List ℕ) (ends : ends_with_cr s ≡ true) (i : ℕ) (h 
       let lt₂ : i < find (is cr) s = omega (arith, long) in
       get_or-take (find (is b) (before cr s)) (before cr s) i 0 lt₁ ∙ get_or-take (find (is cr) s) s i 0 lt₂
 
+  -- a digit is the field's
+  pub digit_byte : is b (get_or s i 0) ≡ false → (v : ℕ) → v + 0x30 ≡ get_or s i 0 → v < 10 → (i < length (field_at b s)) × (v + 0x30 ≡ get_or (field_at b s) i 0)
+  digit_byte n v e below =
+      let lt = field_goes n (ne_eqb (get_or s i 0) cr (λ q. omega arith)) in
+      (lt, e ∙ sym (field_byte lt))
+
 -- field 1 of the record ends where the first b stands in the text, if that is before the CR
 first_field : (b : ℕ) (s : List ℕ) → find (is b) s < find (is cr) s → field_at b s ≡ before b s
 first_field b s lt =
@@ -148,9 +157,9 @@ no_second b s le =
     drop_of_length-le (before cr s) k
 
 -- a record without a number may not come next
-numberless : (s : Counts) (l : Letter) → is_next s l 0 ≡ false
-numberless s Unknown = refl
-numberless s (Known k) = and_not_right (may_follow s.other k) (eqb 0 (count_of s k + 1)) (ne_eqb 0 (count_of s k + 1) (λ e. omega arith))
+numberless : (s : Counts) (l : Option Kind) → is_next s l 0 ≡ false
+numberless s None = refl
+numberless s (Some k) = and_not_right (may_follow s.other k) (eqb 0 (count_of s k + 1)) (ne_eqb 0 (count_of s k + 1) (λ e. omega arith))
 
 two_behind : (p : ℕ → Bool) (s : List ℕ) → 1 < find p s → drop 2 (take (find p s) s) ≡ take (find p (drop 2 s)) (drop 2 s)
 two_behind p [] h = absurd (omega arith)
@@ -162,9 +171,13 @@ two_behind p (x ∷ y ∷ t) h = by_first (p x) (p y) h
     by_first false true k = absurd (omega arith)
     by_first false false k = refl
 
+-- what is said of a type and a number is said of those that were read
+read_as : {A : Type 0} (f : Option Kind → ℕ → A) {l m : Option Kind} {n k : ℕ} → l ≡ m → n ≡ k → f l n ≡ f m k
+read_as f {l} {m} {n} {k} p q = ap (λ (x : Option Kind). f x n) p ∙ ap (f m) q
+
 -- the first record's type and number, by what stands before the first b of the text
 module _ (d : Delimiters) (text : List ℕ) (ends : ends_with_cr text ≡ true) where
-  pub untyped : (s : Counts) → type_of (before d.field text) ≡ Unknown → comes d s (before cr text) ≡ false
+  pub untyped : (s : Counts) → type_of (before d.field text) ≡ None → comes d s (before cr text) ≡ false
   untyped s h =
       let b = d.field in
       elim (dec_lt (find (is b) text) (find (is cr) text)) [
@@ -175,11 +188,11 @@ module _ (d : Delimiters) (text : List ℕ) (ends : ends_with_cr text ≡ true) 
             rw (← none) (numberless s (type_of (field_at b text)))
       ]
 
-  module _ (plain : d.field ≡ cr → ⊥) (k : Kind) (h : type_of (before d.field text) ≡ Known k) where
+  module _ (plain : d.field ≡ cr → ⊥) (k : Kind) (h : type_of (before d.field text) ≡ Some k) where
     at_one : find (is d.field) text ≡ 1
     at_one = sym (before_length d.field text) ∙ (letter (before d.field text) k h).0
 
-    first_names : kind_of (get_or text 0 0) ≡ Known k
+    first_names : kind_of (get_or text 0 0) ≡ Some k
     first_names = sym (type_named d.field text at_one) ∙ h
 
     second_is : 1 < length text → get_or text 1 0 ≡ d.field
@@ -200,7 +213,7 @@ module _ (d : Delimiters) (text : List ℕ) (ends : ends_with_cr text ≡ true) 
                     absurd (plain (sym (second_is (omega (arith, cr_within text ends))) ∙ eqb-true (get_or text 1 0) cr second))
                 | no none ↦
                     let same : find (is cr) text ≡ 0 = omega arith in
-                    let unnamed : kind_of (get_or text 0 0) ≡ Unknown = cr_names_none (get_or text 0 0) (rw same at hit) in
+                    let unnamed : kind_of (get_or text 0 0) ≡ None = cr_names_none (get_or text 0 0) (rw same at hit) in
                     let named = first_names in
                     let z : ◌≡◌ {A = ℕ} 0 1 = cc in
                     absurd (omega arith)
@@ -217,13 +230,22 @@ module _ (d : Delimiters) (text : List ℕ) (ends : ends_with_cr text ≡ true) 
         let second : breaks (get_or text 1 0) ≡ false = ap breaks (second_is (omega (arith, three_bytes))) ∙ ap not o in
         find_next breaks text 1 (omega (arith, three_bytes)) second (find_next breaks text 0 (omega (arith, three_bytes)) first (omega arith))
 
-    pub type_is : type_in d (before cr text) ≡ Known k
+    pub type_is : type_in d (before cr text) ≡ Some k
     type_is =
         let lt : find (is d.field) text < find (is cr) text = omega (arith, at_one, cr_later) in
         ap type_of (first_field d.field text lt) ∙ h
 
-    pub number_is : number_in d (before cr text) ≡ number_of (field_at d.field (drop 2 text))
-    number_is = ap number_of (known_second d.field (before cr text) k type_is) ∙ ap (λ (f : List ℕ). number_of (before d.field f)) (two_behind (is cr) text cr_later)
+    number_is : number_in d (before cr text) ≡ number_of (field_at d.field (tail_at text 2))
+    number_is =
+        ap number_of (known_second d.field (before cr text) k type_is) ∙ ap (λ (f : List ℕ). number_of (before d.field f)) (two_behind (is cr) text cr_later)
+        ∙ ap (λ (l : List ℕ). number_of (field_at d.field l)) (sym (rest_part text 2))
+
+    -- the record as it was read
+    pub comes_as : (s : Counts) → comes d s (before cr text) ≡ is_next s (Some k) (number_of (field_at d.field (tail_at text 2)))
+    comes_as s = read_as (is_next s) type_is number_is
+
+    pub counts_as : (s : Counts) {n : ℕ} → n ≡ number_of (field_at d.field (tail_at text 2)) → counts_behind d s (before cr text) ≡ counted s k n
+    counts_as s e = read_as (next_counts s) type_is (number_is ∙ sym e)
 
 -- so a record that may come next is broken off behind them
 pub next_passes : (d : Delimiters) (text : List ℕ) → ends_with_cr text ≡ true → ordinary d.field ≡ true
@@ -231,8 +253,8 @@ pub next_passes : (d : Delimiters) (text : List ℕ) → ends_with_cr text ≡ t
     → (2 < length text) × (2 + find breaks (drop 2 text) ≡ find breaks text)
 next_passes d text ends o s next = by_type (type_of (before d.field text)) refl
   where
-    by_type : (l : Letter) → type_of (before d.field text) ≡ l → (2 < length text) × (2 + find breaks (drop 2 text) ≡ find breaks text)
-    by_type Unknown e = never_both (comes d s (before cr text)) next (untyped d text ends s e)
-    by_type (Known k) e =
+    by_type : (l : Option Kind) → type_of (before d.field text) ≡ l → (2 < length text) × (2 + find breaks (drop 2 text) ≡ find breaks text)
+    by_type None e = never_both (comes d s (before cr text)) next (untyped d text ends s e)
+    by_type (Some k) e =
         let plain = ordinary_plain d.field o in
         (three_bytes d text ends plain k e, two_passed d text ends plain k e o)

@@ -1,9 +1,9 @@
 -- A complete text is answered exactly as it is, in the host's own numbers.
 -- Assumes nothing.
+use Rattle.std.specs.Prelude.{Some}
 use mathlib.Core.Path.{◌≡◌, sym, ap, ◌∙◌}
 use mathlib.Core.Bool.{false}
 use mathlib.Core.List.{List}
-use mathlib.Core.Option.{some}
 use Prim.Native.Nat.{ℕ, ◌<◌}
 use Rattle.memory.specs.Sizes.{lines}
 use Rattle.faults.specs.Message.{is_message}
@@ -25,7 +25,7 @@ use Rattle.ngachodui_laws.proofs.Sound.{intact}
 as_numbered : (a b n : ℕ) (B : Type 0) → a ≡ b → Exactly (b ≡ n) B → Exactly (a ≡ n) B
 as_numbered a b n B same e = (λ p. e.0 (sym same ∙ p), λ q. same ∙ e.1 q)
 
-pub decided_exactly : (s : HostState) → Intact s → (i : ℕ) → i < lines → (k : Kind) (text : List ℕ) → offered (gateway_state s) i k ≡ some text → DecidedExactly s i k text
+pub decided_exactly : (s : HostState) → Intact s → (i : ℕ) → i < lines → (k : Kind) (text : List ℕ) → offered (gateway_state s) i k ≡ Some text → DecidedExactly s i k text
 decided_exactly s w i h k text complete =
     let d = decided_intact (gateway_state s) (intact s w) i h k text complete in
     let response = (one_call s w.in_order (came i k)).response in
@@ -42,5 +42,5 @@ decided_exactly s w i h k text complete =
     }
 
 -- after a run, what is no message is wrong at one of its records
-pub wrong_at : (r : Run) (i : ℕ) → i < lines → (k : Kind) (text : List ℕ) → offered (gateway_state (end_of r)) i k ≡ some text → is_message text ≡ false → WrongAt text
+pub wrong_at : (r : Run) (i : ℕ) → i < lines → (k : Kind) (text : List ℕ) → offered (gateway_state (end_of r)) i k ≡ Some text → is_message text ≡ false → WrongAt text
 wrong_at r i h k text complete m = offered_faulty (gateway_state (end_of r)) i k text complete (at_end r Clean (always_clean (begun r) (begun_right r) r.calls r.may)) h m

@@ -1,5 +1,7 @@
 -- No event of a host is answered 54, in whatever state: a text that it completes ends with CR.
 -- Assumes nothing.
+use Rattle.std.specs.Prelude.{Result, Ok, Err}
+use Rattle.journal.specs.declared.Refusal.{Refusal}
 use mathlib.Core.Path.{◌≡◌, refl, ap}
 use mathlib.Core.Logic.{◌≢◌}
 use mathlib.Core.Bool.{Bool, true, false, not}
@@ -15,7 +17,6 @@ use Rattle.answers.specs.declared.Answer.TheVariants.{NoLine, WrongSize, BeyondL
 use Rattle.answers.proofs.Paper.{every_but}
 use Rattle.settings.specs.declared.Patient.{Patient}
 use Rattle.journal.specs.declared.Ledger.{Ledger}
-use Rattle.journal.specs.declared.Verdict.{Verdict as Judgement}
 use Rattle.line.specs.Line.{block_within}
 use Rattle.line.specs.declared.Line.{Line}
 use Rattle.looking.specs.Lent.{right_sizes}
@@ -54,13 +55,13 @@ is_hearing hearing = true
 heard_ended : (a : Answer) → class_of a ≡ hearing → eqb (number_of a) 54 ≡ false
 heard_ended a h = every_but (λ b. not (is_hearing (class_of b))) (λ b. eqb (number_of b) 54) (λ vs. refl) a (ap (λ (c : Class). not (is_hearing c)) h)
 
-filing_ended : (q : Judgement) (r : Reader) → eqb (number_of (filing q r).answer) 54 ≡ false
-filing_ended Judgement.Fits r = refl
-filing_ended Judgement.NoRoom r = refl
-filing_ended Judgement.Broken r = refl
-filing_ended Judgement.NoLine r = refl
-filing_ended Judgement.WrongSize r = refl
-filing_ended Judgement.Malformed r = refl
+filing_ended : (q : Result (Unit {0}) Refusal) (r : Reader) → eqb (number_of (filing q r).answer) 54 ≡ false
+filing_ended (Ok tt) r = refl
+filing_ended (Err Refusal.NoRoom) r = refl
+filing_ended (Err Refusal.Broken) r = refl
+filing_ended (Err Refusal.NoLine) r = refl
+filing_ended (Err Refusal.WrongSize) r = refl
+filing_ended (Err Refusal.Malformed) r = refl
 
 ruling_ended : (p : Patient) (l : Line) (w : Memo) (d : Ledger) (e : Event) (m : Memory) → eqb (number_of (ruling_on todays_shares p l w d e m).answer) 54 ≡ false
 unfolding ruling_on

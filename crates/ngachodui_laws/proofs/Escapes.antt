@@ -1,9 +1,10 @@
 -- What a host escapes comes back when it unescapes it, and an accepted component when it escapes what that stands for.
 -- Assumes nothing.
+use Rattle.std.specs.Prelude.{Err, None, Ok, Option, Some}
+use Rattle.escaping.specs.declared.Refusal.TheVariants.{BadDelimiters, NotFitting}
 use mathlib.Core.Path.{◌≡◌, refl, sym, ap, subst, ◌∙◌}
 use mathlib.Core.Bool.{Bool, true, false, cond}
 use mathlib.Core.List.{List}
-use mathlib.Core.Option.{Option, none, some}
 use Prim.Native.Nat.{ℕ, ◌+◌, ◌*◌, ◌≤◌}
 use native.Mathlib.Omega.{arith}
 use native.Mathlib.Nat.{zero-add}
@@ -17,7 +18,6 @@ use Rattle.kinds.specs.Delimiters.{four_at, are_delimiters}
 use Rattle.kinds.specs.declared.Delimiters.{Delimiters}
 use Rattle.escaping.specs.Escape.{escaped, escape_answer, escaped_over}
 use Rattle.escaping.specs.Unescape.{unescaped, answer_to, unescape_answer, unescaped_over}
-use Rattle.escaping.specs.declared.Put.TheVariants.{Done, NotFitting, BadDelimiters}
 use Rattle.escaping.proofs.RoundTrips.{escaped_most, allowed_back, allowed_forth}
 use Rattle.answers.specs.InNumbers.{done}
 use Rattle.texts.specs.Texts.{made_by_putting, Escaped, Unescaped}
@@ -46,29 +46,29 @@ module _ (four : List ℕ) (allowed : are_delimiters (four_at 0 four) ≡ true) 
       let fits : leb (0 + length (escaped d text)) (length out) ≡ true = le-leb (0 + length (escaped d text)) (length out) (rw zero-add room) in
       put_out (escaped d text) out room (c.result ∙ rw (allowed, fits)) (c.after ∙ rw allowed)
 
-  unescape_puts : (s t out : List ℕ) {r : Made} {out' : List ℕ} → unescaped d s ≡ some t → Unescaped four s out r out' → length t ≤ length out → PutOut t r out'
+  unescape_puts : (s t out : List ℕ) {r : Made} {out' : List ℕ} → unescaped d s ≡ Some t → Unescaped four s out r out' → length t ≤ length out → PutOut t r out'
   unfolding unescape_answer unescaped_over made_by_putting
   unescape_puts s t out e c room =
       let fits : leb (0 + length t) (length out) ≡ true = le-leb (0 + length t) (length out) (rw zero-add room) in
       put_out t out room (c.result ∙ rw (allowed, e, fits)) (c.after ∙ rw (allowed, e))
 
 -- 0 is told only where something is written: the four are allowed, and it fits
-room_told : (f : Bool) (n : ℕ) → (made_by_putting (cond f (Done n) NotFitting)).number ≡ 0 → f ≡ true
+room_told : (f : Bool) (n : ℕ) → (made_by_putting (cond f (Ok n) (Err NotFitting))).number ≡ 0 → f ≡ true
 unfolding made_by_putting
 room_told true n e = refl
 room_told false n e = absurd (omega (arith, e))
 
-escape_told : (a f : Bool) (n : ℕ) → (made_by_putting (unless a BadDelimiters (unless f NotFitting (Done n)))).number ≡ 0 → (a ≡ true) × (f ≡ true)
+escape_told : (a f : Bool) (n : ℕ) → (made_by_putting (unless a (Err BadDelimiters) (unless f (Err NotFitting) (Ok n)))).number ≡ 0 → (a ≡ true) × (f ≡ true)
 unfolding made_by_putting
 escape_told true true n e = (refl, refl)
 escape_told true false n e = absurd (omega (arith, e))
 escape_told false f n e = absurd (omega (arith, e))
 
-unescape_told : (a : Bool) (o : Option (List ℕ)) (out : List ℕ) → (made_by_putting (unless a BadDelimiters (answer_to o out))).number ≡ 0
-    → (a ≡ true) × ((t : List ℕ) × (o ≡ some t) × (fits_at out 0 t ≡ true))
+unescape_told : (a : Bool) (o : Option (List ℕ)) (out : List ℕ) → (made_by_putting (unless a (Err BadDelimiters) (answer_to o out))).number ≡ 0
+    → (a ≡ true) × ((t : List ℕ) × (o ≡ Some t) × (fits_at out 0 t ≡ true))
 unfolding made_by_putting
-unescape_told true none out e = absurd (omega (arith, e))
-unescape_told true (some t) out e = (refl, (t, refl, room_told (fits_at out 0 t) (length t) e))
+unescape_told true None out e = absurd (omega (arith, e))
+unescape_told true (Some t) out e = (refl, (t, refl, room_told (fits_at out 0 t) (length t) e))
 unescape_told false o out e = absurd (omega (arith, e))
 
 -- room as a host's condition

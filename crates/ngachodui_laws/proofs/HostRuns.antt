@@ -1,5 +1,9 @@
 -- A host's run from numbers in order is the gateway's run: the same answers, and at its end the numbers stand for the gateway's state.
 -- Assumes nothing.
+use Rattle.strips.specs.declared.Reply.{Reply}
+use Rattle.std.specs.Prelude.{Err, Ok, Option, Result}
+use Rattle.faults.specs.declared.Flaw.TheVariants.{Faulty, NotText}
+use Rattle.faults.specs.declared.Flaw.{Flaw}
 use mathlib.Core.Path.{◌≡◌, refl, sym, ap, subst, ◌∙◌}
 use mathlib.Core.Logic.{◌≢◌, inl, inr}
 use mathlib.Core.Bool.{Bool, true, false}
@@ -24,11 +28,8 @@ use Rattle.settings.specs.declared.Patient.{Patient}
 use Rattle.settings.specs.declared.Dialogue.{Dialogue}
 use Rattle.settings.specs.declared.Dialogue.TheVariants.{Frames, Blocks}
 use Rattle.line.specs.Line.{record_within}
-use Rattle.strips.specs.declared.Replied.{Replied}
 use Rattle.uploads.specs.Uploads.{Deed, leave, add, settle, file, ruling_on, upload_of}
 use Rattle.faults.specs.Faults.{fault_of}
-use Rattle.faults.specs.declared.Checked.{Checked}
-use Rattle.faults.specs.declared.Checked.TheVariants.{Message, NotText, Faulty}
 use Rattle.looking.specs.Lent.{right_lengths}
 use Rattle.looking.specs.Views.{unfinished_text}
 use Rattle.sending.specs.Offered.{frame_now}
@@ -36,7 +37,6 @@ use Rattle.numbers.specs.Plain.{settings_of, line_of}
 use Rattle.keeping.specs.Keeping.{memo_of}
 use Rattle.orders.specs.Starts.{can_start, text_look, start_look, start_answer}
 use Rattle.orders.specs.Calls.{frame_on}
-use Rattle.orders.specs.declared.Start.TheVariants.{Refused}
 use Rattle.orders.proofs.Looks.{look_no_line}
 use Rattle.gateway.specs.Out.{out_bytes, block_out}
 use Rattle.gateway.specs.Events.{AfterEvent, line_at, dialogue_at, memo_at, event_of, start_of}
@@ -121,13 +121,13 @@ start_gives : (i : ℕ) (within can : Bool) (text : List ℕ) (j u f : ℕ) → 
 unfolding start_look
 start_gives i within can text j u f = by (ltb i lines) (right_lengths j u f) within can (fault_of text)
   where
-    by_text : (x : Checked) → is_giving (class_of (start_answer (text_look x))) ≡ false
-    by_text Message = refl
-    by_text NotText = refl
-    by_text (Faulty f place) = refl
+    by_text : (x : Result (Unit {0}) Flaw) → is_giving (class_of (start_answer (text_look x))) ≡ false
+    by_text (Ok tt) = refl
+    by_text (Err NotText) = refl
+    by_text (Err (Faulty f place)) = refl
 
-    by : (a b c d : Bool) (x : Checked)
-        → is_giving (class_of (start_answer (unless a (Refused NoLine) (unless b (Refused WrongSize) (unless c (Refused BeyondLimits) (unless d (Refused NotNeutral) (text_look x))))))) ≡ false
+    by : (a b c d : Bool) (x : Result (Unit {0}) Flaw)
+        → is_giving (class_of (start_answer (unless a (Err NoLine) (unless b (Err WrongSize) (unless c (Err BeyondLimits) (unless d (Err NotNeutral) (text_look x))))))) ≡ false
     by true true true true x = by_text x
     by true true true false x = refl
     by true true false d x = refl
@@ -160,7 +160,7 @@ alike i line c x h other =
     }
 
 -- on no line nothing goes out
-nothing_out : (d : Dialogue) (frame : List ℕ) (reply : Replied) → by_dialogue d (out_bytes (number_of NoLine) 0 frame) (λ p. block_out 0 reply) ≡ []
+nothing_out : (d : Dialogue) (frame : List ℕ) (reply : Option Reply) → by_dialogue d (out_bytes (number_of NoLine) 0 frame) (λ p. block_out 0 reply) ≡ []
 nothing_out Frames frame reply = refl
 nothing_out (Blocks p) frame reply = refl
 

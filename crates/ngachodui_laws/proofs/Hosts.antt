@@ -1,5 +1,7 @@
 -- A host that calls with plain numbers has the gateway: each call does to the gateway that its numbers stand for what the gateway's definition does.
 -- Assumes nothing.
+use Rattle.std.specs.Prelude.{Err, Ok, Result, ℕ}
+use Rattle.journal.specs.declared.NotTaken.{NotTaken}
 use mathlib.Core.Path.{◌≡◌, refl, sym, ap, subst, ◌∙◌}
 use mathlib.Core.Bool.{Bool, true, false}
 use mathlib.Core.List.{List}
@@ -22,7 +24,6 @@ use Rattle.settings.specs.declared.Dialogue.TheVariants.{Frames, Blocks}
 use Rattle.settings.specs.declared.Settings.{Settings}
 use Rattle.room.specs.Room.{todays_shares}
 use Rattle.journal.specs.Removal.{AfterTaking, take_of as take_entry}
-use Rattle.journal.specs.declared.Took.{Took}
 use Rattle.journal.specs.declared.Ledger.{Ledger}
 use Rattle.line.specs.Line.{block_within}
 use Rattle.line.specs.declared.Line.{Line}
@@ -320,14 +321,14 @@ call_hosts s o e {r} {t} c =
     subst (λ (x : AfterCall). Hosts x (event_of todays_shares (gateway s) e s.memory)) (sym same) (hosts_the_gateway s o e)
 
 -- an answer to a taking is the gateway's in plain numbers
-pub taking_answer : (t : Took) → taking_in_numbers t ≡ answer_in_numbers (took_answer t)
+pub taking_answer : (t : Result (ℕ × ℕ) NotTaken) → taking_in_numbers t ≡ answer_in_numbers (took_answer t)
 unfolding in_numbers taking_in_numbers reply_of
-taking_answer (Took.Taken n serial) = refl
-taking_answer Took.NothingWaiting = refl
-taking_answer Took.BufferShort = refl
-taking_answer Took.Broken = refl
-taking_answer Took.NoLine = refl
-taking_answer Took.WrongSize = refl
+taking_answer (Ok (n, serial)) = refl
+taking_answer (Err NotTaken.NothingWaiting) = refl
+taking_answer (Err NotTaken.BufferShort) = refl
+taking_answer (Err NotTaken.Broken) = refl
+taking_answer (Err NotTaken.NoLine) = refl
+taking_answer (Err NotTaken.WrongSize) = refl
 
 module _ (ns : List ℕ) (s : TakeState) (o : Ordered ns s.counts) (i : ℕ) where
   abbrev taken : AfterTaking

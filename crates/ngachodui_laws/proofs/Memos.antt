@@ -1,5 +1,8 @@
 -- What is read after what is kept of a strip reader was put into the numbers: it is read back, and every other number is as it was.
 -- Assumes nothing.
+use Rattle.strips.specs.declared.Reply.TheVariants.{Again, More}
+use Rattle.strips.specs.declared.Reply.{Reply}
+use Rattle.std.specs.Prelude.{None, Option, Some}
 use mathlib.Core.Path.{◌≡◌, refl, sym, ap, ◌∙◌}
 use mathlib.Core.Logic.{◌≢◌}
 use mathlib.Core.Bool.{Bool, true, false, cond, ◌&&◌}
@@ -25,8 +28,6 @@ use Rattle.layout.specs.Layout.{fields, speaks_at, kept_at, start, number_at, bl
 use Rattle.ledger.specs.Ledgers.{ledger_of}
 use Rattle.strips.specs.Readers.{Memo}
 use Rattle.strips.specs.Replies.{replied_of, reply_number}
-use Rattle.strips.specs.declared.Replied.{Replied}
-use Rattle.strips.specs.declared.Replied.TheVariants.{NoneYet, More, Again}
 use Rattle.numbers.specs.Plain.{most_reply, reader_fits, block_fits, speech_fits, within_numbers, dialogue_of, line_of}
 use Rattle.keeping.specs.Keeping.{yes as flag, reader_of, numbers_from, kept_block, memo_of, with_reader, with_memo}
 use Rattle.ledger.proofs.Ledgers.{again}
@@ -43,15 +44,15 @@ numbers_put (v ∷ vs) ns at h =
     λ z. here z ∷ rest z
 
 -- what a reader's numbers stand for is the reader
-reply_back : (r : Replied) → replied_of (reply_number r) ≡ r
-reply_back NoneYet = refl
-reply_back More = refl
-reply_back Again = refl
+reply_back : (r : Option Reply) → replied_of (reply_number r) ≡ r
+reply_back None = refl
+reply_back (Some More) = refl
+reply_back (Some Again) = refl
 
-reply_low : (r : Replied) → reply_number r ≤ most_reply
-reply_low NoneYet = omega arith
-reply_low More = omega arith
-reply_low Again = omega arith
+reply_low : (r : Option Reply) → reply_number r ≤ most_reply
+reply_low None = omega arith
+reply_low (Some More) = omega arith
+reply_low (Some Again) = omega arith
 
 flag_back : (b : Bool) → eqb (flag b) 1 ≡ b
 flag_back true = refl

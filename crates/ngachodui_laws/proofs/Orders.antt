@@ -1,5 +1,10 @@
 -- Work orders, of a host's calls: what the gateway's sendings do, with the host's own answers and numbers.
 -- Assumes nothing.
+use Rattle.strips.specs.declared.Reply.TheVariants.{Again, More}
+use Rattle.strips.specs.declared.Reply.{Reply}
+use Rattle.std.specs.Prelude.{Err, None, Ok, Option, Result, Some}
+use Rattle.faults.specs.declared.Flaw.TheVariants.{Faulty, NotText}
+use Rattle.faults.specs.declared.Flaw.{Flaw}
 use mathlib.Core.Path.{◌≡◌, refl, sym, ap, subst, ◌∙◌}
 use mathlib.Core.Logic.{◌≢◌}
 use mathlib.Core.Bool.{Bool, true, false, cond, not, ◌&&◌, ◌||◌}
@@ -31,16 +36,12 @@ use Rattle.block.specs.Layouts.{mor, rep}
 use Rattle.block.proofs.Controls.{control_long}
 use Rattle.journal.specs.declared.Ledger.{Ledger}
 use Rattle.faults.specs.Faults.{fault_of}
-use Rattle.faults.specs.declared.Checked.{Checked}
-use Rattle.faults.specs.declared.Checked.TheVariants.{Message, NotText, Faulty}
 use Rattle.looking.specs.Lent.{right_lengths}
 use Rattle.looking.specs.declared.Act.{Act}
 use Rattle.looking.specs.declared.Act.TheVariants.{Leave, Open, Close, Begin, Count, Collect, Refuse, Accept, Store, Object, Await, Go}
 use Rattle.receiving.specs.Verdicts.{verdict_of}
 use Rattle.receiving.specs.Steps.{step_of}
 use Rattle.strips.specs.Replies.{reply_block}
-use Rattle.strips.specs.declared.Replied.{Replied}
-use Rattle.strips.specs.declared.Replied.TheVariants.{NoneYet, More, Again}
 use Rattle.gateway_laws.specs.Classes.{Class, quiet, opening, closing, refusing, accepting, storing, against, taking as gives, sending, hearing, class_of}
 use Rattle.gateway_laws.specs.Inner.Classes.{Goes}
 use Rattle.gateway_laws.proofs.Proper.{parcel_sends, verdict_proper}
@@ -51,7 +52,6 @@ use Rattle.looking.specs.Views.{texts_of, unfinished_text}
 use Rattle.sending.proofs.Offered.{offered_short}
 use Rattle.orders.specs.Starts.{is_neutral, can_start, text_look, start_look, start_answer}
 use Rattle.orders.specs.Calls.{frame_on, outgoing_on, fetch_answer, fetched_over}
-use Rattle.orders.specs.declared.Start.TheVariants.{Refused}
 use Rattle.gateway.specs.Events.{line_at}
 use Rattle.gateway.specs.Out.{sends, out_bytes, block_out}
 use Rattle.serial.specs.Serial.{event, annotate, final, Every}
@@ -208,13 +208,13 @@ start_unframed : (i : ℕ) (within can : Bool) (text : List ℕ) (j u f : ℕ) �
 unfolding start_look reply_of
 start_unframed i within can text j u f = by (ltb i lines) (right_lengths j u f) within can (fault_of text)
   where
-    by_text : (x : Checked) → reply_byte (first_out (start_answer (text_look x))) ≢ stx
-    by_text Message q = absurd (omega (arith, q))
-    by_text NotText q = absurd (omega (arith, q))
-    by_text (Faulty g place) q = absurd (omega (arith, q))
+    by_text : (x : Result (Unit {0}) Flaw) → reply_byte (first_out (start_answer (text_look x))) ≢ stx
+    by_text (Ok tt) q = absurd (omega (arith, q))
+    by_text (Err NotText) q = absurd (omega (arith, q))
+    by_text (Err (Faulty g place)) q = absurd (omega (arith, q))
 
-    by : (a b c d : Bool) (x : Checked)
-        → reply_byte (first_out (start_answer (unless a (Refused NoLine) (unless b (Refused WrongSize) (unless c (Refused BeyondLimits) (unless d (Refused NotNeutral) (text_look x))))))) ≢ stx
+    by : (a b c d : Bool) (x : Result (Unit {0}) Flaw)
+        → reply_byte (first_out (start_answer (unless a (Err NoLine) (unless b (Err WrongSize) (unless c (Err BeyondLimits) (unless d (Err NotNeutral) (text_look x))))))) ≢ stx
     by true true true true x q = by_text x q
     by true true true false x q = absurd (omega (arith, q))
     by true true false d x q = absurd (omega (arith, q))
@@ -237,17 +237,17 @@ module _ (r : Run) (i : ℕ) (h : i < lines) (c : Coming) where
   abbrev frame : List ℕ
   frame = frame_on (line_of t.numbers i) i t.memory.unfinished
 
-  abbrev reply : Replied
+  abbrev reply : Option Reply
   reply = (memo_of t.numbers i).reader.reply
 
   -- what goes out, by what the line speaks
   abbrev out_by : Dialogue → List ℕ
   out_by x = by_dialogue x frame (λ p. reply_block reply)
 
-  reply_short : (x : Replied) → length (reply_block x) ≤ frame_limit
-  reply_short NoneYet = omega arith
-  reply_short More = omega (arith, control_long mor)
-  reply_short Again = omega (arith, control_long rep)
+  reply_short : (x : Option Reply) → length (reply_block x) ≤ frame_limit
+  reply_short None = omega arith
+  reply_short (Some More) = omega (arith, control_long mor)
+  reply_short (Some Again) = omega (arith, control_long rep)
 
   out_short : (x : Dialogue) → length (out_by x) ≤ frame_limit
   out_short Frames = offered_short frame_limit (line_of t.numbers i) (unfinished_text (line_of t.numbers i) (texts_of i t.memory.unfinished)) (omega arith)

@@ -1,5 +1,6 @@
 -- The outcome of one call: it is the one that the contracts allow; a refusal and an ignored event leave everything, and no call touches another line.
 -- Assumes nothing.
+use Rattle.std.specs.Prelude.{Err, Ok, Result}
 use mathlib.Core.Path.{◌≡◌, refl, sym, ap, subst, ◌∙◌}
 use mathlib.Core.Logic.{◌≢◌}
 use mathlib.Core.Bool.{Bool, true, false, cond, not, ◌||◌}
@@ -53,8 +54,6 @@ use Rattle.gateway_laws.proofs.Uploads.{upload_texts, upload_others}
 use Rattle.serial.specs.Serial.{event, taking, final, Every}
 use Rattle.gateway.specs.Out.{sends}
 use Rattle.orders.specs.Starts.{can_start, start_look, start_answer}
-use Rattle.orders.specs.declared.Start.{Start}
-use Rattle.orders.specs.declared.Start.TheVariants.{Asks, Refused}
 use Rattle.orders.proofs.OneOutcome.{send_once}
 use Rattle.answers.specs.InNumbers.{in_numbers}
 use Rattle.promises.specs.Machine.{GatewayItem, happens, starts, came, starting, on_line}
@@ -129,10 +128,10 @@ taken_leaves : (s : HostState) (i : ℕ) (b : List ℕ) → is_refusal (number_t
 taken_leaves s i b h = taking_leaves s.numbers i (lent_of s b) (record { result = refl; state = refl }) h
 
 -- a start that is not answered 9
-started_leaves : (s : HostState) (i : ℕ) (text : List ℕ) (x : Start) → (started_by x s i text).answered.number ≢ sends → (started_by x s i text).state ≡ s
+started_leaves : (s : HostState) (i : ℕ) (text : List ℕ) (x : Result (Unit {0}) Answer) → (started_by x s i text).answered.number ≢ sends → (started_by x s i text).state ≡ s
 unfolding in_numbers
-started_leaves s i text Asks n = absurd (n refl)
-started_leaves s i text (Refused a) n = refl
+started_leaves s i text (Ok tt) n = absurd (n refl)
+started_leaves s i text (Err a) n = refl
 
 pub start_leaves : (s : HostState) (i : ℕ) (text : List ℕ) → number_to s (starting i text) ≢ sends → after s (starting i text) ≡ s
 start_leaves s i text n = started_leaves s i text (start_from s i text) n
@@ -297,9 +296,9 @@ others_kept s (event i (happens k)) l h n =
 others_kept s (event i (starts text)) l h n =
     by_start (start_from s i text) refl
   where
-    by_start : (x : Start) → start_from s i text ≡ x → LineKept l s (started_by x s i text).state
-    by_start (Refused a) e = nothing_changed l s
-    by_start Asks e =
+    by_start : (x : Result (Unit {0}) Answer) → start_from s i text ≡ x → LineKept l s (started_by x s i text).state
+    by_start (Err a) e = nothing_changed l s
+    by_start (Ok tt) e =
         let x = host_passed s i text e in
         let asked = asked_line (line_of s.numbers i) (length text) in
         let put = put_line_is s i x.line asked in
@@ -356,9 +355,9 @@ speaks_kept s (event i (happens k)) l h =
 speaks_kept s (event i (starts text)) l h =
     by_start (start_from s i text) refl
   where
-    by_start : (x : Start) → start_from s i text ≡ x → number_at (started_by x s i text).state.numbers l speaks_at ≡ number_at s.numbers l speaks_at
-    by_start (Refused a) e = refl
-    by_start Asks e =
+    by_start : (x : Result (Unit {0}) Answer) → start_from s i text ≡ x → number_at (started_by x s i text).state.numbers l speaks_at ≡ number_at s.numbers l speaks_at
+    by_start (Err a) e = refl
+    by_start (Ok tt) e =
         let asked = asked_line (line_of s.numbers i) (length text) in
         ap (λ (ns : List ℕ). number_at ns l speaks_at) (put_line_is s i (host_passed s i text e).line asked)
         ∙ spare_stays s.numbers i asked (ledger_of s.numbers s.counts) l speaks_at (omega arith) (omega arith)
@@ -376,7 +375,7 @@ unsent : (i : ℕ) (within : Bool) (text : List ℕ) (j u f : ℕ) → number_of
 unfolding start_look
 unsent i within text j u f = by (ltb i lines) (right_lengths j u f) within
   where
-    by : (a b c : Bool) → number_of (start_answer (unless a (Refused NoLine) (unless b (Refused WrongSize) (unless c (Refused BeyondLimits) (Refused NotNeutral))))) ≢ sends
+    by : (a b c : Bool) → number_of (start_answer (unless a (Err NoLine) (unless b (Err WrongSize) (unless c (Err BeyondLimits) (Err NotNeutral))))) ≢ sends
     by true true true q = absurd (omega (arith, q))
     by true true false q = absurd (omega (arith, q))
     by true false c q = absurd (omega (arith, q))
@@ -385,7 +384,7 @@ unsent i within text j u f = by (ltb i lines) (right_lengths j u f) within
 pub no_order : (s : HostState) (i : ℕ) (text : List ℕ) → number_at s.numbers i speaks_at ≢ frames → (number_to s (starting i text) ≢ sends) × (after s (starting i text) ≡ s)
 unfolding in_numbers
 no_order s i text n =
-    let look : Bool → Start = λ can. start_look i (within_numbers s.numbers i) can text (length s.memory.journal) (length s.memory.unfinished) (length s.memory.frames) in
+    let look : Bool → Result (Unit {0}) Answer = λ can. start_look i (within_numbers s.numbers i) can text (length s.memory.journal) (length s.memory.unfinished) (length s.memory.frames) in
     let cannot : can_start (line_of s.numbers i) ≡ false = is_false (can_start (line_of s.numbers i)) (λ t. n (starts_frames s.numbers i t)) in
     let none : number_to s (starting i text) ≢ sends = subst (λ (can : Bool). number_of (start_answer (look can)) ≢ sends) (sym cannot) (unsent i (within_numbers s.numbers i) text _ _ _) in
     (none, start_leaves s i text none)

@@ -1,9 +1,9 @@
 -- What goes in and comes out on a line, as a host sees it, is what does in the gateway: nothing is lost, and nothing comes twice.
 -- Assumes nothing.
+use Rattle.std.specs.Prelude.{Some}
 use mathlib.Core.Path.{◌≡◌, refl, sym, ap, ap₂, subst, ◌∙◌}
 use mathlib.Core.Bool.{Bool, true, false, cond, ◌&&◌}
 use mathlib.Core.List.{List, [], ◌∷◌, ◌++◌, map}
-use mathlib.Core.Option.{some}
 use Prim.Native.Nat.{ℕ}
 use lib.Dec.{eqb}
 use lib.ListN.{get_or, take}
@@ -84,7 +84,7 @@ module _ (r : Run) where
       let all = messages.only_messages (begun r) (begun_right r) r.calls r.may in
       record {
         entries = all.entries;
-        whole = at_end r (λ x. chain x.gateway.ledger x.memory.journal ≡ some all.entries) all.whole;
+        whole = at_end r (λ x. chain x.gateway.ledger x.memory.journal ≡ Some all.entries) all.whole;
         waits = all.waiting;
         taken = λ l h. subst (Every (λ (n : Numbered). is_message n.text ≡ true)) (sym (taken_from_fresh l)) (all.taken l h);
       }

@@ -1,5 +1,9 @@
 -- A strip reader's line, of a host's calls: what the gateway promises of its blocks, with the host's own answers and numbers.
 -- Assumes nothing.
+use Rattle.strips.specs.declared.Reply.TheVariants.{Again, More}
+use Rattle.strips.specs.declared.Reply.{Reply}
+use Rattle.std.specs.Prelude.{None, Option, Result, Some, Ok, Err}
+use Rattle.journal.specs.declared.Refusal.{Refusal}
 use mathlib.Core.Path.{◌≡◌, refl, sym, ap, subst, ◌∙◌}
 use mathlib.Core.Logic.{◌≢◌}
 use mathlib.Core.Bool.{Bool, true, false}
@@ -19,7 +23,6 @@ use Rattle.settings.specs.declared.Dialogue.{Dialogue}
 use Rattle.settings.specs.declared.Dialogue.TheVariants.{Frames, Blocks}
 use Rattle.journal.specs.Verdicts.{judge_of}
 use Rattle.journal.specs.declared.Ledger.{Ledger}
-use Rattle.journal.specs.declared.Verdict.{Verdict as Judgement}
 use Rattle.line.specs.Line.{block_within}
 use Rattle.line.specs.declared.Line.{Line}
 use Rattle.answers.specs.Paper.{reply_of, first_out}
@@ -45,8 +48,6 @@ use Rattle.strips.specs.Hearings.{reply_answer, hearing_of}
 use Rattle.strips.specs.declared.Sight.{Sight}
 use Rattle.strips.specs.declared.Sight.TheVariants.{Ignores, Adds, Judges}
 use Rattle.strips.specs.declared.Reader.{Reader}
-use Rattle.strips.specs.declared.Replied.{Replied}
-use Rattle.strips.specs.declared.Replied.TheVariants.{NoneYet, More, Again}
 use Rattle.uploads.specs.Uploads.{leave, settle, AfterUpload, Ruling, ruling, filing, block_bytes, judged_block, seen_as, memo_by, block_of, ruling_of, ruling_on, upload_of}
 use Rattle.gateway.specs.Events.{memo_at}
 use Rattle.gateway.specs.Out.{out_bytes, block_out}
@@ -124,13 +125,13 @@ module _ (r : Run) (i : ℕ) (h : i < lines) (b : ℕ) (p : Patient) (ends : End
 -- ---- what goes out
 
 -- where STX is answered our last reply is one
-reply_out : (x : Replied) → reply_byte (first_out (reply_answer x)) ≡ stx → x ≢ NoneYet
+reply_out : (x : Option Reply) → reply_byte (first_out (reply_answer x)) ≡ stx → x ≢ None
 unfolding reply_of
-reply_out NoneYet e q = absurd (omega (arith, e))
-reply_out More e q = clash (cc q)
-reply_out Again e q = clash (cc q)
+reply_out None e q = absurd (omega (arith, e))
+reply_out (Some More) e q = clash (cc q)
+reply_out (Some Again) e q = clash (cc q)
 
-hearing_out : (x : Judged) (same : Bool) (r : Reader) → reply_byte (first_out (hearing_of x same r).answer) ≡ stx → (hearing_of x same r).reader.reply ≢ NoneYet
+hearing_out : (x : Judged) (same : Bool) (r : Reader) → reply_byte (first_out (hearing_of x same r).answer) ≡ stx → (hearing_of x same r).reader.reply ≢ None
 unfolding reply_of
 hearing_out OddLength same r e q = clash (cc q)
 hearing_out OddTest same r e q = clash (cc q)
@@ -142,18 +143,18 @@ hearing_out Colours same r e q = clash (cc q)
 hearing_out Results true r e q = clash (cc q)
 hearing_out Results false r e q = clash (cc q)
 
-filing_out : (j : Judgement) (r : Reader) (w : Memo) (bs : List ℕ) → reply_byte (first_out (filing j r).answer) ≡ stx → (memo_by (filing j r).deed w bs).reader.reply ≢ NoneYet
+filing_out : (j : Result (Unit {0}) Refusal) (r : Reader) (w : Memo) (bs : List ℕ) → reply_byte (first_out (filing j r).answer) ≡ stx → (memo_by (filing j r).deed w bs).reader.reply ≢ None
 unfolding reply_of
-filing_out Judgement.Fits r w bs e q = clash (cc q)
-filing_out Judgement.NoRoom r w bs e q = absurd (omega (arith, e))
-filing_out Judgement.Broken r w bs e q = absurd (omega (arith, e))
-filing_out Judgement.NoLine r w bs e q = absurd (omega (arith, e))
-filing_out Judgement.WrongSize r w bs e q = absurd (omega (arith, e))
-filing_out Judgement.Malformed r w bs e q = absurd (omega (arith, e))
+filing_out (Ok tt) r w bs e q = clash (cc q)
+filing_out (Err Refusal.NoRoom) r w bs e q = absurd (omega (arith, e))
+filing_out (Err Refusal.Broken) r w bs e q = absurd (omega (arith, e))
+filing_out (Err Refusal.NoLine) r w bs e q = absurd (omega (arith, e))
+filing_out (Err Refusal.WrongSize) r w bs e q = absurd (omega (arith, e))
+filing_out (Err Refusal.Malformed) r w bs e q = absurd (omega (arith, e))
 
 -- of a ruling, with what is kept of the reader then
 abbrev SaidOut : Memo → List ℕ → Ruling → Type 0
-SaidOut w bs x = reply_byte (first_out x.answer) ≡ stx → (memo_by x.deed w bs).reader.reply ≢ NoneYet
+SaidOut w bs x = reply_byte (first_out x.answer) ≡ stx → (memo_by x.deed w bs).reader.reply ≢ None
 
 work_out : (p : Patient) (l : Line) (w : Memo) (d : Ledger) (i : ℕ) (k : Kind) (journal frames : List ℕ) → SaidOut w (block_of k l frames) (ruling_of todays_shares p l w d i k journal frames)
 unfolding ruling_of reply_of
@@ -166,7 +167,7 @@ work_out p l w d i (Byte b) journal frames = by_sight (sight_of p l b)
     same : Bool
     same = is_again w bs
 
-    judgement : Judgement
+    judgement : Result (Unit {0}) Refusal
     judgement = judge_of d todays_shares i (length (finding_of p bs)) journal
 
     by_hearing : (x : Judged) (stores : Bool) → SaidOut w bs (unless stores (ruling (settle (hearing_of x same w.reader).reader) (hearing_of x same w.reader).answer) (filing judgement w.reader))
@@ -195,10 +196,10 @@ ruling_out p l w d e m = by (ltb e.line lines) (right_sizes m.journal m.unfinish
     by true true true = work_out p l w d e.line e.kind m.journal (frames_of e.line m.frames)
 
 -- what goes out, whatever it is that sends it: a wrong one is refused here, before a host's whole step is compared
-sends_more : (t : HostState) (i : ℕ) (sent : List ℕ) → number_at t.numbers i reply_at ≡ reply_number More → sent ≡ control_bytes mor → ToReader t i sent
+sends_more : (t : HostState) (i : ℕ) (sent : List ℕ) → number_at t.numbers i reply_at ≡ reply_number (Some More) → sent ≡ control_bytes mor → ToReader t i sent
 sends_more t i sent a b = more a b
 
-sends_again : (t : HostState) (i : ℕ) (sent : List ℕ) → number_at t.numbers i reply_at ≡ reply_number Again → sent ≡ control_bytes rep → ToReader t i sent
+sends_again : (t : HostState) (i : ℕ) (sent : List ℕ) → number_at t.numbers i reply_at ≡ reply_number (Some Again) → sent ≡ control_bytes rep → ToReader t i sent
 sends_again t i sent a b = again a b
 
 module _ (r : Run) (i : ℕ) (h : i < lines) (reader : number_at (end_of r).numbers i speaks_at ≢ frames_spoken) (k : Kind) (first : reply_to (end_of r) (came i k) ≡ stx) where
@@ -208,7 +209,7 @@ module _ (r : Run) (i : ℕ) (h : i < lines) (reader : number_at (end_of r).numb
   abbrev then : HostState
   then = after now (came i k)
 
-  abbrev reply : Replied
+  abbrev reply : Option Reply
   reply = (memo_of then.numbers i).reader.reply
 
   then_in_order : InOrder then
@@ -230,13 +231,13 @@ module _ (r : Run) (i : ℕ) (h : i < lines) (reader : number_at (end_of r).numb
         ap (λ (c : AfterCall). memo_of c.state.numbers i) call_is
         ∙ memo_own (stored now.numbers i told kept) i upload.memo h long (stored_length now.numbers i told kept ∙ (end_in_order r).numbers)
 
-    upload_replied : upload.memo.reader.reply ≢ NoneYet
+    upload_replied : upload.memo.reader.reply ≢ None
     unfolding upload_of in_numbers
     upload_replied =
         let said = sym (ap (λ (c : AfterCall). c.answered.reply) call_is) ∙ first in
         ruling_out p (line_of now.numbers i) (memo_of now.numbers i) (ledger_of now.numbers now.counts) (on_line i k) now.memory said
 
-    replied : reply ≢ NoneYet
+    replied : reply ≢ None
     replied e = upload_replied (sym (ap (λ (w : Memo). w.reader.reply) memo_then) ∙ e)
 
     speaks_then : (line_of then.numbers i).settings.dialogue ≡ Blocks p
@@ -252,10 +253,10 @@ module _ (r : Run) (i : ℕ) (h : i < lines) (reader : number_at (end_of r).numb
         by_dialogue_law Frames e = clash (cc e)
         by_dialogue_law (Blocks q) e = ap (λ (n : ℕ). block_out n reply) first
 
-    by_reply : (x : Replied) → reply ≡ x → ToReader then i (host_step now (came i k)).0.buffer
-    by_reply NoneYet e = absurd (replied e)
-    by_reply More e = sends_more then i _ (sym (reader_numbers_law then.numbers i (then_in_order.readers i h)).reply ∙ ap reply_number e) (out_is ∙ ap reply_block e)
-    by_reply Again e = sends_again then i _ (sym (reader_numbers_law then.numbers i (then_in_order.readers i h)).reply ∙ ap reply_number e) (out_is ∙ ap reply_block e)
+    by_reply : (x : Option Reply) → reply ≡ x → ToReader then i (host_step now (came i k)).0.buffer
+    by_reply None e = absurd (replied e)
+    by_reply (Some More) e = sends_more then i _ (sym (reader_numbers_law then.numbers i (then_in_order.readers i h)).reply ∙ ap reply_number e) (out_is ∙ ap reply_block e)
+    by_reply (Some Again) e = sends_again then i _ (sym (reader_numbers_law then.numbers i (then_in_order.readers i h)).reply ∙ ap reply_number e) (out_is ∙ ap reply_block e)
 
   pub to_reader : ToReader then i (host_step now (came i k)).0.buffer
   to_reader = by_dialogue_law (line_of now.numbers i).settings.dialogue refl

@@ -1,5 +1,6 @@
 -- Room and acknowledgement, of a host's runs: what the gateway promises of the state that the host's numbers stand for, with the host's own answers.
 -- Assumes nothing.
+use Rattle.std.specs.Prelude.{None, Option, Some, ℕ}
 use mathlib.Core.Path.{◌≡◌, refl, sym, ap, subst, ◌∙◌}
 use mathlib.Core.Logic.{◌≢◌}
 use mathlib.Core.Bool.{Bool, true, false, cond}
@@ -16,8 +17,6 @@ use Rattle.room.specs.Room.{share}
 use Rattle.answers.specs.Paper.{ack, number_of, values_of, reply_of, first_out}
 use Rattle.answers.specs.declared.Answer.{Answer}
 use Rattle.answers.specs.declared.Answer.TheVariants.{Taken}
-use Rattle.answers.specs.declared.Reply.{Reply}
-use Rattle.answers.specs.declared.Reply.TheVariants.{Silence, Byte}
 use Rattle.answers.proofs.Paper.{every_answer, paper_injective}
 use Rattle.looking.specs.declared.Kind.{Kind}
 use Rattle.serial.specs.Serial.{taking, final, Every}
@@ -70,9 +69,9 @@ taken_value_law : (at : ℕ) (a : Answer) → number_of a ≡ 8 → taken_value 
 taken_value_law at a h = rw (eq-eqb (number_of a) 8 h)
 
 -- a reply byte of ACK is the reply ACK
-ack_is : (x : Reply) → reply_byte x ≡ ack → x ≡ Byte ack
-ack_is Silence h = absurd (omega arith)
-ack_is (Byte b) h = ap Byte h
+ack_is : (x : Option ℕ) → reply_byte x ≡ ack → x ≡ Some ack
+ack_is None h = absurd (omega arith)
+ack_is (Some b) h = ap Some h
 
 module _ (r : Run) where
   abbrev s : HostState
@@ -112,7 +111,7 @@ module _ (r : Run) where
     module _ (k : Kind) where
       pub acknowledged_stored : Completes (gateway_state s) i k (λ n. Unit {0}) → reply_to s (came i k) ≡ ack → number_to s (came i k) ≡ 4
       acknowledged_stored c e =
-          let reply : replied (step g (came i k)).0 ≡ Byte ack =
+          let reply : replied (step g (came i k)).0 ≡ Some ack =
           ack_is (replied (step g (came i k)).0) (ap (λ (x : HostResponse). x.answered.reply) (sym (response_at s (end_in_order r) g (end_is r) (came i k))) ∙ e) in
           let complete : Completes g i k (λ n. Unit {0}) = subst (λ (x : State). Completes x i k (λ n. Unit {0})) (end_is r) c in
           sym (number_is (came i k)) ∙ acknowledged.acknowledged_stored (begun r) (begun_right r) r.calls r.may i k h complete reply

@@ -1,5 +1,7 @@
 -- A start of a host is the gateway's start: the numbers after it stand for the gateway after it.
 -- Assumes nothing.
+use Rattle.std.specs.Prelude.{Err, Ok, Result}
+use Rattle.answers.specs.declared.Answer.{Answer}
 use mathlib.Core.Path.{◌≡◌, refl, sym, ap, subst, ◌∙◌}
 use mathlib.Core.Logic.{◌≢◌}
 use mathlib.Core.Bool.{true, false}
@@ -27,8 +29,6 @@ use Rattle.ledger.proofs.Ledgers.{used_back}
 use Rattle.numbers.specs.Plain.{line_of, reader_fits, within_numbers, with_line}
 use Rattle.numbers.proofs.Numbers.{line_within, record_within_law, serial_back}
 use Rattle.orders.specs.Starts.{is_neutral, can_start, start_look}
-use Rattle.orders.specs.declared.Start.{Start}
-use Rattle.orders.specs.declared.Start.TheVariants.{Asks, Refused}
 use Rattle.orders.proofs.Looks.{look_no_line, Passed, asks_passed, passed_fits}
 use Rattle.gateway.specs.Events.{line_at, no_record, started_with, start_in, start_of}
 use Rattle.gateway.specs.Gateway.{Gateway}
@@ -50,7 +50,7 @@ abbrev pub PassedHere : HostState → ℕ → List ℕ → Type 0
 PassedHere s i text =
     Passed i (within_numbers s.numbers i) (can_start (line_of s.numbers i)) text (length s.memory.journal) (length s.memory.unfinished) (length s.memory.frames)
 
-pub host_passed : (s : HostState) (i : ℕ) (text : List ℕ) → start_from s i text ≡ Asks → PassedHere s i text
+pub host_passed : (s : HostState) (i : ℕ) (text : List ℕ) → start_from s i text ≡ Ok tt → PassedHere s i text
 host_passed s i text e = asks_passed i _ (can_start (line_of s.numbers i)) text _ _ _ e
 
 pub host_short : (s : HostState) (i : ℕ) (text : List ℕ) → PassedHere s i text → length text ≤ message_limit
@@ -126,7 +126,7 @@ module _ (s : HostState) (o : InOrder s) (i : ℕ) (text : List ℕ) where
         ∙ gateway_put s.numbers s.counts i x.line asked d o.numbers o.counts (left_touched d i) refl
         ∙ ap (λ (l : Line). record { lines = set g.lines i (asked_line l (length text)); memos = g.memos; ledger = g.ledger }) (sym (line_is x.line))
 
-    asks_hosts : Hosts (started_by Asks s i text) (started_with Asks g i text s.memory)
+    asks_hosts : Hosts (started_by (Ok tt) s i text) (started_with (Ok tt) g i text s.memory)
     asks_hosts = record {
       gateway = gateway_asked;
       answer = refl;
@@ -140,12 +140,12 @@ module _ (s : HostState) (o : InOrder s) (i : ℕ) (text : List ℕ) where
       };
     }
 
-  by_start : (x : Start) → start_from s i text ≡ x → Hosts (started_by x s i text) (started_with x g i text s.memory)
-  by_start Asks e = asks_hosts (host_passed s i text e)
-  by_start (Refused a) e =
+  by_start : (x : Result (Unit {0}) Answer) → start_from s i text ≡ x → Hosts (started_by x s i text) (started_with x g i text s.memory)
+  by_start (Ok tt) e = asks_hosts (host_passed s i text e)
+  by_start (Err a) e =
       let same = sym (set-get_or g.lines i no_record) in
       record { gateway = λ z. record { lines = same z; memos = g.memos; ledger = g.ledger }; answer = refl; memory = refl; ordered = o }
 
   pub start_hosts : Hosts (started_by (start_from s i text) s i text) (start_of g i text s.memory)
   unfolding start_of
-  start_hosts = subst (λ (x : Start). Hosts (started_by (start_from s i text) s i text) (started_with x g i text s.memory)) same_start (by_start (start_from s i text) refl)
+  start_hosts = subst (λ (x : Result (Unit {0}) Answer). Hosts (started_by (start_from s i text) s i text) (started_with x g i text s.memory)) same_start (by_start (start_from s i text) refl)

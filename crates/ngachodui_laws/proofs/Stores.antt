@@ -1,5 +1,6 @@
 -- What is read after a record and a serial are put into the numbers: they are read back, and every other number is as it was.
 -- Assumes nothing.
+use Rattle.std.specs.Prelude.{None, Option, Some, ℕ}
 use mathlib.Core.Path.{◌≡◌, refl, sym, ap, ◌∙◌}
 use mathlib.Core.Logic.{◌≢◌}
 use mathlib.Core.Bool.{Bool, true, false}
@@ -23,8 +24,6 @@ use Rattle.line.specs.declared.Line.{Line}
 use Rattle.line.specs.declared.State.{State}
 use Rattle.line.specs.declared.State.TheVariants.{Neutral, Waiting, Inside, Out}
 use Rattle.line.specs.declared.Sending.TheVariants.{Asking, Pausing, Offering}
-use Rattle.line.specs.declared.Last.{Last}
-use Rattle.line.specs.declared.Last.TheVariants.{NoneYet, Number}
 use Rattle.line.proofs.Limits.{within_facts}
 use Rattle.layout.specs.Layout.{fields, place_at, speaks_at, start, first_at, number_at, block_start}
 use Rattle.ledger.specs.Ledgers.{with_serial}
@@ -150,9 +149,9 @@ state_back (Out (Asking n)) = refl
 state_back (Out (Pausing n)) = refl
 state_back (Out (Offering n at)) = refl
 
-last_back : (x : Last) → last_of (last_number x) ≡ x
-last_back NoneYet = refl
-last_back (Number n) = rw add-one
+last_back : (x : Option ℕ) → last_of (last_number x) ≡ x
+last_back None = refl
+last_back (Some n) = rw add-one
 
 flag_back : (b : Bool) → eqb (flag b) 1 ≡ b
 flag_back true = refl
@@ -175,9 +174,9 @@ state_fits (Out (Asking n)) h = rw h
 state_fits (Out (Pausing n)) h = rw h
 state_fits (Out (Offering n at)) h = h
 
-last_low : (x : Last) → last_within x ≡ true → last_number x ≤ most_number + 1
-last_low NoneYet h = omega arith
-last_low (Number n) h = omega (arith, leb-true n most_number h)
+last_low : (x : Option ℕ) → last_within x ≡ true → last_number x ≤ most_number + 1
+last_low None h = omega arith
+last_low (Some n) h = omega (arith, leb-true n most_number h)
 
 flag_low : (b : Bool) → flag b ≤ 1
 flag_low true = omega arith

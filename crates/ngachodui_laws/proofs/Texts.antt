@@ -1,5 +1,8 @@
 -- A message that a host hands over is cut whole, and what it has taken can be read.
 -- Assumes nothing.
+use Rattle.std.specs.Prelude.{Err, Ok, Result, ℕ}
+use Rattle.faults.specs.declared.Refusal.TheVariants.{Faulty, Malformed, NotFitting}
+use Rattle.faults.specs.declared.Refusal.{Refusal}
 use mathlib.Core.Path.{◌≡◌, refl, sym, ap, ◌∙◌, subst}
 use mathlib.Core.Logic.{◌≢◌}
 use mathlib.Core.Bool.{true, false}
@@ -12,8 +15,6 @@ use Rattle.memory.specs.Sizes.{lines, frame_limit}
 use Rattle.faults.specs.Message.{is_message}
 use Rattle.cutting.specs.Frames.{cut_of, is_cuttable, cut_answer, cut_in}
 use Rattle.owner.specs.Reading.{reading_of}
-use Rattle.owner.specs.declared.Reading.{Reading}
-use Rattle.owner.specs.declared.Reading.TheVariants.{Read, Malformed, NotFitting, Faulty}
 use Rattle.answers.specs.Paper.{is_faulty}
 use Rattle.answers.specs.declared.Fault.{Fault}
 use Rattle.journal_laws.specs.Runs.{Numbered}
@@ -23,7 +24,7 @@ use Rattle.promises.specs.Queue as queue
 use Rattle.promises.specs.OnlyMessages as there
 use Rattle.promises.proofs.OnlyMessages as messages
 use Rattle.promises.proofs.Every.{every_so}
-use Rattle.texts.specs.Texts.{made_by_cutting, made_by_reading}
+use Rattle.texts.specs.Texts.{made_of}
 use Rattle.answers.specs.declared.Made.{Made}
 use Rattle.ngachodui_laws.specs.HostRuns.{Run, history_of}
 use Rattle.ngachodui_laws.specs.Queue.{all_taken}
@@ -32,37 +33,37 @@ use Rattle.ngachodui_laws.proofs.HostRuns.{begun, begun_right}
 use Rattle.ngachodui_laws.proofs.Queue.{taken_from_fresh}
 
 pub cut_whole : (m : List ℕ) → is_message m ≡ true → Cut m
-unfolding cut_answer cut_in is_cuttable made_by_cutting
+unfolding cut_answer cut_in is_cuttable made_of
 cut_whole m message out out' r c room =
     let fits = le-leb (length (cut_of frame_limit m)) (length out) room in
     record { answer = c.result ∙ rw (message, fits); frames = c.after ∙ rw (message, fits) }
 
 -- of what reading comes to, only one is answered 46, and only faults are answered as such
-not_46 : (x : Reading) → x ≢ Malformed → ((f : Fault) (place : ℕ) → x ≢ Faulty f place) → (made_by_reading x).number ≢ 46
-unfolding made_by_reading
-not_46 (Read n) h q e = absurd (omega arith)
-not_46 Malformed h q e = h refl
-not_46 NotFitting h q e = absurd (omega arith)
-not_46 (Faulty f place) h q e = q f place refl
+not_46 : (x : Result ℕ Refusal) → x ≢ Err Malformed → ((f : Fault) (place : ℕ) → x ≢ Err (Faulty f place)) → (made_of x).number ≢ 46
+unfolding made_of
+not_46 (Ok n) h q e = absurd (omega arith)
+not_46 (Err Malformed) h q e = h refl
+not_46 (Err NotFitting) h q e = absurd (omega arith)
+not_46 (Err (Faulty f place)) h q e = q f place refl
 
-not_faulty : (x : Reading) → ((f : Fault) (place : ℕ) → x ≢ Faulty f place) → is_faulty (made_by_reading x).number ≡ false
-unfolding made_by_reading
-not_faulty (Read n) q = refl
-not_faulty Malformed q = refl
-not_faulty NotFitting q = refl
-not_faulty (Faulty f place) q = absurd (q f place refl)
+not_faulty : (x : Result ℕ Refusal) → ((f : Fault) (place : ℕ) → x ≢ Err (Faulty f place)) → is_faulty (made_of x).number ≡ false
+unfolding made_of
+not_faulty (Ok n) q = refl
+not_faulty (Err Malformed) q = refl
+not_faulty (Err NotFitting) q = refl
+not_faulty (Err (Faulty f place)) q = absurd (q f place refl)
 
 module _ (text : List ℕ) (h : there.Readable text) (ts os ls ws : List ℕ) where
-  abbrev reading : Reading
+  abbrev reading : Result ℕ Refusal
   reading = reading_of text (length ts) (length os) (length ls) (length ws)
 
-  faultless : (f : Fault) (place : ℕ) → reading ≢ Faulty f place
+  faultless : (f : Fault) (place : ℕ) → reading ≢ Err (Faulty f place)
   faultless f place = h.never_faulty f place (length ts) (length os) (length ls) (length ws)
 
-  read_not_46 : (made_by_reading reading).number ≢ 46
+  read_not_46 : (made_of reading).number ≢ 46
   read_not_46 = not_46 reading (h.never_46 (length ts) (length os) (length ls) (length ws)) faultless
 
-  read_faultless : is_faulty (made_by_reading reading).number ≡ false
+  read_faultless : is_faulty (made_of reading).number ≡ false
   read_faultless = not_faulty reading faultless
 
 readable : (text : List ℕ) → there.Readable text → Readable text

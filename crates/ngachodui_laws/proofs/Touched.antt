@@ -1,9 +1,9 @@
 -- An event and a taking change what the ledger has of their own line, and of no other.
 -- Assumes nothing.
+use Rattle.std.specs.Prelude.{None, Option, Some}
 use mathlib.Core.Path.{◌≡◌, refl, sym, ap}
 use mathlib.Core.Bool.{Bool, true, false}
 use mathlib.Core.List.{List, [], ◌∷◌}
-use mathlib.Core.Option.{Option, none, some}
 use Prim.Native.Nat.{ℕ, ◌<◌}
 use native.Mathlib.Omega.{arith}
 use lib.Dec.{leb, ltb, eqb}
@@ -84,8 +84,8 @@ module _ (d : Ledger) (i : ℕ) (h : i < lines) (u : length d.used ≡ lines) wh
     oldest_lowered at (e ∷ es) = at_lowered at e
 
     from_lowered : (o : Option (List Entry)) → Lowered d i (take_from d i o j b).taking.ledger
-    from_lowered none = kept
-    from_lowered (some es) = oldest_lowered (sizes (before i es)) (from i es)
+    from_lowered None = kept
+    from_lowered (Some es) = oldest_lowered (sizes (before i es)) (from i es)
 
     pub taking_lowered : Lowered d i (take_of d i j b).taking.ledger
     unfolding take_of

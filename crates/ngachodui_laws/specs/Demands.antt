@@ -4,8 +4,7 @@
 -- from any line. A line speaks frames, or the blocks of a strip reader: where a promise is about one of these it says so.
 -- Answers are a host's own numbers. What a text needs, and whether there is room, is asked of the gateway that these numbers stand for (`gateway_state`).
 -- Assumes nothing.
-use Rattle.std.specs.Prelude.{ℕ, ◌+◌, ◌≤◌, ◌<◌, ◌≡◌, ◌≢◌, Bool, true, false, List, [], ◌∷◌, ◌++◌, length, get_or}
-use Rattle.std.proofs.Math.Option.{some}
+use Rattle.std.specs.Prelude.{ℕ, ◌+◌, ◌≤◌, ◌<◌, ◌≡◌, ◌≢◌, Bool, true, false, List, [], ◌∷◌, ◌++◌, length, get_or, Some}
 use Rattle.memory.specs.Sizes.{lines, frame_limit}
 use Rattle.characters.specs.Control.{stx, eot}
 use Rattle.pieces.specs.Pieces.{pieces_of}
@@ -94,10 +93,10 @@ pub record Demands : Type 0 where
   -- An event that completes a text is answered 4 exactly if the text is a message and there is room for it, 31 exactly if it is one and there is none, and the number
   -- of a fault with a place exactly if that is the first thing wrong with it, at the record of that place: after every run, and wherever numbers, memory and journal
   -- are intact.
-  pub decided_exactly : (s : HostState) → Intact s → (i : ℕ) → i < lines → (k : Kind) (text : List ℕ) → offered (gateway_state s) i k ≡ some text → DecidedExactly s i k text
+  pub decided_exactly : (s : HostState) → Intact s → (i : ℕ) → i < lines → (k : Kind) (text : List ℕ) → offered (gateway_state s) i k ≡ Some text → DecidedExactly s i k text
   --
   -- After every run a text that an event completes and that is no message is wrong at one of its records: the place is 1 at least, and at most as many as there are.
-  pub wrong_at : (r : Run) (i : ℕ) → i < lines → (k : Kind) (text : List ℕ) → offered (gateway_state (end_of r)) i k ≡ some text → is_message text ≡ false → WrongAt text
+  pub wrong_at : (r : Run) (i : ℕ) → i < lines → (k : Kind) (text : List ℕ) → offered (gateway_state (end_of r)) i k ≡ Some text → is_message text ≡ false → WrongAt text
   --
   -- ---- 2. What we cut and send is stored, and given back
 

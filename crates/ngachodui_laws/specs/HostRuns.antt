@@ -1,6 +1,7 @@
 -- What a call does to what a host keeps, and runs of calls from a start.
 -- Assumes nothing.
-use Rattle.std.specs.Prelude.{ℕ, ◌+◌, ◌≡◌, Bool, true, not, ◌&&◌, ◌||◌, List, eqb, length, replicate}
+use Rattle.answers.specs.declared.Answer.{Answer}
+use Rattle.std.specs.Prelude.{ℕ, ◌+◌, ◌≡◌, Bool, true, not, ◌&&◌, ◌||◌, List, eqb, length, replicate, Result}
 use Rattle.memory.specs.Sizes.{lines}
 use Rattle.receiving.specs.Steps.{Memory}
 use Rattle.serial.specs.Serial.{event, taking, annotate, final, Every}
@@ -14,7 +15,6 @@ use Rattle.keeping.specs.Keeping.{memo_of}
 use Rattle.answers.specs.InNumbers.{in_numbers}
 use Rattle.orders.specs.Starts.{start_answer, texts_started}
 use Rattle.orders.specs.Calls.{look_from, numbers_started, frame_on}
-use Rattle.orders.specs.declared.Start.{Start}
 use Rattle.calls.specs.Calls.{HostState, AfterCall, call_of}
 use Rattle.reader.specs.Takings.{TakeState, taking_of}
 use Rattle.ngachodui_laws.specs.Hosting.{gateway_of, Ordered}
@@ -45,10 +45,10 @@ abbrev pub lent_of : HostState → List ℕ → TakeState
 lent_of s b = record { counts = s.counts; journal = s.memory.journal; buffer = b }
 
 -- a start is a call of `ngachodui_send`: what its contract says
-abbrev pub start_from : HostState → ℕ → List ℕ → Start
+abbrev pub start_from : HostState → ℕ → List ℕ → Result (Unit {0}) Answer
 start_from s i text = look_from s.numbers i text (length s.memory.journal) (length s.memory.unfinished) (length s.memory.frames)
 
-abbrev pub started_by : Start → HostState → ℕ → List ℕ → AfterCall
+abbrev pub started_by : Result (Unit {0}) Answer → HostState → ℕ → List ℕ → AfterCall
 started_by x s i text = record {
   answered = in_numbers (start_answer x);
   state = record {

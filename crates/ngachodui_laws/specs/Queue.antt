@@ -1,7 +1,6 @@
 -- What goes in and comes out on one line in a run of calls, as a host sees it: nothing is lost, nothing comes twice, and only messages come.
 -- Assumes nothing.
-use Rattle.std.specs.Prelude.{ℕ, ◌<◌, ◌≡◌, true, cond, ◌&&◌, List, [], ◌∷◌, ◌++◌, eqb, take}
-use Rattle.std.proofs.Math.Option.{some}
+use Rattle.std.specs.Prelude.{ℕ, ◌<◌, ◌≡◌, true, cond, ◌&&◌, List, [], ◌∷◌, ◌++◌, eqb, take, Some}
 use Rattle.memory.specs.Sizes.{lines}
 use Rattle.faults.specs.Message.{is_message}
 use Rattle.header.specs.Entry.{Entry}
@@ -48,6 +47,6 @@ pub record NothingLost (r : Run) : Type 0 where
 -- every text that waits is a message, and every text that was taken is one
 pub record OnlyMessages (r : Run) : Type 0 where
   pub entries : List Entry
-  pub whole : chain (ledger_of (end_of r).numbers (end_of r).counts) (end_of r).memory.journal ≡ some entries
+  pub whole : chain (ledger_of (end_of r).numbers (end_of r).counts) (end_of r).memory.journal ≡ Some entries
   pub waits : Every (λ (e : Entry). is_message e.text ≡ true) entries
   pub taken : (l : ℕ) → l < lines → Every (λ (n : Numbered). is_message n.text ≡ true) (all_taken l (history_of r))

@@ -1,6 +1,7 @@
 -- A strip reader's line, as a host has it: what its blocks are answered, what is stored of them, and what goes out to the reader.
 -- Assumes nothing.
-use Rattle.std.specs.Prelude.{ℕ, ◌≡◌, true, List, [], ◌∷◌, ◌++◌, length}
+use Rattle.strips.specs.declared.Reply.TheVariants.{Again, More}
+use Rattle.std.specs.Prelude.{ℕ, ◌≡◌, true, List, [], ◌∷◌, ◌++◌, length, Some}
 use Rattle.settings.specs.declared.Patient.{Patient}
 use Rattle.block.specs.Places.{matches}
 use Rattle.block.specs.Layouts.{mor, rep, control_block}
@@ -8,7 +9,6 @@ use Rattle.block.specs.Judged.{control_length, is_tested}
 use Rattle.block.specs.Controls.{control_bytes}
 use Rattle.strips.specs.Readers.{Memo}
 use Rattle.strips.specs.Replies.{reply_number}
-use Rattle.strips.specs.declared.Replied.TheVariants.{More, Again}
 use Rattle.looking.specs.declared.Kind.TheVariants.{Byte}
 use Rattle.promises.specs.Machine.{came}
 use Rattle.promises.specs.Readers.{Ends, block_at}
@@ -46,8 +46,8 @@ stored_with r i b = all_stored i (begin_of r) (r.calls ++ (came i (Byte b) ∷ [
 
 -- what goes out to a reader: MOR or REP, by our last reply as the numbers have it [B4, B11]
 pub data ToReader (t : HostState) (i : ℕ) (sent : List ℕ) : Type 0 where
-  more : number_at t.numbers i reply_at ≡ reply_number More → sent ≡ control_bytes mor → ToReader t i sent
-  again : number_at t.numbers i reply_at ≡ reply_number Again → sent ≡ control_bytes rep → ToReader t i sent
+  more : number_at t.numbers i reply_at ≡ reply_number (Some More) → sent ≡ control_bytes mor → ToReader t i sent
+  again : number_at t.numbers i reply_at ≡ reply_number (Some Again) → sent ≡ control_bytes rep → ToReader t i sent
 
 -- a control block passes our own tests of length, test bytes and layout [B2, B3, B4]
 pub record RightControl (code : ℕ) : Type 0 where

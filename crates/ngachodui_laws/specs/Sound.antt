@@ -1,7 +1,6 @@
 -- What a host keeps when all is well.
 -- Assumes nothing.
-use Rattle.std.specs.Prelude.{ℕ, ◌<◌, ◌≡◌, List}
-use Rattle.std.proofs.Math.Option.{some}
+use Rattle.std.specs.Prelude.{ℕ, ◌<◌, ◌≡◌, List, Some}
 use Rattle.memory.specs.Sizes.{lines}
 use Rattle.header.specs.Header.{serial_count}
 use Rattle.header.specs.Entry.{Entry}
@@ -20,7 +19,7 @@ pub record Intact (s : HostState) : Type 0 where
   pub sizes : RightSizes s.memory
   pub serials : (i : ℕ) → i < lines → number_at s.numbers i serial_at < serial_count
   pub entries : List Entry
-  pub whole : chain (ledger_of s.numbers s.counts) s.memory.journal ≡ some entries
+  pub whole : chain (ledger_of s.numbers s.counts) s.memory.journal ≡ Some entries
 
 -- the journal is whole, holds these entries, and keeps every line's share
 abbrev pub Holds : HostState → List Entry → Type 0

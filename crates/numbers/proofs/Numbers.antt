@@ -1,5 +1,6 @@
 -- Laws of records in plain numbers.
 -- Assumes nothing.
+use Rattle.std.specs.Prelude.{Some}
 use mathlib.Core.Path.{◌≡◌, refl, sym, ap, ◌∙◌}
 use mathlib.Core.Bool.{Bool, true, false, cond, ◌&&◌}
 use mathlib.Core.List.{List}
@@ -19,7 +20,6 @@ use Rattle.settings.specs.declared.Patient.TheVariants.{Ten, Thirteen}
 use Rattle.settings.specs.declared.Dialogue.TheVariants.{Blocks}
 use Rattle.settings.specs.declared.Settings.{Settings}
 use Rattle.line.specs.Line.{most_collected, most_seconds, most_tries, last_within, state_within, counts_within, within_limits, block_within, record_within, collected_line, begun_line}
-use Rattle.line.specs.declared.Last.TheVariants.{Number}
 use Rattle.line.proofs.Limits.{collected_fits, within_of}
 use Rattle.line.specs.declared.Line.{Line}
 use Rattle.line.specs.declared.State.{State}
@@ -87,7 +87,7 @@ few_tries n tries place e = by_state (leb n inside) (leb n pausing) e
     by_state false false f = omega (arith, leb-true tries most_tries (and_left (leb tries most_tries) _ f))
 
 -- a number that is not 0 tells the one below it
-pub last_some : (n : ℕ) → (n ≡ 0 → ⊥) → Number (n - 1) ≡ last_of n
+pub last_some : (n : ℕ) → (n ≡ 0 → ⊥) → Some (n - 1) ≡ last_of n
 last_some zero h = absurd (h refl)
 last_some (suc n) h = simp unary_clauses
 

@@ -1,6 +1,6 @@
 -- A line's record in plain numbers, as a host keeps it.
 -- Assumes nothing.
-use Rattle.std.specs.Prelude.{ℕ, zero, suc, ◌+◌, Bool, false, cond, not, ◌&&◌, List, set, leb, ltb, eqb}
+use Rattle.std.specs.Prelude.{ℕ, zero, suc, ◌+◌, Bool, false, cond, not, ◌&&◌, List, set, leb, ltb, eqb, None, Option, Some}
 use Rattle.memory.specs.Sizes.{message_limit}
 use Rattle.memory.specs.Tests.{is}
 use Rattle.characters.specs.Control.{lf, stx}
@@ -16,8 +16,6 @@ use Rattle.line.specs.declared.State.{State}
 use Rattle.line.specs.declared.State.TheVariants.{Neutral, Waiting, Inside, Out}
 use Rattle.line.specs.declared.Sending.{Sending}
 use Rattle.line.specs.declared.Sending.TheVariants.{Asking, Pausing, Offering}
-use Rattle.line.specs.declared.Last.{Last}
-use Rattle.line.specs.declared.Last.TheVariants.{NoneYet, Number}
 use Rattle.looking.specs.declared.Kind.{Kind}
 use Rattle.looking.specs.declared.Kind.TheVariants.{Byte, Seconds}
 use Rattle.layout.specs.Layout.{start, collected_at, joined_at, seconds_at, next_at, last_at, refusing_at, tries_at, place_at, speaks_at, reply_at, since_at, kept_at, first_at, number_at, frames, blocks_of10, blocks_of13}
@@ -78,13 +76,13 @@ sending_fits n tries place =
     (leb tries most_tries && leb place message_limit))
 
 -- the last accepted number: 0 for none, else one more than it [H2]
-abbrev pub last_of : ℕ → Last
-last_of zero = NoneYet
-last_of (suc n) = Number n
+abbrev pub last_of : ℕ → Option ℕ
+last_of zero = None
+last_of (suc n) = Some n
 
-abbrev pub last_number : Last → ℕ
-last_number NoneYet = 0
-last_number (Number n) = n + 1
+abbrev pub last_number : Option ℕ → ℕ
+last_number None = 0
+last_number (Some n) = n + 1
 
 abbrev pub flag : Bool → ℕ
 flag b = cond b 1 0

@@ -42,23 +42,19 @@ pub fn begin(i: usize, kind: Kind, numbers: &mut [u16; NUMBERS]) -> bool
 }
 
 // Whether a line's numbers stand for a record within its limits.
+#[tactic(auto, using(crate::proofs::Changes::within_nowhere, crate::proofs::Changes::within_there))]
 pub fn is_within(numbers: &[u16; NUMBERS], i: usize) -> bool
     ensures { result ≡ is_within numbers.now i }
 {
-    if memory::LINES <= i {
-        return false;
-    }
-    plain::is_within(numbers, i)
+    i < memory::LINES && plain::is_within(numbers, i)
 }
 
 // Whether a line is a strip reader's.
+#[tactic(auto, unfolding(crate::specs::Changes::is_reader))]
 pub fn is_reader(numbers: &[u16; NUMBERS], i: usize) -> bool
     ensures { result ≡ is_reader numbers.now i }
 {
-    if memory::LINES <= i {
-        return false;
-    }
-    numbers[i * FIELDS + SPEAKS] != FRAMES
+    i < memory::LINES && numbers[i * FIELDS + SPEAKS] != FRAMES
 }
 
 // The record that a line's numbers stand for; where they stand for none, that of a fresh line.
@@ -75,8 +71,7 @@ pub fn record_of(numbers: &[u16; NUMBERS], i: usize) -> Line
 pub fn put_record(numbers: &mut [u16; NUMBERS], i: usize, line: Line)
     ensures { numbers.new ≡ record_after numbers.old i line }
 {
-    if memory::LINES <= i {
-        return;
+    if i < memory::LINES {
+        plain::put_line(numbers, i, line);
     }
-    plain::put_line(numbers, i, line);
 }

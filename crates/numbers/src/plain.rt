@@ -6,14 +6,14 @@ ghost use Rattle.line.specs.declared.State.TheVariants.{Out};
 ghost use Rattle.looking.specs.Views.{frame_start};
 ghost use Rattle.layout.specs.Layout.{number_at};
 ghost use Rattle.numbers.specs.Inner.Quick.{receives as Quick·receives};
-ghost use Rattle.numbers.specs.Plain.{one_more, quick, begins, sending_of, state_of, state_number, tries_number, place_number, sending_fits, last_of, last_number, flag, counts_fit, block_fits, speech_fits, within_numbers, dialogue_of, settings_of, line_of, with_line};
+ghost use Rattle.numbers.specs.Plain.{one_more, quick, begins, sending_of, state_of, state_number, tries_number, place_number, sending_fits, last_of, last_number, counts_fit, block_fits, speech_fits, within_numbers, dialogue_of, settings_of, line_of, with_line};
 
 use characters::{LF, STX};
 use layout::{
     BLOCKS_OF_10, BLOCKS_OF_13, COLLECTED, FIELDS, FRAMES, JOINED, KEPT, LAST, NEXT, NUMBERS,
     PLACE, REFUSING, REPLY, SECONDS, SINCE, SPEAKS, TRIES,
 };
-use line::{Last, Line, Sending, State};
+use line::{Line, Sending, State};
 use looking::Kind;
 use settings::{Dialogue, Patient, Settings};
 
@@ -44,24 +44,17 @@ struct Stated {
 }
 
 // Whether a line's numbers are those of a record within its limits.
+#[tactic(auto, unfolding(crate::specs::Plain::within_numbers))]
 pub fn is_within(numbers: &[u16; NUMBERS], i: usize) -> bool
     requires { i < lines }
     ensures { result ≡ within_numbers numbers.now i }
 {
     let at = i * FIELDS;
-    if OFFERING < numbers[at] {
-        return false;
-    }
-    if !sending_fits(numbers[at], numbers[at + TRIES], numbers[at + PLACE]) {
-        return false;
-    }
-    if !are_counts_within(numbers, i) {
-        return false;
-    }
-    if 1 < numbers[at + REFUSING] {
-        return false;
-    }
-    is_speech_within(numbers, i)
+    numbers[at] <= OFFERING
+        && sending_fits(numbers[at], numbers[at + TRIES], numbers[at + PLACE])
+        && are_counts_within(numbers, i)
+        && numbers[at + REFUSING] <= 1
+        && is_speech_within(numbers, i)
 }
 
 // Whether the counts and the numbers of frames that every line has are within their limits, its collected bytes aside.
@@ -70,34 +63,24 @@ fn are_counts_within(numbers: &[u16; NUMBERS], i: usize) -> bool
     ensures { result ≡ counts_fit numbers.now i }
 {
     let at = i * FIELDS;
-    if Line::MOST_JOINED < numbers[at + JOINED] {
-        return false;
-    }
-    if (Line::MOST_SECONDS as u16) < numbers[at + SECONDS] {
-        return false;
-    }
-    if (Line::MOST_NUMBER as u16) < numbers[at + NEXT] {
-        return false;
-    }
-    numbers[at + LAST] <= (Line::MOST_NUMBER as u16) + 1
+    numbers[at + JOINED] <= Line::MOST_JOINED
+        && numbers[at + SECONDS] <= Line::MOST_SECONDS as u16
+        && numbers[at + NEXT] <= Line::MOST_NUMBER as u16
+        && numbers[at + LAST] <= Line::MOST_NUMBER as u16 + 1
 }
 
 // Whether the line speaks what one can, with no more bytes collected than it can have.
+#[tactic(auto, unfolding(crate::specs::Plain::speech_fits, line::specs::Line::most_collected))]
 fn is_speech_within(numbers: &[u16; NUMBERS], i: usize) -> bool
     requires { i < lines }
     ensures { result ≡ speech_fits numbers.now i }
 {
-    let speaks = numbers[i * FIELDS + SPEAKS];
-    if speaks == FRAMES {
-        return numbers[i * FIELDS + COLLECTED] <= Line::MOST_COLLECTED;
+    match numbers[i * FIELDS + SPEAKS] {
+        FRAMES => numbers[i * FIELDS + COLLECTED] <= Line::MOST_COLLECTED,
+        BLOCKS_OF_10 => is_block_within(numbers, i, LONGEST_OF_10),
+        BLOCKS_OF_13 => is_block_within(numbers, i, LONGEST_OF_13),
+        _ => false,
     }
-    if speaks == BLOCKS_OF_10 {
-        return is_block_within(numbers, i, LONGEST_OF_10);
-    }
-    if speaks == BLOCKS_OF_13 {
-        return is_block_within(numbers, i, LONGEST_OF_13);
-    }
-    false
 }
 
 // Whether a reader's line has fewer bytes collected than its longest block has, and what is kept of the reader is within its limits.
@@ -106,16 +89,10 @@ fn is_block_within(numbers: &[u16; NUMBERS], i: usize, longest: u16) -> bool
     ensures { result ≡ block_fits numbers.now i longest }
 {
     let at = i * FIELDS;
-    if longest <= numbers[at + COLLECTED] {
-        return false;
-    }
-    if MOST_REPLY < numbers[at + REPLY] {
-        return false;
-    }
-    if 1 < numbers[at + SINCE] {
-        return false;
-    }
-    numbers[at + KEPT] <= 1
+    numbers[at + COLLECTED] < longest
+        && numbers[at + REPLY] <= MOST_REPLY
+        && numbers[at + SINCE] <= 1
+        && numbers[at + KEPT] <= 1
 }
 
 // Whether a state may have these tries and this place.
@@ -123,21 +100,12 @@ fn sending_fits(state: u16, tries: u16, place: u16) -> bool
     ensures { result ≡ sending_fits state tries place }
 {
     if state <= INSIDE {
-        if tries != 0 {
-            return false;
-        }
-        return place == 0;
+        return tries == 0 && place == 0;
     }
     if state <= PAUSING {
-        if (Line::MOST_TRIES as u16) <= tries {
-            return false;
-        }
-        return place == 0;
+        return tries < Line::MOST_TRIES as u16 && place == 0;
     }
-    if (Line::MOST_TRIES as u16) < tries {
-        return false;
-    }
-    place <= Line::MOST_JOINED
+    tries <= Line::MOST_TRIES as u16 && place <= Line::MOST_JOINED
 }
 
 // Whether a byte is only collected, inside a frame that it does not end, and its line's numbers are within their limits.
@@ -209,18 +177,15 @@ pub fn line_of(numbers: &[u16; NUMBERS], i: usize) -> Line
     ensures { result ≡ line_of numbers.now i }
 {
     let at = i * FIELDS;
-    let state = state_of(numbers[at], numbers[at + TRIES], numbers[at + PLACE]);
-    let last = last_of(numbers[at + LAST]);
-    let settings = settings_of(numbers[at + SPEAKS]);
     Line {
-        state,
+        state: state_of(numbers[at], numbers[at + TRIES], numbers[at + PLACE]),
         collected: numbers[at + COLLECTED],
         joined: numbers[at + JOINED],
         seconds: numbers[at + SECONDS] as u8,
         next: numbers[at + NEXT] as u8,
-        last,
+        last: last_of(numbers[at + LAST]),
         refusing: numbers[at + REFUSING] == 1,
-        settings,
+        settings: settings_of(numbers[at + SPEAKS]),
     }
 }
 
@@ -236,13 +201,11 @@ fn settings_of(speaks: u16) -> Settings
 fn dialogue_of(speaks: u16) -> Dialogue
     ensures { result ≡ dialogue_of speaks }
 {
-    if speaks == FRAMES {
-        return Dialogue::Frames;
+    match speaks {
+        FRAMES => Dialogue::Frames,
+        BLOCKS_OF_10 => Dialogue::Blocks(Patient::Ten),
+        _ => Dialogue::Blocks(Patient::Thirteen),
     }
-    if speaks == BLOCKS_OF_10 {
-        return Dialogue::Blocks(Patient::Ten);
-    }
-    Dialogue::Blocks(Patient::Thirteen)
 }
 
 // 0 neutral, 1 waiting, 2 inside, else a sending.
@@ -250,40 +213,34 @@ fn state_of(n: u16, tries: u16, place: u16) -> State
     requires { tries ≤ 255 }
     ensures { result ≡ state_of n tries place }
 {
-    if n == 0 {
-        return State::Neutral;
+    match n {
+        0 => State::Neutral,
+        WAITING => State::Waiting,
+        INSIDE => State::Inside,
+        _ => State::Out(sending_of(n, tries as u8, place)),
     }
-    if n == WAITING {
-        return State::Waiting;
-    }
-    if n == INSIDE {
-        return State::Inside;
-    }
-    State::Out(sending_of(n, tries as u8, place))
 }
 
 // 3 asking, 4 pausing, 5 offering.
 fn sending_of(n: u16, tries: u8, place: u16) -> Sending
     ensures { result ≡ sending_of n tries place }
 {
-    if n == ASKING {
-        return Sending::Asking(tries);
+    match n {
+        ASKING => Sending::Asking(tries),
+        PAUSING => Sending::Pausing(tries),
+        _ => Sending::Offering(tries, place),
     }
-    if n == PAUSING {
-        return Sending::Pausing(tries);
-    }
-    Sending::Offering(tries, place)
 }
 
 // 0 for none, else one more than the number.
-fn last_of(n: u16) -> Last
+fn last_of(n: u16) -> Option<u8>
     requires { n ≤ 256 }
     ensures { result ≡ last_of n }
 {
     if n == 0 {
-        return Last::NoneYet;
+        return None;
     }
-    Last::Number((n - 1) as u8)
+    Some((n - 1) as u8)
 }
 
 // Puts a record in the place of a line's numbers; its serial and the spare ones stay.
@@ -292,16 +249,14 @@ pub fn put_line(numbers: &mut [u16; NUMBERS], i: usize, line: Line)
     ensures { numbers.new ≡ with_line numbers.old i line }
 {
     let at = i * FIELDS;
-    let state = line.state;
-    let last = line.last;
-    let stated = state_numbers(state);
+    let stated = state_numbers(line.state);
     numbers[at] = stated.state;
     numbers[at + COLLECTED] = line.collected;
     numbers[at + JOINED] = line.joined;
     numbers[at + SECONDS] = line.seconds as u16;
     numbers[at + NEXT] = line.next as u16;
-    numbers[at + LAST] = last_number(last);
-    numbers[at + REFUSING] = flag_number(line.refusing);
+    numbers[at + LAST] = last_number(line.last);
+    numbers[at + REFUSING] = u16::from(line.refusing);
     numbers[at + TRIES] = stated.tries;
     numbers[at + PLACE] = stated.place;
 }
@@ -332,25 +287,13 @@ fn in_numbers(state: u16, tries: u8, place: u16) -> Stated
 {
     Stated {
         state,
-        tries: tries as u16,
+        tries: u16::from(tries),
         place,
     }
 }
 
-fn last_number(last: Last) -> u16
+fn last_number(last: Option<u8>) -> u16
     ensures { result ≡ last_number last }
 {
-    match last {
-        Last::NoneYet => 0,
-        Last::Number(n) => n as u16 + 1,
-    }
-}
-
-fn flag_number(b: bool) -> u16
-    ensures { result ≡ flag b }
-{
-    if b {
-        return 1;
-    }
-    0
+    last.map_or(0, |n| u16::from(n) + 1)
 }

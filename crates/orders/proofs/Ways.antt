@@ -1,5 +1,10 @@
 -- Each way out of a call: a start that is refused or asks, and a frame that is fetched.
 -- Assumes nothing.
+use Rattle.std.proofs.lemmas.Option.{same_Some}
+use Rattle.strips.specs.declared.Reply.{Reply}
+use Rattle.std.specs.Prelude.{Option, Result, Some, None}
+use Rattle.framing.specs.declared.Refusal.{Refusal}
+use Rattle.answers.specs.declared.Answer.{Answer}
 use mathlib.Core.Path.{◌≡◌, refl, sym, ap, subst, ◌∙◌}
 use mathlib.Core.Bool.{Bool, true, false, cond}
 use mathlib.Core.List.{List, []}
@@ -20,30 +25,28 @@ use Rattle.answers.specs.InNumbers.{done, refused_with}
 use Rattle.answers.specs.declared.Answer.TheVariants.{NotFitting, NoLine, WrongSize, BeyondLimits}
 use Rattle.answers.specs.declared.Answered.{Answered}
 use Rattle.answers.specs.declared.Made.{Made}
-use Rattle.framing.specs.declared.Written.{Written}
 use Rattle.looking.specs.Views.{texts_of, unfinished_text}
 use Rattle.sending.specs.Offered.{piece_now, PiecePut}
 use Rattle.sending.proofs.Offered.{offered_written, offered_unwritten}
 use Rattle.memory.specs.Parts.{splice}
+use Rattle.memory.proofs.Tests.{clash}
 use Rattle.memory.specs.Moves.{copied}
 use Rattle.block.specs.Judged.{control_length}
 use Rattle.block.specs.Controls.{control_bytes, ControlPut}
 use Rattle.block.proofs.Controls.{control_long}
 use Rattle.strips.specs.Replies.{replied_of, reply_block}
-use Rattle.strips.specs.declared.Replied.{Replied}
 use Rattle.layout.specs.Layout.{number_at}
 use Rattle.numbers.specs.Plain.{dialogue_of, line_of, within_numbers}
 use Rattle.numbers.specs.Changes.{is_within, record_of}
 use Rattle.orders.specs.Calls.{SentBy, frame_on, outgoing_on, PutOut, made_by_writing, fetch_answer, fetched_over, Fetched}
-use Rattle.orders.specs.declared.Start.{Start}
 
 -- where numbers are within their limits, the record that is read is the one that they stand for
 pub record_there : (ns : List ℕ) (i : ℕ) → is_within ns i ≡ true → record_of ns i ≡ line_of ns i
 record_there ns i e = rw e
 
 -- a start, by what it comes to
-pub sent_as : {x y : Start} {ns : List ℕ} {i : ℕ} {text u : List ℕ} {r : Answered} {ns' u' : List ℕ} → x ≡ y → SentBy y ns i text u r ns' u' → SentBy x ns i text u r ns' u'
-sent_as {x} {y} {ns} {i} {text} {u} {r} {ns'} {u'} e s = subst (λ (z : Start). SentBy z ns i text u r ns' u') (sym e) s
+pub sent_as : {x y : Result (Unit {0}) Answer} {ns : List ℕ} {i : ℕ} {text u : List ℕ} {r : Answered} {ns' u' : List ℕ} → x ≡ y → SentBy y ns i text u r ns' u' → SentBy x ns i text u r ns' u'
+sent_as {x} {y} {ns} {i} {text} {u} {r} {ns'} {u'} e s = subst (λ (z : Result (Unit {0}) Answer). SentBy z ns i text u r ns' u') (sym e) s
 
 -- what goes out, test by test
 module _ (ns : List ℕ) (i : ℕ) (u out : List ℕ) where
@@ -90,7 +93,7 @@ module _ (ns : List ℕ) (i : ℕ) (u out : List ℕ) where
           fetched w (subst (λ (x : List ℕ). PutOut x out r out') frame p)
 
       -- and on a reader's by our last reply
-      pub fetched_reply : {q : Replied} {r : Made} {out' : List ℕ} → within_numbers ns i ≡ true → eqb (number_at ns i 10) 0 ≡ false → q ≡ replied_of (number_at ns i 11) → PutOut (reply_block q) out r out' → Fetched ns i u out r out'
+      pub fetched_reply : {q : Option Reply} {r : Made} {out' : List ℕ} → within_numbers ns i ≡ true → eqb (number_at ns i 10) 0 ≡ false → q ≡ replied_of (number_at ns i 11) → PutOut (reply_block q) out r out' → Fetched ns i u out r out'
       fetched_reply {q} {r} {out'} w n e p =
           let block : reply_block q ≡ outgoing_on ns i u = ap reply_block e ∙ sym (reply_out n) in
           fetched w (subst (λ (x : List ℕ). PutOut x out r out') block p)
@@ -100,7 +103,7 @@ module _ (l : Line) (i : ℕ) (u out : List ℕ) (w : within_limits l ≡ true) 
   abbrev frame : List ℕ
   frame = frame_on l i u
 
-  written_out : {t : Written} {r : Made} {out' : List ℕ} → PiecePut l.next (piece_now frame_limit l (unfinished_text l (texts_of i u))) out t out' → r ≡ made_by_writing t → PutOut frame out r out'
+  written_out : {t : Result ℕ Refusal} {r : Made} {out' : List ℕ} → PiecePut l.next (piece_now frame_limit l (unfinished_text l (texts_of i u))) out t out' → r ≡ made_by_writing t → PutOut frame out r out'
   written_out {t} {r} {out'} put q = elim (dec_le (length frame) (length out)) [
     | yes p ↦
         let (is, after) = offered_written frame_limit l (unfinished_text l (texts_of i u)) out (within_facts l w).next p put in
@@ -111,7 +114,7 @@ module _ (l : Line) (i : ℕ) (u out : List ℕ) (w : within_limits l ≡ true) 
   ]
 
   -- of the text that was lent
-  pub put_out : {text : List ℕ} {t : Written} {r : Made} {out' : List ℕ} → text ≡ unfinished_text l (texts_of i u) → PiecePut l.next (piece_now frame_limit l text) out t out' → r ≡ made_by_writing t
+  pub put_out : {text : List ℕ} {t : Result ℕ Refusal} {r : Made} {out' : List ℕ} → text ≡ unfinished_text l (texts_of i u) → PiecePut l.next (piece_now frame_limit l text) out t out' → r ≡ made_by_writing t
       → PutOut frame out r out'
   put_out {text} {t} {r} {out'} same put q = written_out (subst (λ (x : List ℕ). PiecePut l.next (piece_now frame_limit l x) out t out') same put) q
 
@@ -120,24 +123,24 @@ abbrev Fit : ℕ → List ℕ → Bool → Type 0
 Fit code out t = leb (length (control_bytes code)) (length out) ≡ t
 
 -- so much of it was written
-written : (code : ℕ) (out : List ℕ) {n : ℕ} {out' : List ℕ} → ControlPut code out n out' → (t : Bool) → Fit code out t → (n ≡ cond t control_length 0) × (out' ≡ cond t (splice out 0 (control_bytes code)) out)
+written : (code : ℕ) (out : List ℕ) {n : Option ℕ} {out' : List ℕ} → ControlPut code out n out' → (t : Bool) → Fit code out t → (n ≡ cond t (Some control_length) None) × (out' ≡ cond t (splice out 0 (control_bytes code)) out)
 unfolding copied control_bytes
 written code out put t fit = (put.answer ∙ rw fit, put.after ∙ rw fit)
 
-module _ (code : ℕ) (out : List ℕ) {n : ℕ} {out' : List ℕ} (put : ControlPut code out n out') (r : Made) where
-  pub reply_refused : n ≡ 0 → r ≡ refused_with NotFitting → PutOut (control_bytes code) out r out'
+module _ (code : ℕ) (out : List ℕ) {n : Option ℕ} {out' : List ℕ} (put : ControlPut code out n out') (r : Made) where
+  pub reply_refused : n ≡ None → r ≡ refused_with NotFitting → PutOut (control_bytes code) out r out'
   reply_refused none q = by_fit (leb (length (control_bytes code)) (length out)) refl
     where
       by_fit : (t : Bool) → Fit code out t → PutOut (control_bytes code) out r out'
-      by_fit true fit = let six : n ≡ control_length = (written code out put true fit).0 in absurd (omega (arith, six, none))
+      by_fit true fit = let z = sym none ∙ (written code out put true fit).0 in clash cc
       by_fit false fit = record { answer = rw fit q; after = rw fit (written code out put false fit).1 }
 
-  pub reply_put : (n ≡ 0 → ⊥) → r ≡ done n → PutOut (control_bytes code) out r out'
-  reply_put some q = by_fit (leb (length (control_bytes code)) (length out)) refl
+  pub reply_put : {k : ℕ} → n ≡ Some k → r ≡ done k → PutOut (control_bytes code) out r out'
+  reply_put {k = k} some q = by_fit (leb (length (control_bytes code)) (length out)) refl
     where
       by_fit : (t : Bool) → Fit code out t → PutOut (control_bytes code) out r out'
-      by_fit true fit = let (six, after) = written code out put true fit in record { answer = rw fit (q ∙ ap done (six ∙ sym (control_long code))); after = rw fit after }
-      by_fit false fit = absurd (some (written code out put false fit).0)
+      by_fit true fit = let (six, after) = written code out put true fit in record { answer = rw fit (q ∙ ap done (same_Some _ _ (sym some ∙ six) ∙ sym (control_long code))); after = rw fit after }
+      by_fit false fit = let z = sym some ∙ (written code out put false fit).0 in clash cc
 
 -- nothing to put out
 pub none_put : (out : List ℕ) {r : Made} → r ≡ done 0 → PutOut [] out r out

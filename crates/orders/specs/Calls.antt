@@ -1,6 +1,8 @@
 -- A host's calls for a sending, over plain numbers: its start, and the frame that its line offers, or our last reply to a strip reader.
 -- Assumes nothing.
-use Rattle.std.specs.Prelude.{ℕ, ◌≡◌, ◌&&◌, List, eqb, leb, ltb, length}
+use Rattle.framing.specs.declared.Refusal.{Refusal}
+use Rattle.answers.specs.declared.Answer.{Answer}
+use Rattle.std.specs.Prelude.{ℕ, ◌≡◌, ◌&&◌, List, eqb, leb, ltb, length, Err, Ok, Result}
 use Rattle.memory.specs.Sizes.{lines, frame_limit, unfinished_size}
 use Rattle.memory.specs.Parts.{splice}
 use Rattle.memory.specs.Tests.{unless}
@@ -10,8 +12,6 @@ use Rattle.answers.specs.InNumbers.{in_numbers, done, refused_with}
 use Rattle.answers.specs.declared.Answer.TheVariants.{Malformed, NotFitting, NoLine, WrongSize, BeyondLimits}
 use Rattle.answers.specs.declared.Answered.{Answered}
 use Rattle.answers.specs.declared.Made.{Made}
-use Rattle.framing.specs.declared.Written.{Written}
-use Rattle.framing.specs.declared.Written.TheVariants as written
 use Rattle.looking.specs.Views.{texts_of, unfinished_text}
 use Rattle.sending.specs.Offered.{frame_now}
 use Rattle.receiving.specs.Steps.{Memory}
@@ -19,20 +19,18 @@ use Rattle.strips.specs.Replies.{replied_of, reply_block}
 use Rattle.layout.specs.Layout.{reply_at, number_at}
 use Rattle.numbers.specs.Plain.{within_numbers, line_of, with_line}
 use Rattle.orders.specs.Starts.{can_start, start_look, start_answer, line_started, texts_started}
-use Rattle.orders.specs.declared.Start.{Start}
-use Rattle.orders.specs.declared.Start.TheVariants.{Asks, Refused}
 
 -- a start on the line that these numbers stand for [H3]
-abbrev pub look_from : List ℕ → ℕ → List ℕ → ℕ → ℕ → ℕ → Start
+abbrev pub look_from : List ℕ → ℕ → List ℕ → ℕ → ℕ → ℕ → Result (Unit {0}) Answer
 look_from ns i text journal unfinished frames = start_look i (within_numbers ns i) (can_start (line_of ns i)) text journal unfinished frames
 
 -- the numbers after it
-abbrev pub numbers_started : Start → List ℕ → ℕ → List ℕ → List ℕ
-numbers_started Asks ns i text = with_line ns i (line_started Asks (line_of ns i) text)
-numbers_started (Refused a) ns i text = ns
+abbrev pub numbers_started : Result (Unit {0}) Answer → List ℕ → ℕ → List ℕ → List ℕ
+numbers_started (Ok tt) ns i text = with_line ns i (line_started (Ok tt) (line_of ns i) text)
+numbers_started (Err a) ns i text = ns
 
 -- what a start says: its answer, and every number and byte that it is lent to write [S1, H4]
-pub record SentBy (x : Start) (ns : List ℕ) (i : ℕ) (text u : List ℕ) (r : Answered) (ns' u' : List ℕ) : Type 0 where
+pub record SentBy (x : Result (Unit {0}) Answer) (ns : List ℕ) (i : ℕ) (text u : List ℕ) (r : Answered) (ns' u' : List ℕ) : Type 0 where
   pub result : r ≡ in_numbers (start_answer x)
   pub numbers : ns' ≡ numbers_started x ns i text
   pub unfinished : u' ≡ texts_started x i text u
@@ -53,10 +51,10 @@ pub record PutOut (frame out : List ℕ) (r : Made) (out' : List ℕ) : Type 0 w
   pub answer : r ≡ unless (leb (length frame) (length out)) (refused_with NotFitting) (done (length frame))
   pub after : out' ≡ unless (leb (length frame) (length out)) out (splice out 0 frame)
 
-abbrev pub made_by_writing : Written → Made
-made_by_writing written.Malformed = refused_with Malformed
-made_by_writing written.NotFitting = refused_with NotFitting
-made_by_writing (written.Length n) = done n
+abbrev pub made_by_writing : Result ℕ Refusal → Made
+made_by_writing (Err Refusal.Malformed) = refused_with Malformed
+made_by_writing (Err Refusal.NotFitting) = refused_with NotFitting
+made_by_writing (Ok n) = done n
 
 -- what fetching says: 40, 41 of the unfinished texts, 42, 47, or what goes out; nothing has no bytes [S2, O7, B11]
 unfoldable pub fetch_answer : List ℕ → ℕ → List ℕ → List ℕ → Made

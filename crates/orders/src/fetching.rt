@@ -7,9 +7,9 @@ ghost use Rattle.strips.specs.Replies.{reply_block};
 ghost use Rattle.orders.specs.Calls.{frame_on, made_by_writing, PutOut};
 
 use answers::{Answer, Made};
-use framing::Written;
+use framing::Refusal;
 use line::Line;
-use strips::Replied;
+use strips::Reply;
 
 // Of a record within its limits: the text that is sent lies at the start of its line's unfinished part.
 pub fn fetch(line: Line, i: usize, unfinished: &[u8], out: &mut [u8]) -> Made
@@ -22,33 +22,33 @@ pub fn fetch(line: Line, i: usize, unfinished: &[u8], out: &mut [u8]) -> Made
     made(written)
 }
 
-fn made(written: Written) -> Made
+#[tactic(auto, unfolding(crate::specs::Calls::made_by_writing))]
+fn made(written: Result<usize, Refusal>) -> Made
     ensures { result ≡ made_by_writing written }
 {
     match written {
-        Written::Malformed => answers::refused_with(Answer::Malformed),
-        Written::NotFitting => answers::refused_with(Answer::NotFitting),
-        Written::Length(n) => answers::done(n),
+        Err(Refusal::Malformed) => answers::refused_with(Answer::Malformed),
+        Err(Refusal::NotFitting) => answers::refused_with(Answer::NotFitting),
+        Ok(n) => answers::done(n),
     }
 }
 
 // Our last reply; nothing where there is none.
-pub fn fetch_reply(reply: Replied, out: &mut [u8]) -> Made
+pub fn fetch_reply(reply: Option<Reply>, out: &mut [u8]) -> Made
     ensures { PutOut (reply_block reply) out.old result out.new }
 {
     match reply {
-        Replied::NoneYet => answers::done(0),
-        Replied::More => put_reply(block::MOR, out),
-        Replied::Again => put_reply(block::REP, out),
+        None => answers::done(0),
+        Some(Reply::More) => put_reply(block::MOR, out),
+        Some(Reply::Again) => put_reply(block::REP, out),
     }
 }
 
 fn put_reply(code: u8, out: &mut [u8]) -> Made
     ensures { PutOut (control_bytes code) out.old result out.new }
 {
-    let n = block::put_control(code, out);
-    if n == 0 {
-        return answers::refused_with(Answer::NotFitting);
+    match block::put_control(code, out) {
+        Some(n) => answers::done(n),
+        None => answers::refused_with(Answer::NotFitting),
     }
-    answers::done(n)
 }

@@ -6,18 +6,10 @@ ghost use Rattle.std.specs.Prelude.{◌≡◌};
 ghost use Rattle.orders.specs.Calls.{Sent, Fetched};
 
 use answers::{Answer, Answered, Made};
-use framing::Written;
 use layout::{FIELDS, NUMBERS, REPLY};
 
 mod fetching; // fetching.rt: the frame that a line offers
 mod starting; // starting.rt: a start is looked at, and done
-
-// What a start comes to: our ENQ is to be sent, or it is refused.
-#[derive(Clone, Copy)]
-pub enum Start {
-    Asks,
-    Refused(Answer),
-}
 
 // A text is to be sent on a line: 40, 41, 42, 60, then the text. It is copied to the start of the line's unfinished part, and our ENQ is
 // to be sent. It looks before it writes, so that a refusal changes nothing.
@@ -42,8 +34,8 @@ pub fn send(
         unfinished.len(),
         frames.len(),
     ) {
-        Start::Asks => starting::ask(i, text, numbers, unfinished),
-        Start::Refused(answer) => answers::in_numbers(answer),
+        Ok(()) => starting::ask(i, text, numbers, unfinished),
+        Err(answer) => answers::in_numbers(answer),
     }
 }
 

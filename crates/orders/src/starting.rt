@@ -9,12 +9,11 @@ ghost use Rattle.answers.specs.declared.Parcel.TheVariants.{Enquiry};
 ghost use Rattle.looking.specs.Views.{text_start};
 ghost use Rattle.numbers.specs.Plain.{line_of, with_line};
 ghost use Rattle.numbers.specs.Changes.{is_within};
-ghost use Rattle.orders.specs.Starts.{is_neutral, can_start, text_look};
+ghost use Rattle.orders.specs.Starts.{can_start, text_look};
 ghost use Rattle.orders.specs.Calls.{look_from};
 
-use super::Start;
 use answers::{Answer, Answered, Parcel};
-use faults::Checked;
+use faults::Flaw;
 use layout::NUMBERS;
 use line::{Line, State};
 
@@ -26,33 +25,34 @@ pub fn look(
     journal: usize,
     unfinished: usize,
     frames: usize,
-) -> Start
+) -> Result<(), Answer>
     ensures { result ≡ look_from numbers.now i text.now journal unfinished frames }
 {
     if memory::LINES <= i {
-        return Start::Refused(Answer::NoLine);
+        return Err(Answer::NoLine);
     }
     if !looking::are_right(journal, unfinished, frames) {
-        return Start::Refused(Answer::WrongSize);
+        return Err(Answer::WrongSize);
     }
     if !numbers::is_within(numbers, i) {
-        return Start::Refused(Answer::BeyondLimits);
+        return Err(Answer::BeyondLimits);
     }
     let record = numbers::record_of(numbers, i);
     if !can_start(record) {
-        return Start::Refused(Answer::NotNeutral);
+        return Err(Answer::NotNeutral);
     }
     look_text(faults::check(text))
 }
 
 // A text that is no message is not sent.
-fn look_text(checked: Checked) -> Start
+#[tactic(auto, unfolding(crate::specs::Starts::text_look))]
+fn look_text(checked: Result<(), Flaw>) -> Result<(), Answer>
     ensures { result ≡ text_look checked }
 {
     match checked {
-        Checked::Message => Start::Asks,
-        Checked::NotText => Start::Refused(Answer::Malformed),
-        Checked::Faulty(fault, place) => Start::Refused(Answer::Unsendable(fault, place)),
+        Ok(()) => Ok(()),
+        Err(Flaw::NotText) => Err(Answer::Malformed),
+        Err(Flaw::Faulty(fault, place)) => Err(Answer::Unsendable(fault, place)),
     }
 }
 
@@ -60,23 +60,7 @@ fn look_text(checked: Checked) -> Start
 fn can_start(line: Line) -> bool
     ensures { result ≡ can_start line }
 {
-    let state = line.state;
-    if !is_neutral(state) {
-        return false;
-    }
-    let settings = line.settings;
-    settings::speaks_frames(settings)
-}
-
-fn is_neutral(state: State) -> bool
-    ensures { result ≡ is_neutral state }
-{
-    match state {
-        State::Neutral => true,
-        State::Waiting => false,
-        State::Inside => false,
-        State::Out(_) => false,
-    }
+    matches!(line.state, State::Neutral) && settings::speaks_frames(line.settings)
 }
 
 // The text is copied, and the line's record asks.

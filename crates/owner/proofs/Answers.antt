@@ -1,5 +1,9 @@
 -- What each way out of a reading says.
 -- Assumes nothing.
+use Rattle.std.specs.Prelude.{Err, Ok, Result, ℕ}
+use Rattle.faults.specs.declared.Refusal.TheVariants.{NotFitting}
+use Rattle.faults.specs.declared.Refusal.{Refusal}
+use Rattle.faults.specs.declared.Flaw.{Flaw}
 use mathlib.Core.Path.{◌≡◌, refl, sym, ap, ◌∙◌}
 use mathlib.Core.Bool.{Bool, true, false, cond, ◌&&◌}
 use mathlib.Core.List.{List, [], ◌∷◌, ◌++◌}
@@ -16,14 +20,11 @@ use Rattle.memory.proofs.Parts.{sets_splice}
 use Rattle.characters.specs.Control.{cr}
 use Rattle.records.specs.Records.{onto, records}
 use Rattle.faults.specs.Message.{is_message}
+use Rattle.faults.specs.Refusals.{refused_as}
 use Rattle.faults.specs.Faults.{fault_of}
-use Rattle.faults.specs.declared.Checked.{Checked}
-use Rattle.faults.specs.declared.Checked.TheVariants as checked
-use Rattle.owner.specs.declared.Reading.{Reading}
-use Rattle.owner.specs.declared.Reading.TheVariants.{Read, NotFitting}
 use Rattle.owner.specs.Inner.Nearest.{nearest_owners}
 use Rattle.owner.specs.Owners.{types_of, owners_of}
-use Rattle.owner.specs.Reading.{offsets_of, lengths_of, room_for, refused_as, reading_of, laid, ReadAs}
+use Rattle.owner.specs.Reading.{offsets_of, lengths_of, room_for, reading_of, laid, ReadAs}
 use Rattle.owner.proofs.Whole.{length_owners}
 use Rattle.owner.proofs.Valid.{owners_message}
 
@@ -74,18 +75,8 @@ room_all n a b c e h =
       leb-true n e (and_right (leb n a && leb n b && leb n c) (leb n e) h),
     )
 
--- why a text is refused is told by what its check finds
-pub refused_checked : (x : Checked) {found c : Checked} → found ≡ c → found ≡ x → refused_as x ≡ refused_as c
-refused_checked x f e = ap refused_as (sym e ∙ f)
-
 module _ (text ts os ls ws : List ℕ) where
-  -- what is refused leaves every memory
-  refused_leaves : (x : Checked) (old new : List ℕ) → laid (refused_as x) old new ≡ old
-  refused_leaves checked.Message old new = refl
-  refused_leaves checked.NotText old new = refl
-  refused_leaves (checked.Faulty f place) old new = refl
-
-  pub read_none : (r : Reading) → r ≡ refused_as (fault_of text) → is_message text ≡ false → ReadAs text ts os ls ws ts os ls ws r
+  pub read_none : (r : Result ℕ Refusal) → r ≡ Err (refused_as (fault_of text)) → is_message text ≡ false → ReadAs text ts os ls ws ts os ls ws r
   unfolding reading_of
   read_none r of e = record {
     answer = of ∙ rw e;
@@ -96,16 +87,16 @@ module _ (text ts os ls ws : List ℕ) where
   }
     where
       left : (old new : List ℕ) → old ≡ laid r old new
-      left old new = sym (ap (λ (q : Reading). laid q old new) of ∙ refused_leaves (fault_of text) old new)
+      left old new = sym (ap (λ (q : Result ℕ Refusal). laid q old new) of)
 
-  pub read_short : is_message text ≡ true → room_for (length (records text)) (length ts) (length os) (length ls) (length ws) ≡ false → ReadAs text ts os ls ws ts os ls ws NotFitting
+  pub read_short : is_message text ≡ true → room_for (length (records text)) (length ts) (length os) (length ls) (length ws) ≡ false → ReadAs text ts os ls ws ts os ls ws (Err NotFitting)
   unfolding reading_of
   read_short e f = record { answer = rw (e, f); types = refl; offsets = refl; lengths = refl; owners = refl }
 
   pub read_done : (ts' os' ls' ws' us : List ℕ) (n : ℕ) → n ≡ length (records text) → is_message text ≡ true
       → room_for (length (records text)) (length ts) (length os) (length ls) (length ws) ≡ true
       → ts' ≡ sets ts 0 (types_of (records text)) → os' ≡ sets os 0 (offsets_of 0 (records text)) → ls' ≡ sets ls 0 (lengths_of (records text))
-      → us ≡ take n ts' → ws' ≡ sets ws 0 (nearest_owners us) → ReadAs text ts os ls ws ts' os' ls' ws' (Read n)
+      → us ≡ take n ts' → ws' ≡ sets ws 0 (nearest_owners us) → ReadAs text ts os ls ws ts' os' ls' ws' (Ok n)
   unfolding reading_of
   read_done ts' os' ls' ws' us n k e f t o l u w =
       let (a, b, c, g) = room_all (length (records text)) (length ts) (length os) (length ls) (length ws) f in
@@ -122,17 +113,12 @@ module _ (text ts os ls ws : List ℕ) where
       }
 
 -- a message that was read has no more records than each memory has places
-pub read_fits : (text : List ℕ) (a b c e n : ℕ) → reading_of text a b c e ≡ Read n
+pub read_fits : (text : List ℕ) (a b c e n : ℕ) → reading_of text a b c e ≡ Ok n
     → (length (records text) ≤ a) × (length (records text) ≤ b) × (length (records text) ≤ c) × (length (records text) ≤ e)
 unfolding reading_of
 read_fits text a b c e n h = room_all (length (records text)) a b c e (by_tests (is_message text) (room_for (length (records text)) a b c e) h)
   where
-    not_read : (x : Checked) → refused_as x ≡ Read n → ⊥
-    not_read checked.Message g = clash cc
-    not_read checked.NotText g = clash cc
-    not_read (checked.Faulty f place) g = clash cc
-
-    by_tests : (m r : Bool) → unless m (refused_as (fault_of text)) (unless r NotFitting (Read (length (records text)))) ≡ Read n → r ≡ true
+    by_tests : (m r : Bool) → unless m (Err (refused_as (fault_of text))) (unless r (Err NotFitting) (Ok (length (records text)))) ≡ Ok n → r ≡ true
     by_tests true true g = refl
     by_tests true false g = clash cc
-    by_tests false r g = absurd (not_read (fault_of text) g)
+    by_tests false r g = clash cc

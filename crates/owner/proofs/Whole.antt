@@ -1,5 +1,7 @@
 -- A run over all records gives every owner.
 -- Assumes nothing.
+use Rattle.std.specs.Prelude.{None, Option, Some}
+use Rattle.kinds.specs.declared.Kind.{Kind}
 use mathlib.Core.Path.{◌≡◌, refl, sym, ap, ◌∙◌}
 use mathlib.Core.List.{List, ◌++◌}
 use Prim.Native.Nat.{ℕ, zero, suc, ◌+◌, ◌-◌, ◌<◌, ◌≤◌}
@@ -9,14 +11,12 @@ use native.Mathlib.Decide.{dec_lt}
 use lib.ListN.{length, get_or, drop, get_or-append}
 use lib.Seq.{sets, sets-eq, length-sets, ext_get_or, get_or-append-add, get_or-drop}
 use Rattle.kinds.specs.Kinds.{kind_of}
-use Rattle.kinds.specs.declared.Letter.{Letter}
-use Rattle.kinds.specs.declared.Letter.TheVariants.{Known, Unknown}
 use Rattle.owner.specs.Inner.Depths.{depth_by, depth_of}
 use Rattle.owner.specs.Inner.Nearest.{nearest_owner, nearest_from, nearest_owners, Ran}
 
-by_some : (x : Letter) → 1 ≤ depth_by x
-by_some (Known k) = omega arith
-by_some Unknown = omega arith
+by_some : (x : Option Kind) → 1 ≤ depth_by x
+by_some (Some k) = omega arith
+by_some None = omega arith
 
 pub depth_some : (b : ℕ) → 1 ≤ depth_of b
 unfolding depth_of

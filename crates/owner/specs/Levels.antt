@@ -1,11 +1,9 @@
 -- The levels of records.
 -- Assumes nothing.
-use Rattle.std.specs.Prelude.{ℕ, suc, ◌-◌, ◌≡◌, ◌⊎◌, List, [], ◌∷◌, get_or}
+use Rattle.std.specs.Prelude.{ℕ, suc, ◌-◌, ◌≡◌, ◌⊎◌, List, [], ◌∷◌, get_or, None, Option, Some}
 use Rattle.kinds.specs.Kinds.{kind_of}
 use Rattle.kinds.specs.declared.Kind.{Kind}
 use Rattle.kinds.specs.declared.Kind.TheVariants.{Header, Patient, Order, Result, Query, Terminator, Comment, Manufacturer}
-use Rattle.kinds.specs.declared.Letter.{Letter}
-use Rattle.kinds.specs.declared.Letter.TheVariants.{Known, Unknown}
 
 -- H and L stand at 0, P and Q at 1, O at 2, R at 3; C and M stand below the last other record, whose level is given [R12]
 abbrev pub level_of : ℕ → Kind → ℕ
@@ -19,20 +17,20 @@ level_of other Comment = suc other
 level_of other Manufacturer = suc other
 
 -- the same of what a letter names, and the level of the last other record behind it
-abbrev pub level_by : ℕ → Letter → ℕ
-level_by other (Known k) = level_of other k
-level_by other Unknown = 0
+abbrev pub level_by : ℕ → Option Kind → ℕ
+level_by other (Some k) = level_of other k
+level_by other None = 0
 
-abbrev pub other_level : ℕ → Letter → ℕ
-other_level other (Known Header) = 0
-other_level other (Known Patient) = 1
-other_level other (Known Order) = 2
-other_level other (Known Result) = 3
-other_level other (Known Query) = 1
-other_level other (Known Terminator) = 0
-other_level other (Known Comment) = other
-other_level other (Known Manufacturer) = other
-other_level other Unknown = other
+abbrev pub other_level : ℕ → Option Kind → ℕ
+other_level other (Some Header) = 0
+other_level other (Some Patient) = 1
+other_level other (Some Order) = 2
+other_level other (Some Result) = 3
+other_level other (Some Query) = 1
+other_level other (Some Terminator) = 0
+other_level other (Some Comment) = other
+other_level other (Some Manufacturer) = other
+other_level other None = other
 
 -- the levels of records with these types [R12]
 abbrev pub levels_from : ℕ → List ℕ → List ℕ
@@ -47,13 +45,13 @@ abbrev pub level_at : List ℕ → ℕ → ℕ
 level_at ts number = get_or (levels_of ts) (number - 1) 0
 
 -- a record of this type stands one level below its owner; H and L have none, and an O may stand right under H
-abbrev pub Below : (ℕ → ℕ) → Letter → ℕ → ℕ → Type 0
-Below levelOfNumber (Known Header) level owner = owner ≡ 0
-Below levelOfNumber (Known Patient) level owner = level ≡ suc (levelOfNumber owner)
-Below levelOfNumber (Known Order) level owner = (level ≡ suc (levelOfNumber owner)) ⊎ (owner ≡ 1)
-Below levelOfNumber (Known Result) level owner = level ≡ suc (levelOfNumber owner)
-Below levelOfNumber (Known Query) level owner = level ≡ suc (levelOfNumber owner)
-Below levelOfNumber (Known Terminator) level owner = owner ≡ 0
-Below levelOfNumber (Known Comment) level owner = level ≡ suc (levelOfNumber owner)
-Below levelOfNumber (Known Manufacturer) level owner = level ≡ suc (levelOfNumber owner)
-Below levelOfNumber Unknown level owner = ⊥
+abbrev pub Below : (ℕ → ℕ) → Option Kind → ℕ → ℕ → Type 0
+Below levelOfNumber (Some Header) level owner = owner ≡ 0
+Below levelOfNumber (Some Patient) level owner = level ≡ suc (levelOfNumber owner)
+Below levelOfNumber (Some Order) level owner = (level ≡ suc (levelOfNumber owner)) ⊎ (owner ≡ 1)
+Below levelOfNumber (Some Result) level owner = level ≡ suc (levelOfNumber owner)
+Below levelOfNumber (Some Query) level owner = level ≡ suc (levelOfNumber owner)
+Below levelOfNumber (Some Terminator) level owner = owner ≡ 0
+Below levelOfNumber (Some Comment) level owner = level ≡ suc (levelOfNumber owner)
+Below levelOfNumber (Some Manufacturer) level owner = level ≡ suc (levelOfNumber owner)
+Below levelOfNumber None level owner = ⊥

@@ -1,10 +1,9 @@
 -- Who owns each record of a message.
 -- Assumes nothing.
-use Rattle.std.specs.Prelude.{ℕ, ◌+◌, List, [], ◌∷◌, cond, eqb, get_or}
+use Rattle.kinds.specs.declared.Kind.{Kind}
+use Rattle.std.specs.Prelude.{ℕ, ◌+◌, List, [], ◌∷◌, cond, eqb, get_or, None, Option, Some}
 use Rattle.characters.specs.Control.{cr}
 use Rattle.kinds.specs.Kinds.{kind_of}
-use Rattle.kinds.specs.declared.Letter.{Letter}
-use Rattle.kinds.specs.declared.Letter.TheVariants.{Known, Unknown}
 use Rattle.kinds.specs.declared.Kind.TheVariants.{Header, Patient, Order, Result, Query, Terminator, Comment, Manufacturer}
 
 -- a record's type is its first byte (an empty record, which no message has, would show its CR) [R14]
@@ -22,28 +21,28 @@ abbrev pub unseen : Seen
 unseen = record { patient = 0; order = 0; other = 0 }
 
 -- H owns P and Q, and an O where no P came; else the last P owns it; the last O owns an R, the last other record a C and an M; H and L have no owner [R13]
-abbrev pub owner_by : Seen → Letter → ℕ
-owner_by s (Known Header) = 0
-owner_by s (Known Patient) = 1
-owner_by s (Known Order) = cond (eqb s.patient 0) 1 s.patient
-owner_by s (Known Result) = s.order
-owner_by s (Known Query) = 1
-owner_by s (Known Terminator) = 0
-owner_by s (Known Comment) = s.other
-owner_by s (Known Manufacturer) = s.other
-owner_by s Unknown = 0
+abbrev pub owner_by : Seen → Option Kind → ℕ
+owner_by s (Some Header) = 0
+owner_by s (Some Patient) = 1
+owner_by s (Some Order) = cond (eqb s.patient 0) 1 s.patient
+owner_by s (Some Result) = s.order
+owner_by s (Some Query) = 1
+owner_by s (Some Terminator) = 0
+owner_by s (Some Comment) = s.other
+owner_by s (Some Manufacturer) = s.other
+owner_by s None = 0
 
 -- what was seen after record n of a type
-abbrev pub seen_by : Seen → Letter → ℕ → Seen
-seen_by s (Known Header) n = record { patient = s.patient; order = s.order; other = n }
-seen_by s (Known Patient) n = record { patient = n; order = s.order; other = n }
-seen_by s (Known Order) n = record { patient = s.patient; order = n; other = n }
-seen_by s (Known Result) n = record { patient = s.patient; order = s.order; other = n }
-seen_by s (Known Query) n = record { patient = s.patient; order = s.order; other = n }
-seen_by s (Known Terminator) n = record { patient = s.patient; order = s.order; other = n }
-seen_by s (Known Comment) n = s
-seen_by s (Known Manufacturer) n = s
-seen_by s Unknown n = s
+abbrev pub seen_by : Seen → Option Kind → ℕ → Seen
+seen_by s (Some Header) n = record { patient = s.patient; order = s.order; other = n }
+seen_by s (Some Patient) n = record { patient = n; order = s.order; other = n }
+seen_by s (Some Order) n = record { patient = s.patient; order = n; other = n }
+seen_by s (Some Result) n = record { patient = s.patient; order = s.order; other = n }
+seen_by s (Some Query) n = record { patient = s.patient; order = s.order; other = n }
+seen_by s (Some Terminator) n = record { patient = s.patient; order = s.order; other = n }
+seen_by s (Some Comment) n = s
+seen_by s (Some Manufacturer) n = s
+seen_by s None n = s
 
 -- the owners of the records with these types, the first of them record n + 1
 abbrev pub owners_by : Seen → ℕ → List ℕ → List ℕ

@@ -13,6 +13,7 @@ pub fn fill_rows(text: &[u8], types: &mut [u8], offsets: &mut [u16], lengths: &m
 {
     let mut at: usize = 0;
     let mut n: usize = 0;
+    // A turn takes one record: its step is that record's length.
     while at < text.len() {
         let tail = &text[at..];
         let e = records::index_of(tail, characters::CR);

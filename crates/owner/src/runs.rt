@@ -57,6 +57,7 @@ fn read_run(types: &[u8], owners: &mut [u16], n: usize, over: u8, owner: u16) ->
 {
     let mut at = n;
     let mut d = depth_at(types, at);
+    // A turn takes one record and what it owns: its step is as many records.
     while over < d {
         at = read_owner(types, owners, at, d, owner);
         d = depth_at(types, at);

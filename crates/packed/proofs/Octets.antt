@@ -1,5 +1,6 @@
 -- A number as bytes, the highest first: what a loop has read or written after some turns, and that what was written is read back.
 -- Assumes nothing.
+use Rattle.std.specs.Prelude.{None, Some}
 use mathlib.Core.Path.{◌≡◌, refl, sym, ap, ◌∙◌}
 use mathlib.Core.Bool.{Bool, true, false, cond, ◌&&◌}
 use mathlib.Core.List.{List, [], ◌∷◌}
@@ -15,7 +16,6 @@ use lib.Dec.{leb, ltb}
 use borrow.Author.Tests.{le-leb, lt-leb, lt-ltb, le-ltb, leb-true}
 use Rattle.memory.specs.Parts.{part, splice}
 use Rattle.packed.specs.Fields.{width, pack, unpack, octets, longest_field, is_field, field_at, holds, with_field, FieldWritten}
-use Rattle.packed.specs.declared.Field.TheVariants.{Value, Outside}
 use Rattle.memory.proofs.Parts.{part_add, part_splice, length_part, set_splice, splice_join_front, length_splice}
 use Rattle.memory.proofs.Tests.{and_right}
 use Rattle.packed.proofs.Packing.{pack_append, length_unpack, pack_unpack}
@@ -45,13 +45,13 @@ room_for_byte n i h k =
     let most : width (octets i) ≤ 56 = omega (arith, width_octets i) in
     omega (arith, pow_mono most)
 
--- a byte more in front of those written
-pub write_more : (d : List ℕ) (at k n : ℕ) → at + (k + 1) ≤ length d
-    → set (splice d (at + 1) (unpack (octets k) n)) at (n / 2 ^ width (octets k) % 256) ≡ splice d at (unpack (octets (k + 1)) n)
-write_more d at k n h =
+-- a byte more in front of those written, which begin at `next`
+pub write_more : (d : List ℕ) (at next k n : ℕ) → next ≡ at + 1 → at + (k + 1) ≤ length d
+    → set (splice d next (unpack (octets k) n)) at (n / 2 ^ width (octets k) % 256) ≡ splice d at (unpack (octets (k + 1)) n)
+write_more d at next k n e h =
     let bytes : length (unpack (octets k) n) ≡ k = length_unpack (octets k) n ∙ length-replicate k 8 in
     let long : length (splice d (at + 1) (unpack (octets k) n)) ≡ length d = length_splice d (at + 1) (unpack (octets k) n) (omega arith) in
-    rw (set_splice (splice d (at + 1) (unpack (octets k) n)) at (n / 2 ^ width (octets k) % 256) (omega arith), add-one k)
+    rw (e, set_splice (splice d (at + 1) (unpack (octets k) n)) at (n / 2 ^ width (octets k) % 256) (omega arith), add-one k)
     (splice_join_front d at (n / 2 ^ width (octets k) % 256 ∷ []) (unpack (octets k) n) (omega arith))
 
 -- what is left of a number after one byte more is taken off it
@@ -104,7 +104,7 @@ module _ (d : List ℕ) (at size : ℕ) where
 
   -- what was written is read back
   pub field_read_back : (n : ℕ) → size ≤ longest_field → at + size ≤ length d → n < 2 ^ width (octets size)
-      → field_at (splice d at (unpack (octets size) n)) at size ≡ Value n
+      → field_at (splice d at (unpack (octets size) n)) at size ≡ Some n
   unfolding field_at
   field_read_back n h k b =
       let bytes : length (unpack (octets size) n) ≡ size = length_unpack (octets size) n ∙ length-replicate size 8 in
@@ -122,21 +122,21 @@ module _ (d : List ℕ) (at size : ℕ) where
       (w.answer ∙ yes, w.after ∙ rw yes)
 
   -- what a packed field that was read says, and one that was not
-  value_said : (b : Bool) (m n : ℕ) → cond b (Value m) Outside ≡ Value n → (b ≡ true) × (m ≡ n)
+  value_said : (b : Bool) (m n : ℕ) → cond b (Some m) None ≡ Some n → (b ≡ true) × (m ≡ n)
   value_said true m n e = (refl, cc)
   value_said false m n e = let z : ◌≡◌ {A = ℕ} 0 1 = cc in absurd (omega arith)
 
-  pub field_value : (n : ℕ) → field_at d at size ≡ Value n → (at + size ≤ length d) × (pack (octets size) (part d at size) ≡ n)
+  pub field_value : (n : ℕ) → field_at d at size ≡ Some n → (at + size ≤ length d) × (pack (octets size) (part d at size) ≡ n)
   unfolding field_at
   field_value n e =
       let (t, q) = value_said (is_field d at size) (pack (octets size) (part d at size)) n e in
       (leb-true (at + size) (length d) (and_right (leb size longest_field) (leb (at + size) (length d)) t), q)
 
-  pub field_outside : size ≤ longest_field → field_at d at size ≡ Outside → length d < at + size
+  pub field_outside : size ≤ longest_field → field_at d at size ≡ None → length d < at + size
   unfolding field_at
   field_outside h e = elim (dec_le (at + size) (length d)) [
     | yes k ↦
-        let v : Value (pack (octets size) (part d at size)) ≡ Outside = rw (le-leb size longest_field h, le-leb (at + size) (length d) k) at e in
+        let v : Some (pack (octets size) (part d at size)) ≡ None = rw (le-leb size longest_field h, le-leb (at + size) (length d) k) at e in
         let z : ◌≡◌ {A = ℕ} 0 1 = cc in
         absurd (omega arith)
     | no k ↦ omega arith

@@ -1,8 +1,6 @@
 -- Numbers packed into one, the first highest, over the list of their widths in bits; and a number as bytes, the highest first.
 -- Assumes nothing.
-use Rattle.std.specs.Prelude.{ℕ, ◌+◌, ◌*◌, ◌/◌, ◌%◌, ◌^◌, ◌≡◌, Bool, cond, ◌&&◌, List, [], ◌∷◌, length, replicate, leb, ltb}
-use Rattle.packed.specs.declared.Field.{Field}
-use Rattle.packed.specs.declared.Field.TheVariants.{Value, Outside}
+use Rattle.std.specs.Prelude.{ℕ, ◌+◌, ◌*◌, ◌/◌, ◌%◌, ◌^◌, ◌≡◌, Bool, cond, ◌&&◌, List, [], ◌∷◌, length, replicate, leb, ltb, None, Option, Some}
 use Rattle.memory.specs.Parts.{part, splice}
 
 -- the bits of all packed fields together
@@ -34,8 +32,8 @@ abbrev pub is_field : List ℕ → ℕ → ℕ → Bool
 is_field d at size = leb size longest_field && leb (at + size) (length d)
 
 -- the packed field of `size` bytes at `at`, the highest byte first
-unfoldable pub field_at : List ℕ → ℕ → ℕ → Field
-field_at d at size = cond (is_field d at size) (Value (pack (octets size) (part d at size))) Outside
+unfoldable pub field_at : List ℕ → ℕ → ℕ → Option ℕ
+field_at d at size = cond (is_field d at size) (Some (pack (octets size) (part d at size))) None
 
 -- a number is written only into a packed field that holds it
 abbrev pub holds : List ℕ → ℕ → ℕ → ℕ → Bool

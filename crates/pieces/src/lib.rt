@@ -32,6 +32,7 @@ fn most_within(limit: usize, bytes: usize) -> usize
 }
 
 // What ends a piece whose last byte is b: a record ends with CR.
+#[tactic(auto, using(memory::proofs::Branches::branches))]
 pub fn end_after(b: u8) -> End
     ensures { result ≡ end_after b }
 {

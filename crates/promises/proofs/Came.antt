@@ -1,9 +1,9 @@
 -- What an event of the gateway comes to, shown once: at an intact state it passes, or the text that it completes is stored, crowded out, or no message.
 -- Assumes nothing.
+use Rattle.std.specs.Prelude.{Some}
 use mathlib.Core.Path.{◌≡◌, refl, ap, ◌∙◌}
 use mathlib.Core.Bool.{Bool, false}
 use mathlib.Core.List.{List}
-use mathlib.Core.Option.{some}
 use Prim.Native.Nat.{ℕ, ◌<◌}
 use lib.Dec.{eqb}
 use Rattle.memory.specs.Sizes.{lines}
@@ -37,7 +37,7 @@ module _ (s : State) (w : Intact s) (i : ℕ) (k : Kind) (line : i < lines) wher
       by_dialogue_law (Blocks p) e = blocks_come s w i k line p e
 
   -- what is no message is answered by what is wrong with it
-  pub objected_with : (t : List ℕ) → offered s i k ≡ some t → is_message t ≡ false → (step s (came i k)).0.answer ≡ objection_to t
+  pub objected_with : (t : List ℕ) → offered s i k ≡ Some t → is_message t ≡ false → (step s (came i k)).0.answer ≡ objection_to t
   objected_with t complete m = by_dialogue_law (dialogue_at s.gateway i) refl
     where
       by_dialogue_law : (d : Dialogue) → dialogue_at s.gateway i ≡ d → (step s (came i k)).0.answer ≡ objection_to t

@@ -1,9 +1,12 @@
 -- What an event on a strip reader's line comes to: at an intact state it passes, or it ends a block whose finding is stored (4) or crowded out (31).
 -- Assumes nothing.
+use Rattle.std.specs.Option.{is_some}
+use Rattle.std.specs.Prelude.{Err, None, Ok, Result, Some}
+use Rattle.journal.specs.declared.Refusal.TheVariants.{NoRoom}
+use Rattle.journal.specs.declared.Refusal.{Refusal}
 use mathlib.Core.Path.{◌≡◌, refl, sym, ap, subst, ◌∙◌}
 use mathlib.Core.Bool.{Bool, true, false, cond, not, ◌&&◌}
 use mathlib.Core.List.{List}
-use mathlib.Core.Option.{none, some}
 use Prim.Native.Nat.{ℕ, ◌<◌}
 use lib.ListN.{length}
 use Rattle.memory.specs.Sizes.{lines}
@@ -14,9 +17,6 @@ use Rattle.faults.specs.Message.{is_message}
 use Rattle.faults.proofs.Messages.{message_some, message_short}
 use Rattle.room.specs.Room.{todays_shares}
 use Rattle.journal.specs.Verdicts.{judge_of}
-use Rattle.journal.specs.declared.Verdict.{Verdict as Judgement}
-use Rattle.journal.specs.declared.Verdict.TheVariants.{Fits, NoRoom}
-use Rattle.journal.specs.Chain.{is_some}
 use Rattle.journal.proofs.Judged.{judged_room}
 use Rattle.journal_laws.specs.Runs.{State as Store}
 use Rattle.answers.specs.Paper.{number_of}
@@ -110,7 +110,7 @@ module _ (s : State) (w : Intact s) (i : ℕ) (k : Kind) (line : i < lines) (p :
 
   -- ---- nothing is decided: the ruling is the same at any store
 
-  module _ (x : Ruling) (same : (j : Store) → ruling_at j ≡ x) (keeps : Keeps x.deed) (none-such : offered s i k ≡ none)
+  module _ (x : Ruling) (same : (j : Store) → ruling_at j ≡ x) (keeps : Keeps x.deed) (none-such : offered s i k ≡ None)
       (plain : (is_damage (number_of x.answer) ≡ false) × (is_decision (class_of x.answer) ≡ false)) where
     goes : (j : Store) → on_event i own k j ≡ ((left_on x p i own k (store_of s)).0, (left_on x p i own k (store_of s)).1, j)
     goes j =
@@ -155,8 +155,8 @@ module _ (s : State) (w : Intact s) (i : ℕ) (b : ℕ) (line : i < lines) (p : 
         ∙ ap (λ (c : Bool). unless c (ruling (settle heard.reader) heard.answer) (filing (judge_of j.ledger todays_shares i (length (finding_of p bs)) j.journal) had.memo.reader))
         (stores_wanted (judged_of p bs) (is_again had.memo bs) had.memo.reader ∙ e)
 
-    pub offers : (wanted : Bool) → is_wanted p had.memo bs ≡ wanted → offered s i (Byte b) ≡ cond wanted (some (finding_of p bs)) none
-    offers wanted e = (by_sight Judges ends).0 ∙ ap (λ (c : Bool). cond c (some (finding_of p bs)) none) e
+    pub offers : (wanted : Bool) → is_wanted p had.memo bs ≡ wanted → offered s i (Byte b) ≡ cond wanted (Some (finding_of p bs)) None
+    offers wanted e = (by_sight Judges ends).0 ∙ ap (λ (c : Bool). cond c (Some (finding_of p bs)) None) e
 
     -- the block is no finding, or a repeat
     unwanted : is_wanted p had.memo bs ≡ false → Came s i (Byte b)
@@ -172,11 +172,11 @@ module _ (s : State) (w : Intact s) (i : ℕ) (b : ℕ) (line : i < lines) (p : 
       message : is_message text ≡ true
       message = wanted_message p had.memo bs e
 
-      pub filed : (room : Bool) → has_space s i (length text) ≡ room → work s w i (Byte b) line p speaks ≡ filing (cond room Fits NoRoom) had.memo.reader
+      pub filed : (room : Bool) → has_space s i (length text) ≡ room → work s w i (Byte b) line p speaks ≡ filing (cond room (Ok tt) (Err NoRoom)) had.memo.reader
       filed room has =
           let d = s.gateway.ledger in
           ruled true e (store_of s)
-          ∙ ap (λ (q : Judgement). filing q had.memo.reader)
+          ∙ ap (λ (q : Result (Unit {0}) Refusal). filing q had.memo.reader)
           (sym (judged_room d todays_shares i (length text) s.memory.journal line w.journal (message_some _ text message) (message_short _ text message) room (ap is_some w.whole) has))
 
       settles : (x : Ruling) → work s w i (Byte b) line p speaks ≡ x → is_decision (class_of x.answer) ≡ true → (Such : ℕ → Type 0) → Such (number_of x.answer)

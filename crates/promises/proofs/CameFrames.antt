@@ -1,9 +1,11 @@
 -- What an event on a line of frames comes to: at an intact state it passes, or the text that it completes is stored, crowded out, or no message.
 -- Assumes nothing.
+use Rattle.std.specs.Option.{is_some}
+use Rattle.std.specs.Prelude.{Err, None, Ok, Some}
+use Rattle.journal.specs.declared.Refusal.TheVariants.{NoRoom}
 use mathlib.Core.Path.{◌≡◌, refl, sym, ap, subst, ◌∙◌}
 use mathlib.Core.Bool.{Bool, true, false, cond}
 use mathlib.Core.List.{List}
-use mathlib.Core.Option.{none, some}
 use Prim.Native.Nat.{ℕ, ◌<◌}
 use lib.ListN.{length}
 use Rattle.memory.specs.Sizes.{lines}
@@ -14,8 +16,6 @@ use Rattle.settings.specs.declared.Dialogue.TheVariants.{Frames}
 use Rattle.gateway.specs.Events.{dialogue_at}
 use Rattle.room.specs.Room.{todays_shares}
 use Rattle.journal_laws.specs.Runs.{State as Store}
-use Rattle.journal.specs.declared.Verdict.TheVariants.{Fits, NoRoom as Full}
-use Rattle.journal.specs.Chain.{is_some}
 use Rattle.journal.proofs.Judged.{judged_room}
 use Rattle.answers.specs.Paper.{number_of}
 use Rattle.line.specs.declared.Line.{Line}
@@ -146,7 +146,7 @@ module _ (s : State) (w : Intact s) (i : ℕ) (k : Kind) (line : i < lines) (spe
     no_message m = work_is (Decides n) is ∙ rw (is_objection_law todays_shares s.gateway.ledger i text s.memory.journal m)
 
     module _ (m : is_message text ≡ true) where
-      judged : (room : Bool) → has_space s i (length text) ≡ room → work s w i k line speaks ≡ outcome_verdict (room_outcome (cond room Fits Full)) n
+      judged : (room : Bool) → has_space s i (length text) ≡ room → work s w i k line speaks ≡ outcome_verdict (room_outcome (cond room (Ok tt) (Err NoRoom))) n
       judged room has =
           let d = s.gateway.ledger in
           work_is (Decides n) is
@@ -170,12 +170,12 @@ module _ (s : State) (w : Intact s) (i : ℕ) (k : Kind) (line : i < lines) (spe
       by_look look refl (look_fits own.line own.texts own.frames parts k) (every_look Harmless own.line (harmless own.line) own.texts own.frames parts k)
 
   -- what is no message is answered by what is wrong with it
-  pub frames_objected : (t : List ℕ) → offered s i k ≡ some t → is_message t ≡ false → (step s (came i k)).0.answer ≡ objection_to t
+  pub frames_objected : (t : List ℕ) → offered s i k ≡ Some t → is_message t ≡ false → (step s (came i k)).0.answer ≡ objection_to t
   frames_objected t complete m = by_look_at look refl
     where
       by_look_at : (x : Look) → look ≡ x → (step s (came i k)).0.answer ≡ objection_to t
-      by_look_at (Done v) is = let z : none ≡ some t = sym (offered_look s i k speaks ∙ ap (offered_by s i) is) ∙ complete in clash cc
+      by_look_at (Done v) is = let z : None ≡ Some t = sym (offered_look s i k speaks ∙ ap (offered_by s i) is) ∙ complete in clash cc
       by_look_at (Decides n) is =
-          let z : some (text n is) ≡ some t = sym (offered_look s i k speaks ∙ ap (offered_by s i) is) ∙ complete in
+          let z : Some (text n is) ≡ Some t = sym (offered_look s i k speaks ∙ ap (offered_by s i) is) ∙ complete in
           let same : text n is ≡ t = cc z in
           ap (λ (r : Response). r.answer) (told_is (Against (objection_to (text n is)) n) (no_message n is (ap is_message same ∙ m))) ∙ ap objection_to same

@@ -1,11 +1,12 @@
 -- All along a run from fresh the unfinished texts are of allowed bytes. So a text that an event completes is within the limit, of allowed bytes and ended by CR,
 -- and where it is no message, it is wrong at one of its records.
 -- Assumes nothing.
+use Rattle.std.specs.Prelude.{Err, Some}
+use Rattle.faults.specs.declared.Flaw.TheVariants.{Faulty}
 use mathlib.Core.Path.{◌≡◌, refl, sym, ap, subst, ◌∙◌}
 use mathlib.Core.Logic.{◌≢◌}
 use mathlib.Core.Bool.{true, false}
 use mathlib.Core.List.{List, [], ◌∷◌, ◌++◌}
-use mathlib.Core.Option.{some}
 use Prim.Native.Nat.{ℕ, ◌+◌, ◌<◌, ◌≤◌}
 use native.Mathlib.Omega.{arith}
 use lib.ListN.{length, take}
@@ -20,7 +21,6 @@ use Rattle.faults.specs.Message.{is_message}
 use Rattle.faults.specs.Faults.{fault_of}
 use Rattle.answers.specs.declared.Fault.{Fault}
 use Rattle.answers.specs.declared.Fault.TheVariants.{NoFinalCr}
-use Rattle.faults.specs.declared.Checked.TheVariants.{Faulty}
 use Rattle.faults.proofs.Places.{fault_place, fault_ended, has_fault}
 use Rattle.pieces.proofs.Steps.{ended_some}
 use Rattle.faults.proofs.Messages.{message_some, message_short, message_ends, message_allowed}
@@ -69,7 +69,7 @@ both_clean x y p q = all_append allowed x y ∙ and_both (all allowed x) (all al
 -- ---- a text that an event completes, in any state
 
 -- on a line of frames it ends with n bytes of a frame, whose text has passed its tests
-module _ (s : State) (i : ℕ) (k : Kind) (text : List ℕ) (speaks : dialogue_at s.gateway i ≡ Frames) (complete : offered s i k ≡ some text) where
+module _ (s : State) (i : ℕ) (k : Kind) (text : List ℕ) (speaks : dialogue_at s.gateway i ≡ Frames) (complete : offered s i k ≡ Some text) where
   abbrev own : Parts
   own = parts_of s i
 
@@ -82,7 +82,7 @@ module _ (s : State) (i : ℕ) (k : Kind) (text : List ℕ) (speaks : dialogue_a
   ends : Ends
   ends = by_look (look_of own.line k own.texts own.frames) (look_joins own.line own.texts own.frames k) (sym (offered_look s i k speaks) ∙ complete)
     where
-      by_look : (x : Look) → LookJoins x own.line own.texts own.frames → offered_by s i x ≡ some text → Ends
+      by_look : (x : Look) → LookJoins x own.line own.texts own.frames → offered_by s i x ≡ Some text → Ends
       by_look (Done v) j e = clash cc
       by_look (Decides n) j e =
           let is : joined_text own.line n own.texts own.frames ≡ text = cc e in
@@ -102,7 +102,7 @@ module _ (s : State) (i : ℕ) (k : Kind) (text : List ℕ) (speaks : dialogue_a
 message_ended : (text : List ℕ) → is_message text ≡ true → CompleteText text
 message_ended text m = record { some = message_some _ text m; short = message_short _ text m; ended = message_ends _ text m }
 
-module _ (s : State) (i : ℕ) (k : Kind) (text : List ℕ) (complete : offered s i k ≡ some text) where
+module _ (s : State) (i : ℕ) (k : Kind) (text : List ℕ) (complete : offered s i k ≡ Some text) where
   pub offered_ended : CompleteText text
   offered_ended = by_dialogue_law (dialogue_at s.gateway i) refl
     where
@@ -111,7 +111,7 @@ module _ (s : State) (i : ℕ) (k : Kind) (text : List ℕ) (complete : offered 
       by_dialogue_law (Blocks p) e = message_ended text (offered_finding s i k p e text complete)
 
   -- so 54 is not what is wrong with it
-  pub never_54 : (p : ℕ) → fault_of text ≢ Faulty NoFinalCr p
+  pub never_54 : (p : ℕ) → fault_of text ≢ Err (Faulty NoFinalCr p)
   never_54 p = fault_ended _ text p offered_ended.ended
 
   -- where the unfinished texts are of allowed bytes, it is too
@@ -132,7 +132,7 @@ module _ (s : State) (i : ℕ) (k : Kind) (text : List ℕ) (complete : offered 
           kind = f.kind;
           place = f.place;
           found = f.found;
-          not_54 = λ e. never_54 f.place (subst (λ (x : Fault). fault_of text ≡ Faulty x f.place) e f.found);
+          not_54 = λ e. never_54 f.place (subst (λ (x : Fault). fault_of text ≡ Err (Faulty x f.place)) e f.found);
           from_1 = from_1;
           within = within;
         }
@@ -243,7 +243,7 @@ module _ (began : Beginning) (right : Right began) (es : List GatewayItem) (may 
   always_clean = stays_clean (fresh began) es (fresh_sound began right) (fresh_clean began right) may
 
   -- and where the next event completes a text, so is that, and if it is no message, it is wrong at one of its records
-  module _ (i : ℕ) (k : Kind) (h : i < lines) (text : List ℕ) (complete : offered (final step (fresh began) es) i k ≡ some text) where
+  module _ (i : ℕ) (k : Kind) (h : i < lines) (text : List ℕ) (complete : offered (final step (fresh began) es) i k ≡ Some text) where
     pub completed_clean : all allowed text ≡ true
     completed_clean = offered_clean (final step (fresh began) es) i k text complete always_clean h
 

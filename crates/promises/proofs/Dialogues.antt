@@ -1,5 +1,7 @@
 -- What a line speaks is set at the beginning, and nothing that comes changes it.
 -- Assumes nothing.
+use Rattle.std.specs.Prelude.{Err, Ok, Result}
+use Rattle.answers.specs.declared.Answer.{Answer}
 use mathlib.Core.Path.{◌≡◌, refl, ap, ◌∙◌}
 use mathlib.Core.List.{List, [], ◌∷◌}
 use Prim.Native.Nat.{ℕ, ◌<◌}
@@ -13,8 +15,6 @@ use Rattle.settings.specs.declared.Patient.{Patient}
 use Rattle.settings.specs.declared.Dialogue.TheVariants.{Frames, Blocks}
 use Rattle.line.specs.declared.Line.{Line}
 use Rattle.orders.specs.Starts.{line_started}
-use Rattle.orders.specs.declared.Start.{Start}
-use Rattle.orders.specs.declared.Start.TheVariants.{Asks, Refused}
 use Rattle.gateway.specs.Events.{line_at, dialogue_at, start_in, start_of, take_of}
 use Rattle.gateway_laws.proofs.Gateways.{settings_set, event_settings}
 use Rattle.serial.specs.Serial.{event, taking, final}
@@ -22,9 +22,9 @@ use Rattle.promises.specs.Machine.{State, GatewayItem, happens, starts, on_line,
 use Rattle.promises.specs.Runs.{Beginning, Right, fresh}
 use Rattle.promises.proofs.Kept.{started_at}
 
-start_settings : (x : Start) (l : Line) (text : List ℕ) → (line_started x l text).settings ≡ l.settings
-start_settings Asks l text = refl
-start_settings (Refused a) l text = refl
+start_settings : (x : Result (Unit {0}) Answer) (l : Line) (text : List ℕ) → (line_started x l text).settings ≡ l.settings
+start_settings (Ok tt) l text = refl
+start_settings (Err a) l text = refl
 
 -- whatever the state is
 pub item_settings : (s : State) (e : GatewayItem) (i : ℕ) → (line_at (step s e).1.gateway i).settings ≡ (line_at s.gateway i).settings

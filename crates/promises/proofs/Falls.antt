@@ -1,10 +1,11 @@
 -- Where nothing is stored, no used count grows.
 -- Assumes nothing.
+use Rattle.std.specs.Result.{is_ok}
+use Rattle.std.specs.Prelude.{None, Option, Some}
 use mathlib.Core.Path.{◌≡◌, refl, sym, ap, subst, ◌∙◌}
 use mathlib.Core.Logic.{◌⊎◌, inl, inr}
 use mathlib.Core.Bool.{Bool, true, cond, ◌&&◌}
 use mathlib.Core.List.{List, [], ◌∷◌, ◌++◌}
-use mathlib.Core.Option.{Option, none, some}
 use Prim.Native.Nat.{ℕ, ◌-◌, ◌≤◌, ◌<◌}
 use native.Mathlib.Nat.{le_trans}
 use native.Mathlib.Decide.{ℕ_discrete}
@@ -16,7 +17,6 @@ use lib.Seq.{get_or-set_other}
 use Rattle.memory.specs.Sizes.{lines}
 use Rattle.header.specs.Entry.{Entry, size}
 use Rattle.room.specs.Room.{todays_shares}
-use Rattle.journal.specs.Answers.{is_fits}
 use Rattle.journal.specs.Storage.{AfterStoring}
 use Rattle.journal.specs.Removal.{AfterTaking, shrunk}
 use Rattle.journal_laws.specs.Held.{Held}
@@ -48,7 +48,7 @@ module _ (j : Store) (es : List Entry) (held : Held todays_shares j.ledger j.jou
       → ((k : ℕ) → k < lines → goes_in todays_shares k j (put i t) ≡ []) → used (next todays_shares j (put i t)) l ≤ used j l
   put_falls i t (inl p) nothing =
       let went : t ∷ [] ≡ [] =
-      sym (ap (λ (b : Bool). cond (b && true) (t ∷ []) []) (eq-eqb i i refl)) ∙ sym (ap (λ (x : AfterStoring). cond (eqb i i && is_fits x.storing.answer) (t ∷ []) []) p.is)
+      sym (ap (λ (b : Bool). cond (b && true) (t ∷ []) []) (eq-eqb i i refl)) ∙ sym (ap (λ (x : AfterStoring). cond (eqb i i && is_ok x.storing.answer) (t ∷ []) []) p.is)
       ∙ nothing i p.line in
       absurd (omega (arith, ap (λ (zs : List (List ℕ)). length zs) went))
   put_falls i t (inr p) nothing = subst (λ (x : AfterStoring). get_or x.storing.ledger.used l 0 ≤ used j l) (sym p.is) (omega arith)
@@ -60,9 +60,9 @@ module _ (j : Store) (es : List Entry) (held : Held todays_shares j.ledger j.jou
   get_falls i b (inr p) = subst (λ (x : AfterTaking). get_or x.taking.ledger.used l 0 ≤ used j l) (sym p.is) (omega arith)
 
   falls : (o : Option Operation) → ((k : ℕ) → k < lines → in_by o k j ≡ []) → used (next_by o j) l ≤ used j l
-  falls none nothing = omega arith
-  falls (some (put i t)) nothing = put_falls i t (store_cases todays_shares j.ledger i t j.journal es held) nothing
-  falls (some (get i b)) nothing = get_falls i b (take_cases todays_shares j.ledger i j.journal b es held)
+  falls None nothing = omega arith
+  falls (Some (put i t)) nothing = put_falls i t (store_cases todays_shares j.ledger i t j.journal es held) nothing
+  falls (Some (get i b)) nothing = get_falls i b (take_cases todays_shares j.ledger i j.journal b es held)
 
 one_falls : (s : State) (e : GatewayItem) (w : Sound s) → May e → ((k : ℕ) → k < lines → stored_on k s e ≡ []) → (l : ℕ) → l < lines → used_by (step s e).1 l ≤ used_by s l
 one_falls s e w may nothing l line =

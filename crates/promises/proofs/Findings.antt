@@ -1,9 +1,9 @@
 -- What a line offers, by what it speaks; and what a reader's line offers is a message: the finding of a right block with results.
 -- Assumes nothing.
+use Rattle.std.specs.Prelude.{None, Some}
 use mathlib.Core.Path.{◌≡◌, refl, sym, ap, ◌∙◌}
 use mathlib.Core.Bool.{Bool, true, false, cond}
 use mathlib.Core.List.{List}
-use mathlib.Core.Option.{none, some}
 use Prim.Native.Nat.{ℕ}
 use Rattle.memory.proofs.Tests.{clash, and_left}
 use Rattle.settings.specs.Settings.{by_dialogue}
@@ -61,20 +61,20 @@ module _ (s : State) (i : ℕ) (k : Kind) (p : Patient) (speaks : dialogue_at s.
       (λ (d : Dialogue). by_dialogue d (offered_by s i (look_of own.line k own.texts own.frames)) (λ q. offered_in q own.line own.memo own.frames k))
       speaks
 
-  pub offered_finding : (t : List ℕ) → offered s i k ≡ some t → is_message t ≡ true
+  pub offered_finding : (t : List ℕ) → offered s i k ≡ Some t → is_message t ≡ true
   offered_finding t e = by_kind k (sym offered_block ∙ e)
     where
-      by_wanted : (bs : List ℕ) (b : Bool) → is_wanted p own.memo bs ≡ b → cond b (some (finding_of p bs)) none ≡ some t → is_message t ≡ true
+      by_wanted : (bs : List ℕ) (b : Bool) → is_wanted p own.memo bs ≡ b → cond b (Some (finding_of p bs)) None ≡ Some t → is_message t ≡ true
       by_wanted bs true q r =
           let same : finding_of p bs ≡ t = cc r in
           ap is_message (sym same) ∙ wanted_message p own.memo bs q
       by_wanted bs false q r = clash cc
 
-      by_sight : (bs : List ℕ) (x : Sight) → offered_at p own.memo bs x ≡ some t → is_message t ≡ true
+      by_sight : (bs : List ℕ) (x : Sight) → offered_at p own.memo bs x ≡ Some t → is_message t ≡ true
       by_sight bs Ignores r = clash cc
       by_sight bs Adds r = clash cc
       by_sight bs Judges r = by_wanted bs (is_wanted p own.memo bs) refl r
 
-      by_kind : (k : Kind) → offered_in p own.line own.memo own.frames k ≡ some t → is_message t ≡ true
+      by_kind : (k : Kind) → offered_in p own.line own.memo own.frames k ≡ Some t → is_message t ≡ true
       by_kind (Byte b) r = by_sight (block_bytes own.line b own.frames) (sight_of p own.line b) r
       by_kind (Seconds n) r = clash cc

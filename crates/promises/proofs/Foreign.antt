@@ -1,5 +1,10 @@
 -- 30 is for a byte that is not allowed, and no text of a run from fresh has one: no item of it is answered 30.
 -- Assumes nothing.
+use Rattle.std.specs.Prelude.{Err, Ok, Result, ℕ}
+use Rattle.journal.specs.declared.NotTaken.TheVariants.{Broken, BufferShort, NoLine, NothingWaiting, WrongSize}
+use Rattle.journal.specs.declared.NotTaken.{NotTaken}
+use Rattle.faults.specs.declared.Flaw.TheVariants.{Faulty}
+use Rattle.faults.specs.declared.Flaw.{Flaw}
 use mathlib.Core.Path.{◌≡◌, refl, ap, ◌∙◌}
 use mathlib.Core.Bool.{false}
 use mathlib.Core.List.{List, [], ◌∷◌}
@@ -8,15 +13,11 @@ use borrow.Author.Tests.{ne_eqb}
 use lib.Dec.{eqb}
 use Rattle.memory.specs.Sizes.{lines}
 use Rattle.faults.specs.Faults.{fault_of}
-use Rattle.faults.specs.declared.Checked.{Checked}
-use Rattle.faults.specs.declared.Checked.TheVariants.{Faulty}
 use Rattle.answers.specs.Paper.{fault_number, number_of}
 use Rattle.answers.specs.declared.Fault.{Fault}
 use Rattle.answers.proofs.Paper.{fault_other}
 use Rattle.deciding.specs.Decisions.{objection, objection_to}
 use Rattle.journal.specs.Removal.{take_of as take_entry}
-use Rattle.journal.specs.declared.Took.{Took}
-use Rattle.journal.specs.declared.Took.TheVariants.{Taken, NothingWaiting, BufferShort, Broken, NoLine, WrongSize}
 use Rattle.taking.specs.Taking.{took_answer}
 use Rattle.gateway.specs.Events.{take_of}
 use Rattle.looking.specs.declared.Kind.{Kind}
@@ -31,9 +32,9 @@ use Rattle.promises.proofs.Came.{comes_to, undecided_not_30}
 use Rattle.promises.proofs.Kept.{keeps, fresh_sound}
 use Rattle.promises.proofs.Clean.{offered_faulty, keeps_clean, fresh_clean}
 
-objection_not_30 : (t : List ℕ) (f : Fault) (place : ℕ) → fault_of t ≡ Faulty f place → eqb (number_of (objection_to t)) 30 ≡ false
+objection_not_30 : (t : List ℕ) (f : Fault) (place : ℕ) → fault_of t ≡ Err (Faulty f place) → eqb (number_of (objection_to t)) 30 ≡ false
 unfolding objection_to
-objection_not_30 t f place e = ap (λ (x : Checked). eqb (number_of (objection x)) 30) e ∙ ne_eqb (fault_number f) 30 (fault_other f 30 refl)
+objection_not_30 t f place e = ap (λ (x : Result (Unit {0}) Flaw). eqb (number_of (objection x)) 30) e ∙ ne_eqb (fault_number f) 30 (fault_other f 30 refl)
 
 -- an event: what it completes is of allowed bytes
 came_not_30 : (s : State) → Clean s → (i : ℕ) → i < lines → (k : Kind) → Came s i k → eqb (answered (answer s i k)) 30 ≡ false
@@ -45,13 +46,13 @@ came_not_30 s c i line k (against t m x) =
     ap (λ (n : ℕ). eqb n 30) x.number ∙ objection_not_30 t wrong.kind wrong.place wrong.found
 
 -- a taking
-took_not_30 : (t : Took) → eqb (number_of (took_answer t)) 30 ≡ false
-took_not_30 (Taken n serial) = refl
-took_not_30 NothingWaiting = refl
-took_not_30 BufferShort = refl
-took_not_30 Broken = refl
-took_not_30 NoLine = refl
-took_not_30 WrongSize = refl
+took_not_30 : (t : Result (ℕ × ℕ) NotTaken) → eqb (number_of (took_answer t)) 30 ≡ false
+took_not_30 (Ok (n, serial)) = refl
+took_not_30 (Err NothingWaiting) = refl
+took_not_30 (Err BufferShort) = refl
+took_not_30 (Err Broken) = refl
+took_not_30 (Err NoLine) = refl
+took_not_30 (Err WrongSize) = refl
 
 item_not_30 : (s : State) → Sound s → Clean s → (e : GatewayItem) → May e → eqb (answered (step s e).0) 30 ≡ false
 unfolding take_of

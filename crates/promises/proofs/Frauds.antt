@@ -1,10 +1,10 @@
 -- The frauds of rule P4, and the promise that each breaks. They are told of any runner, so that no particular one is meant.
 -- Assumes nothing.
+use Rattle.std.specs.Prelude.{None, Option, Some}
 use mathlib.Core.Path.{◌≡◌, refl, sym, ap, subst, ◌∙◌}
 use mathlib.Core.Logic.{◌≢◌, ◌⊎◌, inl, inr}
 use mathlib.Core.Bool.{Bool, true, false, true≢false}
 use mathlib.Core.List.{List, [], ◌∷◌, ◌++◌}
-use mathlib.Core.Option.{Option, none, some}
 use Prim.Native.Nat.{ℕ, ◌<◌}
 use native.Mathlib.Omega.{arith}
 use lib.ListN.{length, get_or, replicate, length-append, length-replicate}
@@ -74,8 +74,8 @@ ack_at n ts = is_ack (replied (get_or ts n (response Nothing [])))
 
 -- one journal holds one list of entries
 abbrev entries_of : Option (List Entry) → List Entry
-entries_of none = []
-entries_of (some es) = es
+entries_of None = []
+entries_of (Some es) = es
 
 pub held_once : (d : Ledger) (j : List ℕ) (es fs : List Entry) → Held todays_shares d j es → Held todays_shares d j fs → es ≡ fs
 held_once d j es fs h g = ap entries_of (sym h.whole ∙ g.whole)

@@ -1,6 +1,9 @@
 -- Freed room serves again, over runs: after a taking, and whatever comes behind it that stores nothing, a message that takes no more room than the one taken is
 -- not refused for room.
 -- Assumes nothing.
+use Rattle.std.specs.Prelude.{Err, Ok, Result, ℕ}
+use Rattle.journal.specs.declared.NotTaken.TheVariants.{Broken, BufferShort, NoLine, NothingWaiting, WrongSize}
+use Rattle.journal.specs.declared.NotTaken.{NotTaken}
 use mathlib.Core.Path.{◌≡◌, refl, sym, ap, ◌∙◌}
 use mathlib.Core.Logic.{◌≢◌, ◌⊎◌, inl, inr}
 use mathlib.Core.Bool.{Bool, false, true≢false}
@@ -18,8 +21,6 @@ use Rattle.header.specs.Entry.{size}
 use Rattle.room.specs.Room.{share, todays_shares, claims, raised}
 use Rattle.journal.specs.Removal.{AfterTaking, shrunk, take_of as take_entry}
 use Rattle.journal_laws.specs.Runs.{Numbered, given}
-use Rattle.journal.specs.declared.Took.{Took}
-use Rattle.journal.specs.declared.Took.TheVariants.{Taken, NothingWaiting, BufferShort, Broken, NoLine, WrongSize}
 use Rattle.journal_laws.proofs.Cases.{Gives, Keeps, take_cases}
 use Rattle.journal.proofs.Oldest.{total_oldest}
 use Rattle.room.proofs.Totals.{raised_own, raised_other, lowered_own, lowered_other, claims_le, claims_lowered, claims_raised_le}
@@ -53,13 +54,13 @@ answered_length a = get_or (values_of a) 0 0
 abbrev is_eight : Answer → Bool
 is_eight a = eqb (length (values_of a)) 2
 
-keeps_answer : (t : Took) → ((c : List ℕ) → given t c ≡ []) → is_eight (took_answer t) ≡ false
-keeps_answer (Taken n serial) e = absurd (omega (arith, ap (λ (zs : List Numbered). length zs) (e [])))
-keeps_answer NothingWaiting e = refl
-keeps_answer BufferShort e = refl
-keeps_answer Broken e = refl
-keeps_answer NoLine e = refl
-keeps_answer WrongSize e = refl
+keeps_answer : (t : Result (ℕ × ℕ) NotTaken) → ((c : List ℕ) → given t c ≡ []) → is_eight (took_answer t) ≡ false
+keeps_answer (Ok (n, serial)) e = absurd (omega (arith, ap (λ (zs : List Numbered). length zs) (e [])))
+keeps_answer (Err NothingWaiting) e = refl
+keeps_answer (Err BufferShort) e = refl
+keeps_answer (Err Broken) e = refl
+keeps_answer (Err NoLine) e = refl
+keeps_answer (Err WrongSize) e = refl
 
 module _ (s : State) (w : Sound s) (i : ℕ) (line : i < lines) (b : List ℕ) (n serial : ℕ) where
   by_case : Gives todays_shares s.gateway.ledger i s.memory.journal b w.entries ⊎ Keeps s.gateway.ledger i s.memory.journal b

@@ -1,5 +1,7 @@
 -- What an item does to one line that speaks frames: nothing; it begins a sending there; it comes on the line while that receives, and then nothing goes out; or it moves the line's sending on.
 -- Assumes nothing.
+use Rattle.std.specs.Prelude.{Result, Ok, Err}
+use Rattle.journal.specs.declared.Refusal.{Refusal}
 use mathlib.Core.Path.{◌≡◌, refl, sym, ap, subst, ◌∙◌}
 use mathlib.Core.Bool.{Bool, true, false, not}
 use mathlib.Core.List.{List}
@@ -16,7 +18,6 @@ use Rattle.settings.specs.Settings.{speaks_frames}
 use Rattle.settings.specs.declared.Dialogue.TheVariants.{Frames}
 use Rattle.room.specs.Room.{todays_shares}
 use Rattle.journal.specs.Verdicts.{judge_of}
-use Rattle.journal.specs.declared.Verdict.{Verdict as Judgement}
 use Rattle.answers.specs.Paper.{number_of}
 use Rattle.answers.proofs.Paper.{every_but}
 use Rattle.line.specs.declared.Line.{Line}
@@ -112,13 +113,13 @@ abbrev undecided : Class → Bool
 undecided c = not (is_decision c)
 
 module _ (l : Line) (receives : is_out l.state ≡ false) (n : ℕ) where
-  room_plain : (q : Judgement) → Plain l (outcome_verdict (room_outcome q) n)
-  room_plain Judgement.Fits = (refl, refl)
-  room_plain Judgement.NoRoom = (refl, refl)
-  room_plain Judgement.Broken = (refl, receives)
-  room_plain Judgement.NoLine = (refl, receives)
-  room_plain Judgement.WrongSize = (refl, receives)
-  room_plain Judgement.Malformed = (refl, refl)
+  room_plain : (q : Result (Unit {0}) Refusal) → Plain l (outcome_verdict (room_outcome q) n)
+  room_plain (Ok tt) = (refl, refl)
+  room_plain (Err Refusal.NoRoom) = (refl, refl)
+  room_plain (Err Refusal.Broken) = (refl, receives)
+  room_plain (Err Refusal.NoLine) = (refl, receives)
+  room_plain (Err Refusal.WrongSize) = (refl, receives)
+  room_plain (Err Refusal.Malformed) = (refl, refl)
 
   objection_plain : (text : List ℕ) → eqb (number_of (objection_to text)) sends ≡ false
   objection_plain text = every_but (λ a. undecided (class_of a)) (λ a. eqb (number_of a) sends) (λ vs. refl) (objection_to text) (ap undecided (objection_against text))

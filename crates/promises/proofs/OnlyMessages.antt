@@ -1,9 +1,10 @@
 -- Only messages are stored, so only messages wait and are taken, and reading what was taken is never refused.
 -- Assumes nothing.
+use Rattle.std.specs.Prelude.{Err, Ok, Option}
+use Rattle.faults.specs.declared.Refusal.TheVariants.{Faulty, Malformed, NotFitting}
 use mathlib.Core.Path.{◌≡◌, refl, ap, subst, ◌∙◌}
 use mathlib.Core.Bool.{Bool, true, false, cond, ◌&&◌}
 use mathlib.Core.List.{List, [], ◌∷◌, ◌++◌}
-use mathlib.Core.Option.{Option}
 use Prim.Native.Nat.{ℕ, suc, ◌<◌}
 use borrow.Author.Tests.{eq-eqb, eqb-true}
 use lib.Dec.{eqb}
@@ -14,7 +15,6 @@ use Rattle.memory.proofs.Tests.{clash, and_right}
 use Rattle.records.specs.Records.{records}
 use Rattle.faults.specs.Message.{is_message}
 use Rattle.owner.specs.Reading.{room_for, reading_of}
-use Rattle.owner.specs.declared.Reading.TheVariants.{Read, Malformed, NotFitting, Faulty}
 use Rattle.answers.specs.declared.Fault.{Fault}
 use Rattle.header.specs.Entry.{Entry}
 use Rattle.journal.proofs.Wholes.{whole_facts}
@@ -102,11 +102,11 @@ module _ (began : Beginning) (right : Right began) (es : List GatewayItem) (may 
 
 -- ---- reading it
 
-not_malformed : (b : Bool) (n : ℕ) → unless b NotFitting (Read n) ≡ Malformed → ⊥
+not_malformed : (b : Bool) (n : ℕ) → unless b (Err NotFitting) (Ok n) ≡ Err Malformed → ⊥
 not_malformed true n e = clash cc
 not_malformed false n e = clash cc
 
-not_faulty : (b : Bool) (n : ℕ) (f : Fault) (place : ℕ) → unless b NotFitting (Read n) ≡ Faulty f place → ⊥
+not_faulty : (b : Bool) (n : ℕ) (f : Fault) (place : ℕ) → unless b (Err NotFitting) (Ok n) ≡ Err (Faulty f place) → ⊥
 not_faulty true n f place e = clash cc
 not_faulty false n f place e = clash cc
 

@@ -1,9 +1,12 @@
 -- Nothing lost, nothing twice: of a run from fresh, the messages answered 4 on a line, with serials from 0, are those taken from it and then those that wait.
 -- Assumes nothing.
+use Rattle.std.specs.Result.{is_ok}
+use Rattle.std.specs.Prelude.{Err, None, Ok, Option, Result, Some, ℕ}
+use Rattle.journal.specs.declared.NotTaken.TheVariants.{Broken, BufferShort, NoLine, NothingWaiting, WrongSize}
+use Rattle.journal.specs.declared.NotTaken.{NotTaken}
 use mathlib.Core.Path.{◌≡◌, refl, sym, ap, ap₂, subst, ◌∙◌}
 use mathlib.Core.Bool.{Bool, true, false, cond, ◌&&◌}
 use mathlib.Core.List.{List, [], ◌∷◌, ◌++◌}
-use mathlib.Core.Option.{Option, none, some}
 use Prim.Native.Nat.{ℕ, ◌<◌}
 use native.Mathlib.Omega.{arith}
 use lib.Dec.{eqb}
@@ -11,15 +14,11 @@ use lib.ListN.{length}
 use Rattle.memory.specs.Sizes.{lines}
 use Rattle.faults.specs.Message.{is_message}
 use Rattle.faults.proofs.Messages.{message_some, message_short}
-use Rattle.journal.specs.Answers.{is_fits}
 use Rattle.room.specs.Room.{todays_shares}
 use Rattle.journal.specs.Storage.{grown, appended, AfterStoring, after_storing, store_of as store_entry}
 use Rattle.journal.specs.Removal.{take_of as take_entry}
 use Rattle.journal_laws.specs.Held.{Held}
 use Rattle.journal_laws.specs.Runs.{Operation, put, get, State as Store, Numbered, numbered, waiting, given, next, after, goes_in, comes_out, all_in, all_out}
-use Rattle.journal.specs.declared.Took.{Took}
-use Rattle.journal.specs.declared.Took.TheVariants.{Taken, NothingWaiting, BufferShort, Broken, NoLine, WrongSize}
-use Rattle.journal.specs.declared.Verdict.TheVariants.{Fits}
 use Rattle.journal_laws.proofs.Cases.{store_fits}
 use Rattle.journal_laws.proofs.Queue.{fresh_runs}
 use Rattle.gateway.specs.Events.{take_of}
@@ -37,16 +36,16 @@ use Rattle.promises.proofs.Kept.{keeps, fresh_sound}
 
 -- an operation of the journal, or none
 abbrev pub next_by : Option Operation → Store → Store
-next_by none j = j
-next_by (some o) j = next todays_shares j o
+next_by None j = j
+next_by (Some o) j = next todays_shares j o
 
 abbrev pub in_by : Option Operation → ℕ → Store → List (List ℕ)
-in_by none l j = []
-in_by (some o) l j = goes_in todays_shares l j o
+in_by None l j = []
+in_by (Some o) l j = goes_in todays_shares l j o
 
 abbrev pub out_by : Option Operation → ℕ → Store → List Numbered
-out_by none l j = []
-out_by (some o) l j = comes_out todays_shares l j o
+out_by None l j = []
+out_by (Some o) l j = comes_out todays_shares l j o
 
 -- what an item does to the journal is that operation
 pub record Does (s : State) (e : GatewayItem) : Type 0 where
@@ -57,18 +56,18 @@ pub record Does (s : State) (e : GatewayItem) : Type 0 where
 
 -- ---- takings
 
-gave_given : (t : Took) (b : List ℕ) → gave (response (took_answer t) b) ≡ given t b
-gave_given (Taken n serial) b = refl
-gave_given NothingWaiting b = refl
-gave_given BufferShort b = refl
-gave_given Broken b = refl
-gave_given NoLine b = refl
-gave_given WrongSize b = refl
+gave_given : (t : Result (ℕ × ℕ) NotTaken) (b : List ℕ) → gave (response (took_answer t) b) ≡ given t b
+gave_given (Ok (n, serial)) b = refl
+gave_given (Err NothingWaiting) b = refl
+gave_given (Err BufferShort) b = refl
+gave_given (Err Broken) b = refl
+gave_given (Err NoLine) b = refl
+gave_given (Err WrongSize) b = refl
 
 taking_does : (s : State) (i : ℕ) (b : List ℕ) → Does s (taking i b)
 unfolding take_of
 taking_does s i b = record {
-  operation = some (get i b);
+  operation = Some (get i b);
   store = refl;
   entering = λ l. refl;
   leaving = λ l. ap (λ (x : List Numbered). cond (eqb i l) x []) (gave_given (take_entry s.gateway.ledger i s.memory.journal b).taking.answer (take_entry s.gateway.ledger i s.memory.journal b).buffer);
@@ -83,20 +82,20 @@ not_stored false t = refl
 module _ (s : State) (w : Sound s) (i : ℕ) (k : Kind) (h : i < lines) where
   -- what is not answered 4 and leaves the store is no operation of the journal
   no_operation : eqb (answered (answer s i k)) 4 ≡ false → store s i k ≡ store_of s → Does s (came i k)
-  no_operation other kept = record { operation = none; store = kept; entering = λ l. rw other (not_stored (eqb i l) (completed s i k)); leaving = λ l. refl }
+  no_operation other kept = record { operation = None; store = kept; entering = λ l. rw other (not_stored (eqb i l) (completed s i k)); leaving = λ l. refl }
 
   -- a message with room for it is stored there: the journal's answer is 4 too
   module _ (t : List ℕ) (m : is_message t ≡ true) (room : has_space s i (length t) ≡ true) (x : Settles s i k t (λ n. n ≡ 4) (stored_in i t (store_of s))) where
-    in_journal : store_entry s.gateway.ledger todays_shares i t s.memory.journal ≡ after_storing (grown s.gateway.ledger i (length t)) Fits (appended s.gateway.ledger i t s.memory.journal)
+    in_journal : store_entry s.gateway.ledger todays_shares i t s.memory.journal ≡ after_storing (grown s.gateway.ledger i (length t)) (Ok tt) (appended s.gateway.ledger i t s.memory.journal)
     in_journal = (store_fits todays_shares s.gateway.ledger i t s.memory.journal w.entries w.held h (message_some _ t m) (message_short _ t m) room).is
 
     stores : Does s (came i k)
     stores = record {
-      operation = some (put i t);
+      operation = Some (put i t);
       store = x.left ∙ sym (ap (λ (r : AfterStoring). record { ledger = r.storing.ledger; journal = r.journal }) in_journal);
       entering = λ l.
           ap₂ (λ (n : ℕ) (o : Option (List ℕ)). cond (eqb i l && eqb n 4) (completed_in o ∷ []) []) x.number x.complete
-          ∙ sym (ap (λ (r : AfterStoring). cond (eqb i l && is_fits r.storing.answer) (t ∷ []) []) in_journal);
+          ∙ sym (ap (λ (r : AfterStoring). cond (eqb i l && is_ok r.storing.answer) (t ∷ []) []) in_journal);
       leaving = λ l. refl;
     }
 
@@ -108,7 +107,7 @@ module _ (s : State) (w : Sound s) (i : ℕ) (k : Kind) (h : i < lines) where
 
 pub does : (s : State) (e : GatewayItem) → Sound s → May e → Does s e
 does s (event i (happens k)) w m = event_does s w i k m (comes_to s (sound_intact s w) i k m)
-does s (event i (starts text)) w m = record { operation = none; store = start_store s (sound_intact s w) i text m; entering = λ l. refl; leaving = λ l. refl }
+does s (event i (starts text)) w m = record { operation = None; store = start_store s (sound_intact s w) i text m; entering = λ l. refl; leaving = λ l. refl }
 does s (taking i b) w m = taking_does s i b
 
 -- ---- runs
@@ -122,13 +121,13 @@ pub record Runs (s : State) (es : List GatewayItem) : Type 0 where
 
 runs_onto : (s : State) (e : GatewayItem) (es : List GatewayItem) (o : Option Operation) → store_of (step s e).1 ≡ next_by o (store_of s)
     → ((l : ℕ) → stored_on l s e ≡ in_by o l (store_of s)) → ((l : ℕ) → taken_on l s e ≡ out_by o l (store_of s)) → Runs (step s e).1 es → Runs s (e ∷ es)
-runs_onto s e es none store entering leaving r = record {
+runs_onto s e es None store entering leaving r = record {
   operations = r.operations;
   store = r.store ∙ ap (λ (j : Store). after todays_shares j r.operations) store;
   entering = λ l. ap₂ ◌++◌ (entering l) (r.entering l ∙ ap (λ (j : Store). all_in todays_shares l j r.operations) store);
   leaving = λ l. ap₂ ◌++◌ (leaving l) (r.leaving l ∙ ap (λ (j : Store). all_out todays_shares l j r.operations) store);
 }
-runs_onto s e es (some o) store entering leaving r = record {
+runs_onto s e es (Some o) store entering leaving r = record {
   operations = o ∷ r.operations;
   store = r.store ∙ ap (λ (j : Store). after todays_shares j r.operations) store;
   entering = λ l. ap₂ ◌++◌ (entering l) (r.entering l ∙ ap (λ (j : Store). all_in todays_shares l j r.operations) store);

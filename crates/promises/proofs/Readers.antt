@@ -1,5 +1,8 @@
 -- What each block of a strip reader is answered, and what goes out then.
 -- Assumes nothing.
+use Rattle.strips.specs.declared.Reply.TheVariants.{Again, More}
+use Rattle.strips.specs.declared.Reply.{Reply}
+use Rattle.std.specs.Prelude.{None, Option, Some}
 use mathlib.Core.Path.{◌≡◌, refl, ap, ◌∙◌}
 use mathlib.Core.Bool.{Bool, true, false, not, ◌&&◌}
 use mathlib.Core.List.{List}
@@ -26,8 +29,6 @@ use Rattle.strips.specs.Hearings.{hearing_of, reply_answer}
 use Rattle.strips.specs.Replies.{reply_block}
 use Rattle.strips.specs.declared.Hearing.{Hearing}
 use Rattle.strips.specs.declared.Reader.{Reader}
-use Rattle.strips.specs.declared.Replied.{Replied}
-use Rattle.strips.specs.declared.Replied.TheVariants.{NoneYet, More, Again}
 use Rattle.uploads.specs.Uploads.{settle, file, Ruling, ruling, memo_by}
 use Rattle.looking.specs.declared.Kind.TheVariants.{Byte}
 use Rattle.orders.specs.Starts.{is_neutral}
@@ -52,16 +53,16 @@ use Rattle.promises.proofs.CameBlocks.{told_is, store_is, ruled, offers, filed a
 abbrev said : Hearing → Response
 said h = response h.answer (block_out (reply_byte (first_out h.answer)) h.reader.reply)
 
-repeat_out : (r : Replied) → block_out (reply_byte (first_out (reply_answer r))) r ≡ reply_block r
+repeat_out : (r : Option Reply) → block_out (reply_byte (first_out (reply_answer r))) r ≡ reply_block r
 unfolding reply_of
-repeat_out NoneYet = refl
-repeat_out More = refl
-repeat_out Again = refl
+repeat_out None = refl
+repeat_out (Some More) = refl
+repeat_out (Some Again) = refl
 
-repeat_number : (r : Replied) (bs : List ℕ) → answered (response (reply_answer r) bs) ≡ 11
-repeat_number NoneYet bs = refl
-repeat_number More bs = refl
-repeat_number Again bs = refl
+repeat_number : (r : Option Reply) (bs : List ℕ) → answered (response (reply_answer r) bs) ≡ 11
+repeat_number None bs = refl
+repeat_number (Some More) bs = refl
+repeat_number (Some Again) bs = refl
 
 -- where it is not for storing
 heard_told : (x : Judged) (again : Bool) (r : Reader) → is_results x && not again ≡ false

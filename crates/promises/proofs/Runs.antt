@@ -1,5 +1,8 @@
 -- What holds all along a run from fresh: the state is sound, 41, 42 and 43 never come, and 31 never comes within a line's own share.
 -- Assumes nothing.
+use Rattle.std.specs.Prelude.{Err, Ok, Result, ℕ}
+use Rattle.journal.specs.declared.NotTaken.TheVariants.{Broken, BufferShort, NoLine, NothingWaiting, WrongSize}
+use Rattle.journal.specs.declared.NotTaken.{NotTaken}
 use mathlib.Core.Path.{◌≡◌, refl, sym, ap, ◌∙◌}
 use mathlib.Core.Bool.{false, true≢false}
 use mathlib.Core.Logic.{◌⊎◌, inl, inr}
@@ -16,8 +19,6 @@ use Rattle.header.specs.Header.{entry_size}
 use Rattle.room.specs.Room.{share, todays_shares, claims, raised}
 use Rattle.journal.specs.Removal.{AfterTaking, take_of as take_entry}
 use Rattle.journal.specs.Answers.{took_paper}
-use Rattle.journal.specs.declared.Took.{Took}
-use Rattle.journal.specs.declared.Took.TheVariants.{Taken, NothingWaiting, BufferShort, Broken, NoLine, WrongSize}
 use Rattle.journal_laws.proofs.Cases.{Gives, Keeps, take_cases}
 use Rattle.room.proofs.Totals.{claims_own_share}
 use Rattle.answers.specs.Paper.{number_of}
@@ -84,13 +85,13 @@ module _ (s : State) (w : Sound s) (i : ℕ) (k : Kind) (h : i < lines) where
 
 -- ---- takings
 
-took_undamaged : (t : Took) → eqb (get_or (took_paper t) 0 0) 41 ≡ false → eqb (get_or (took_paper t) 0 0) 43 ≡ false → is_damage (number_of (took_answer t)) ≡ false
-took_undamaged (Taken n serial) p q = refl
-took_undamaged NothingWaiting p q = refl
-took_undamaged BufferShort p q = refl
-took_undamaged Broken p q = absurd (true≢false q)
-took_undamaged NoLine p q = refl
-took_undamaged WrongSize p q = absurd (true≢false p)
+took_undamaged : (t : Result (ℕ × ℕ) NotTaken) → eqb (get_or (took_paper t) 0 0) 41 ≡ false → eqb (get_or (took_paper t) 0 0) 43 ≡ false → is_damage (number_of (took_answer t)) ≡ false
+took_undamaged (Ok (n, serial)) p q = refl
+took_undamaged (Err NothingWaiting) p q = refl
+took_undamaged (Err BufferShort) p q = refl
+took_undamaged (Err Broken) p q = absurd (true≢false q)
+took_undamaged (Err NoLine) p q = refl
+took_undamaged (Err WrongSize) p q = absurd (true≢false p)
 
 taking_undamaged : (s : State) → Sound s → (i : ℕ) (b : List ℕ) → is_damage (answered (step s (taking i b)).0) ≡ false
 unfolding take_of

@@ -1,5 +1,7 @@
 -- Where every reply is ACK, what goes out from a start to our EOT is the message's transfer, byte for byte. So a gateway of ours that gets it, with room, stores the message.
 -- Assumes nothing.
+use Rattle.std.specs.Prelude.{Ok, Result}
+use Rattle.answers.specs.declared.Answer.{Answer}
 use mathlib.Core.Path.{◌≡◌, refl, sym, ap, ap₂, subst, ◌∙◌}
 use mathlib.Core.Logic.{◌≢◌}
 use mathlib.Core.Bool.{true, false}
@@ -34,8 +36,6 @@ use Rattle.sending.proofs.Pieces.{piece_first, pieces_past, offered_cut}
 use Rattle.looking.specs.declared.Kind.{Kind}
 use Rattle.looking.specs.declared.Kind.TheVariants.{Byte}
 use Rattle.orders.specs.Starts.{is_neutral, can_start, start_answer}
-use Rattle.orders.specs.declared.Start.{Start}
-use Rattle.orders.specs.declared.Start.TheVariants.{Asks}
 use Rattle.gateway.specs.Events.{line_at, dialogue_at}
 use Rattle.gateway.specs.Out.{sends}
 use Rattle.serial.specs.Serial.{event, annotate, final, Every}
@@ -190,7 +190,7 @@ module _ (s : State) (w : Intact s) (i : ℕ) (h : i < lines) (speaks : dialogue
   can : can_start (line_at s.gateway i) ≡ true
   can = and_both _ _ (ap is_neutral neutral) (ap (λ (d : Dialogue). by_dialogue d true (λ p. false)) speaks)
 
-  asks : start s w i m h ≡ Asks
+  asks : start s w i m h ≡ Ok tt
   asks = message_starts s w i m h can message
 
   -- our ENQ awaits its reply
@@ -207,12 +207,12 @@ module _ (s : State) (w : Intact s) (i : ℕ) (h : i < lines) (speaks : dialogue
       }
 
   enq_answered : answered (step s (starting i m)).0 ≡ sends
-  enq_answered = ap answered (start_answer_law s w i m h) ∙ ap (λ (x : Start). number_of (start_answer x)) asks
+  enq_answered = ap answered (start_answer_law s w i m h) ∙ ap (λ (x : Result (Unit {0}) Answer). number_of (start_answer x)) asks
 
   enq_out : (step s (starting i m)).0.buffer ≡ enq ∷ []
   enq_out =
-      ap (λ (r : Response). r.buffer) (start_answer_law s w i m h) ∙ ap (λ (x : Start). (told (start_answer x) (parts_started x (parts_of s i) m)).buffer) asks
-      ∙ ap (λ (r : Response). r.buffer) (told_frames (parts_started Asks (parts_of s i) m) (start_answer Asks) speaks)
+      ap (λ (r : Response). r.buffer) (start_answer_law s w i m h) ∙ ap (λ (x : Result (Unit {0}) Answer). (told (start_answer x) (parts_started x (parts_of s i) m)).buffer) asks
+      ∙ ap (λ (r : Response). r.buffer) (told_frames (parts_started (Ok tt) (parts_of s i) m) (start_answer (Ok tt)) speaks)
 
   -- the first frame, and those behind it
   frames_out_law : Sends i h begun (came i (Byte ack) ∷ acks i (length (pieces_of frame_limit m))) (frames_from first_number (pieces_of frame_limit m) ++ (eot ∷ []))

@@ -1,5 +1,8 @@
 -- The start of a sending at an intact state, and so at every state of a run: it is told by its line's parts alone, it decides nothing, and what is not answered 9 changes nothing.
 -- Assumes nothing.
+use Rattle.std.specs.Prelude.{Err, Ok, Result}
+use Rattle.faults.specs.declared.Flaw.TheVariants.{Faulty, NotText}
+use Rattle.faults.specs.declared.Flaw.{Flaw}
 use mathlib.Core.Path.{◌≡◌, refl, sym, ap, ap₂, subst, ◌∙◌}
 use mathlib.Core.Logic.{◌≢◌}
 use mathlib.Core.Bool.{Bool, true, false, not}
@@ -19,8 +22,6 @@ use Rattle.memory.proofs.Tests.{clash, and_right}
 use Rattle.characters.specs.Allowed.{allowed}
 use Rattle.faults.specs.Message.{is_message}
 use Rattle.faults.specs.Faults.{fault_of}
-use Rattle.faults.specs.declared.Checked.{Checked}
-use Rattle.faults.specs.declared.Checked.TheVariants.{Message, NotText, Faulty}
 use Rattle.faults.proofs.Messages.{message_short, message_allowed}
 use Rattle.answers.specs.Paper.{is_faulty, number_of}
 use Rattle.answers.specs.declared.Answer.{Answer}
@@ -37,8 +38,6 @@ use Rattle.line.specs.Line.{record_within}
 use Rattle.line.proofs.Limits.{within_facts, within_of, asked_within}
 use Rattle.looking.specs.Views.{text_start, texts_of}
 use Rattle.orders.specs.Starts.{is_neutral, can_start, text_look, start_look, start_answer, line_started, texts_started}
-use Rattle.orders.specs.declared.Start.{Start}
-use Rattle.orders.specs.declared.Start.TheVariants.{Asks, Refused}
 use Rattle.orders.proofs.Looks.{message_asks, Passed, asks_passed}
 use Rattle.gateway.specs.Events.{no_record, AfterEvent, started_with, start_in, start_of}
 use Rattle.gateway_laws.specs.Classes.{class_of}
@@ -54,19 +53,19 @@ use Rattle.promises.proofs.Sound.{sound_intact, each_line, Shaped, shaped_sound}
 -- ---- the answers
 
 -- what holds of the answer, whatever a start comes to past 40 to 42: only one that asks is answered 9
-pub record Mild (x : Start) : Type 0 where
+pub record Mild (x : Result (Unit {0}) Answer) : Type 0 where
   pub undecided : is_decision (class_of (start_answer x)) ≡ false
   pub no_damage : is_damage (number_of (start_answer x)) ≡ false
   pub not_30 : eqb (number_of (start_answer x)) 30 ≡ false
-  pub sends : number_of (start_answer x) ≡ 9 → x ≡ Asks
+  pub sends : number_of (start_answer x) ≡ 9 → x ≡ Ok tt
 
 abbrev plain : Answer → Bool
 plain a = not (is_faulty (number_of a))
 
-text_mild : (x : Checked) → Mild (text_look x)
-text_mild Message = record { undecided = refl; no_damage = refl; not_30 = refl; sends = λ e. refl }
-text_mild NotText = record { undecided = refl; no_damage = refl; not_30 = refl; sends = λ e. absurd (omega (arith, e)) }
-text_mild (Faulty f place) = record {
+text_mild : (x : Result (Unit {0}) Flaw) → Mild (text_look x)
+text_mild (Ok tt) = record { undecided = refl; no_damage = refl; not_30 = refl; sends = λ e. refl }
+text_mild (Err NotText) = record { undecided = refl; no_damage = refl; not_30 = refl; sends = λ e. absurd (omega (arith, e)) }
+text_mild (Err (Faulty f place)) = record {
   undecided = refl;
   no_damage = every_but plain (λ a. is_damage (number_of a)) (λ vs. refl) (Unsendable f place) (ap not (fault_number_law f));
   not_30 = every_but plain (λ a. eqb (number_of a) 30) (λ vs. refl) (Unsendable f place) (ap not (fault_number_law f));
@@ -86,29 +85,29 @@ module _ (s : State) (w : Intact s) (i : ℕ) (text : List ℕ) (h : i < lines) 
   own = parts_of s i
 
   -- what it comes to: 60, or what the text comes to
-  abbrev pub start : Start
+  abbrev pub start : Result (Unit {0}) Answer
   start = start_look i (record_within own.line) (can_start own.line) text journal_size unfinished_size frames_size
 
-  start_looks : start ≡ unless (can_start own.line) (Refused NotNeutral) (text_look (fault_of text))
+  start_looks : start ≡ unless (can_start own.line) (Err NotNeutral) (text_look (fault_of text))
   unfolding start_look
   start_looks = rw (lt-ltb i lines h, w.within i h)
 
   pub start_mild : Mild start
   start_mild = subst Mild (sym start_looks) (by_state (can_start own.line))
     where
-      by_state : (b : Bool) → Mild (unless b (Refused NotNeutral) (text_look (fault_of text)))
+      by_state : (b : Bool) → Mild (unless b (Err NotNeutral) (text_look (fault_of text)))
       by_state true = text_mild (fault_of text)
       by_state false = record { undecided = refl; no_damage = refl; not_30 = refl; sends = λ e. absurd (omega (arith, e)) }
 
   -- a message on a neutral line of frames is sent; where one is sent, all tests have passed
-  pub message_starts : can_start own.line ≡ true → is_message text ≡ true → start ≡ Asks
+  pub message_starts : can_start own.line ≡ true → is_message text ≡ true → start ≡ Ok tt
   message_starts n m = start_looks ∙ rw (n, message_asks text m)
 
-  pub start_passed : start ≡ Asks → Passed i (record_within own.line) (can_start own.line) text journal_size unfinished_size frames_size
+  pub start_passed : start ≡ Ok tt → Passed i (record_within own.line) (can_start own.line) text journal_size unfinished_size frames_size
   start_passed = asks_passed i (record_within own.line) (can_start own.line) text journal_size unfinished_size frames_size
 
   -- and so the line speaks frames
-  pub starts_frames : start ≡ Asks → own.line.settings.dialogue ≡ Frames
+  pub starts_frames : start ≡ Ok tt → own.line.settings.dialogue ≡ Frames
   starts_frames e = speaks_frames_law own.line.settings (and_right (is_neutral own.line.state) (speaks_frames own.line.settings) (start_passed e).free)
 
   -- ---- what is left
@@ -123,17 +122,17 @@ module _ (s : State) (w : Intact s) (i : ℕ) (text : List ℕ) (h : i < lines) 
   start_store = refl
 
   -- the text goes to the line's own part, which holds it
-  short : start ≡ Asks → 0 + length text ≤ message_limit
+  short : start ≡ Ok tt → 0 + length text ≤ message_limit
   short e = omega (arith, message_short _ text (start_passed e).message)
 
   from_start : text_start i ≡ text_start i + 0
   from_start = omega arith
 
-  own_texts_law : (x : Start) → start ≡ x → texts_of i (texts_started x i text s.memory.unfinished) ≡ own_started x text own.texts
-  own_texts_law Asks e =
+  own_texts_law : (x : Result (Unit {0}) Answer) → start ≡ x → texts_of i (texts_started x i text s.memory.unfinished) ≡ own_started x text own.texts
+  own_texts_law (Ok tt) e =
       ap (λ (at : ℕ). texts_of i (splice s.memory.unfinished at text)) from_start
       ∙ part_around s.memory.unfinished (text_start i) message_limit 0 text (omega (arith, w.texts)) (short e)
-  own_texts_law (Refused a) e = refl
+  own_texts_law (Err a) e = refl
 
   pub start_own : parts_of (step s (starting i text)).1 i ≡ (on_start i own text (store_of s)).1
   start_own =
@@ -144,11 +143,11 @@ module _ (s : State) (w : Intact s) (i : ℕ) (text : List ℕ) (h : i < lines) 
   start_answer_law = ap₂ told (ap (λ (x : AfterEvent). x.handled.answer) start_is) start_own
 
   -- every other line has what it had
-  other_texts : (l : ℕ) → l ≢ i → (x : Start) → start ≡ x → texts_of l (texts_started x i text s.memory.unfinished) ≡ texts_of l s.memory.unfinished
-  other_texts l n Asks e =
+  other_texts : (l : ℕ) → l ≢ i → (x : Result (Unit {0}) Answer) → start ≡ x → texts_of l (texts_started x i text s.memory.unfinished) ≡ texts_of l s.memory.unfinished
+  other_texts l n (Ok tt) e =
       ap (λ (at : ℕ). texts_of l (splice s.memory.unfinished at text)) from_start
       ∙ part_elsewhere message_limit s.memory.unfinished i l 0 text (λ q. n (sym q)) (omega (arith, w.texts)) (short e)
-  other_texts l n (Refused a) e = refl
+  other_texts l n (Err a) e = refl
 
   pub start_others : (l : ℕ) → l ≢ i → parts_of (step s (starting i text)).1 l ≡ parts_of s l
   start_others l n =
@@ -160,48 +159,48 @@ module _ (s : State) (w : Intact s) (i : ℕ) (text : List ℕ) (h : i < lines) 
   start_undecided = ap decides start_answer_law ∙ start_mild.undecided
 
   -- it is answered 9 where it asks, and nowhere else
-  pub start_sends : answered (step s (starting i text)).0 ≡ 9 → start ≡ Asks
+  pub start_sends : answered (step s (starting i text)).0 ≡ 9 → start ≡ Ok tt
   start_sends e = start_mild.sends (sym (ap answered start_answer_law) ∙ e)
 
   -- where the line cannot start, it is answered 60
   pub start_busy : can_start own.line ≡ false → answered (step s (starting i text)).0 ≡ 60
   start_busy n =
-      let busy : start ≡ Refused NotNeutral = start_looks ∙ rw n in
-      ap answered start_answer_law ∙ ap (λ (x : Start). number_of (start_answer x)) busy
+      let busy : start ≡ Err NotNeutral = start_looks ∙ rw n in
+      ap answered start_answer_law ∙ ap (λ (x : Result (Unit {0}) Answer). number_of (start_answer x)) busy
 
   -- that is: where the line is neutral and speaks frames, and the text is a message
   pub start_exactly : Exactly (answered (step s (starting i text)).0 ≡ 9) ((can_start own.line ≡ true) × (is_message text ≡ true))
   start_exactly = (
     λ e. let x = start_passed (start_sends e) in (x.free, x.message),
-    λ e. ap answered start_answer_law ∙ ap (λ (x : Start). number_of (start_answer x)) (message_starts e.0 e.1),
+    λ e. ap answered start_answer_law ∙ ap (λ (x : Result (Unit {0}) Answer). number_of (start_answer x)) (message_starts e.0 e.1),
   )
 
   -- and then the line's text is the message
-  pub asks_own : start ≡ Asks → parts_of (step s (starting i text)).1 i ≡ parts_started Asks own text
-  asks_own e = start_own ∙ ap (λ (x : Start). parts_started x own text) e
+  pub asks_own : start ≡ Ok tt → parts_of (step s (starting i text)).1 i ≡ parts_started (Ok tt) own text
+  asks_own e = start_own ∙ ap (λ (x : Result (Unit {0}) Answer). parts_started x own text) e
 
-  pub asks_text : start ≡ Asks → unfinished_in (parts_started Asks own text) ≡ text
+  pub asks_text : start ≡ Ok tt → unfinished_in (parts_started (Ok tt) own text) ≡ text
   asks_text e = part_splice own.texts 0 text (omega (arith, short e, length_part s.memory.unfinished (text_start i) message_limit (omega (arith, w.texts))))
 
   -- ---- a state stays sound, and its unfinished texts stay of allowed bytes
 
-  own_within : (x : Start) → start ≡ x → record_within (line_started x own.line text) ≡ true
-  own_within Asks e =
+  own_within : (x : Result (Unit {0}) Answer) → start ≡ x → record_within (line_started x own.line text) ≡ true
+  own_within (Ok tt) e =
       let speaks = starts_frames e in
       let within = within_facts own.line (frames_within own.line speaks (w.within i h)) in
-      within_frames (line_started Asks own.line text) speaks (within_of (line_started Asks own.line text) (asked_within own.line within (length text) (omega (arith, short e))))
-  own_within (Refused a) e = w.within i h
+      within_frames (line_started (Ok tt) own.line text) speaks (within_of (line_started (Ok tt) own.line text) (asked_within own.line within (length text) (omega (arith, short e))))
+  own_within (Err a) e = w.within i h
 
-  texts_long : (x : Start) → start ≡ x → length (texts_started x i text s.memory.unfinished) ≡ length s.memory.unfinished
-  texts_long Asks e = length_splice s.memory.unfinished (text_start i) text (omega (arith, short e, w.texts))
-  texts_long (Refused a) e = refl
+  texts_long : (x : Result (Unit {0}) Answer) → start ≡ x → length (texts_started x i text s.memory.unfinished) ≡ length s.memory.unfinished
+  texts_long (Ok tt) e = length_splice s.memory.unfinished (text_start i) text (omega (arith, short e, w.texts))
+  texts_long (Err a) e = refl
 
   abbrev IsClean : Parts → Type 0
   IsClean p = all allowed (unfinished_in p) ≡ true
 
-  own_clean : IsClean own → (x : Start) → start ≡ x → IsClean (parts_started x own text)
-  own_clean c Asks e = ap (all allowed) (asks_text e) ∙ message_allowed _ text (start_passed e).message
-  own_clean c (Refused a) e = c
+  own_clean : IsClean own → (x : Result (Unit {0}) Answer) → start ≡ x → IsClean (parts_started x own text)
+  own_clean c (Ok tt) e = ap (all allowed) (asks_text e) ∙ message_allowed _ text (start_passed e).message
+  own_clean c (Err a) e = c
 
   pub start_clean : Clean s → Clean (step s (starting i text)).1
   start_clean c = each_line IsClean s (step s (starting i text)).1 i _ start_own start_others (own_clean (c i h) start refl) c
@@ -227,8 +226,8 @@ pub start_refused : (s : State) (i : ℕ) (text : List ℕ) → answered (step s
 unfolding start_of
 start_refused s i text n = by_start (start_in s.gateway i text s.memory) n
   where
-    by_start : (x : Start) → number_of (start_answer x) ≢ 9 → left_by (started_with x s.gateway i text s.memory) ≡ s
-    by_start Asks n = absurd (n refl)
-    by_start (Refused a) n =
+    by_start : (x : Result (Unit {0}) Answer) → number_of (start_answer x) ≢ 9 → left_by (started_with x s.gateway i text s.memory) ≡ s
+    by_start (Ok tt) n = absurd (n refl)
+    by_start (Err a) n =
         let same = set-get_or s.gateway.lines i no_record in
         λ z. record { gateway = record { lines = same z; memos = s.gateway.memos; ledger = s.gateway.ledger }; memory = s.memory }

@@ -1,5 +1,6 @@
 -- The walk over the frames of a message: 0 to every byte but the last of each frame, 2 to each frame but the last, 4 to the last, and the message is stored.
 -- Assumes nothing.
+use Rattle.std.specs.Prelude.{Ok}
 use mathlib.Core.Path.{◌≡◌, refl, sym, ap, ap₂, subst, ◌∙◌}
 use mathlib.Core.Bool.{true}
 use mathlib.Core.List.{List, [], ◌∷◌, ◌++◌, map, append_assoc, append-nil}
@@ -28,7 +29,6 @@ use Rattle.strips.specs.Readers.{Memo}
 use Rattle.room.specs.Room.{todays_shares}
 use Rattle.journal.specs.Verdicts.{judge_of}
 use Rattle.journal_laws.specs.Runs.{State as Store}
-use Rattle.journal.specs.declared.Verdict.TheVariants.{Fits}
 use Rattle.looking.specs.Views.{joined_text}
 use Rattle.deciding.specs.Decisions.{outcome_of}
 use Rattle.receiving.specs.Verdicts.{decision_of, decided}
@@ -68,7 +68,7 @@ module _ (limit : ℕ) (usable : Usable limit) (i : ℕ) (j : Store) (memo : Mem
         all_nothing (stx ∷ early number (end_after (get_or t (length t - 1) 0)) t) ∙ ap (λ (k : ℕ). replicate k (response Nothing [])) size
 
     -- the last frame stores the message
-    module _ (g : Going x (t ++ []) number l texts frames) (fits : judge_of j.ledger todays_shares i (length (x ++ t)) j.journal ≡ Fits) where
+    module _ (g : Going x (t ++ []) number l texts frames) (fits : judge_of j.ledger todays_shares i (length (x ++ t)) j.journal ≡ Ok tt) where
       abbrev end : End
       end = end_after (get_or t (length t - 1) 0)
 
@@ -171,11 +171,11 @@ module _ (limit : ℕ) (usable : Usable limit) (i : ℕ) (j : Store) (memo : Mem
   abbrev Walks : ℕ → Type 0
   Walks k =
       (x y : List ℕ) (number : ℕ) (l : Line) (texts frames : List ℕ) → length y ≤ k → 0 < length y → Going x y number l texts frames
-      → judge_of j.ledger todays_shares i (length (x ++ y)) j.journal ≡ Fits
+      → judge_of j.ledger todays_shares i (length (x ++ y)) j.journal ≡ Ok tt
       → Delivered i j (x ++ y) (pieces_of limit y) (number_after number (pieces_of limit y)) (feed i (ready i j memo l texts frames) j (frames_from number (pieces_of limit y)))
 
   module _ (k : ℕ) (behind : Walks k) (x t : List ℕ) (number : ℕ) (l : Line) (texts frames : List ℕ) (some : 0 < length t) (room : length t + around_text ≤ limit) where
-    by_rest_law : (z : List ℕ) → length z ≤ k → Going x (t ++ z) number l texts frames → judge_of j.ledger todays_shares i (length (x ++ (t ++ z))) j.journal ≡ Fits
+    by_rest_law : (z : List ℕ) → length z ≤ k → Going x (t ++ z) number l texts frames → judge_of j.ledger todays_shares i (length (x ++ (t ++ z))) j.journal ≡ Ok tt
         → Delivered i j (x ++ (t ++ z)) (piece (end_after (get_or t (length t - 1) 0)) t ∷ pieces_of limit z) (number_after (next_number number) (pieces_of limit z))
         (feed i (ready i j memo l texts frames) j (frame_of number (end_after (get_or t (length t - 1) 0)) t ++ frames_from (next_number number) (pieces_of limit z)))
     by_rest_law [] low g fits =

@@ -1,6 +1,7 @@
 -- Unfinished texts are of allowed bytes; and what holds of a text that an event completes, and of one that is no message.
 -- Assumes nothing.
-use Rattle.std.specs.Prelude.{ℕ, ◌<◌, ◌≤◌, ◌≡◌, ◌≢◌, true, List, length}
+use Rattle.faults.specs.declared.Flaw.TheVariants.{Faulty}
+use Rattle.std.specs.Prelude.{ℕ, ◌<◌, ◌≤◌, ◌≡◌, ◌≢◌, true, List, length, Err}
 use Rattle.memory.specs.Sizes.{lines, message_limit}
 use Rattle.memory.specs.Tests.{all}
 use Rattle.characters.specs.Allowed.{allowed}
@@ -8,7 +9,6 @@ use Rattle.records.specs.Records.{records, ends_with_cr}
 use Rattle.faults.specs.Faults.{fault_of}
 use Rattle.answers.specs.declared.Fault.{Fault}
 use Rattle.answers.specs.declared.Fault.TheVariants.{NoFinalCr}
-use Rattle.faults.specs.declared.Checked.TheVariants.{Faulty}
 use Rattle.looking.specs.Views.{unfinished_text}
 use Rattle.promises.specs.Machine.{State, Parts, parts_of}
 
@@ -30,7 +30,7 @@ pub record CompleteText (text : List ℕ) : Type 0 where
 pub record WrongAt (text : List ℕ) : Type 0 where
   pub kind : Fault
   pub place : ℕ
-  pub found : fault_of text ≡ Faulty kind place
+  pub found : fault_of text ≡ Err (Faulty kind place)
   pub not_54 : kind ≢ NoFinalCr
   pub from_1 : 1 ≤ place
   pub within : place ≤ length (records text)

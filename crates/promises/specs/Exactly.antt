@@ -1,9 +1,9 @@
 -- What an event that completes a text is answered, exactly: each answer is given in its own case and in no other.
 -- Assumes nothing.
-use Rattle.std.specs.Prelude.{ℕ, ◌≡◌, true, false, List, length}
+use Rattle.faults.specs.declared.Flaw.TheVariants.{Faulty, NotText}
+use Rattle.std.specs.Prelude.{ℕ, ◌≡◌, true, false, List, length, Err}
 use Rattle.faults.specs.Message.{is_message}
 use Rattle.faults.specs.Faults.{fault_of}
-use Rattle.faults.specs.declared.Checked.TheVariants.{NotText, Faulty}
 use Rattle.answers.specs.Paper.{fault_number, number_of, place_of}
 use Rattle.answers.specs.declared.Answer.{Answer}
 use Rattle.answers.specs.declared.Fault.{Fault}
@@ -31,5 +31,5 @@ place_to s i k = place_of (answer_to s i k)
 pub record DecidedExactly (s : State) (i : ℕ) (k : Kind) (text : List ℕ) : Type 0 where
   pub stored : Exactly (number_to s i k ≡ 4) ((is_message text ≡ true) × (has_space s i (length text) ≡ true))
   pub crowded : Exactly (number_to s i k ≡ 31) ((is_message text ≡ true) × (has_space s i (length text) ≡ false))
-  pub faulty : (f : Fault) (place : ℕ) → Exactly ((number_to s i k ≡ fault_number f) × (place_to s i k ≡ place)) (fault_of text ≡ Faulty f place)
-  pub foreign : Exactly (number_to s i k ≡ 30) (fault_of text ≡ NotText)
+  pub faulty : (f : Fault) (place : ℕ) → Exactly ((number_to s i k ≡ fault_number f) × (place_to s i k ≡ place)) (fault_of text ≡ Err (Faulty f place))
+  pub foreign : Exactly (number_to s i k ≡ 30) (fault_of text ≡ Err NotText)

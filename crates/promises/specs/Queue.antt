@@ -1,7 +1,6 @@
 -- What goes in and comes out on one line of the gateway in a run, read off its answers and buffers.
 -- Assumes nothing.
-use Rattle.std.specs.Prelude.{ℕ, ◌<◌, ◌≡◌, cond, ◌&&◌, List, [], ◌∷◌, ◌++◌, eqb, get_or, take}
-use Rattle.std.proofs.Math.Option.{Option, none, some}
+use Rattle.std.specs.Prelude.{ℕ, ◌<◌, ◌≡◌, cond, ◌&&◌, List, [], ◌∷◌, ◌++◌, eqb, get_or, take, None, Option, Some}
 use Rattle.memory.specs.Sizes.{lines}
 use Rattle.header.specs.Entry.{Entry}
 use Rattle.room.specs.Room.{todays_shares}
@@ -15,8 +14,8 @@ use Rattle.promises.specs.Runs.{Beginning, fresh, answered, offered}
 
 -- the message that an event completes on its line; no bytes where it completes none
 abbrev pub completed_in : Option (List ℕ) → List ℕ
-completed_in none = []
-completed_in (some text) = text
+completed_in None = []
+completed_in (Some text) = text
 
 abbrev pub completed : State → ℕ → Kind → List ℕ
 completed s i k = completed_in (offered s i k)

@@ -1,6 +1,7 @@
 -- A strip reader's line: what each of its blocks is answered and what goes out then; and what the kept block is, over runs.
 -- Assumes nothing.
-use Rattle.std.specs.Prelude.{ℕ, ◌≡◌, true, false, List, [], ◌∷◌, ◌++◌, length, take}
+use Rattle.strips.specs.declared.Reply.{Reply}
+use Rattle.std.specs.Prelude.{ℕ, ◌≡◌, true, false, List, [], ◌∷◌, ◌++◌, length, take, Option}
 use Rattle.settings.specs.Settings.{results_length}
 use Rattle.settings.specs.declared.Patient.{Patient}
 use Rattle.settings.specs.declared.Dialogue.TheVariants.{Blocks}
@@ -13,7 +14,6 @@ use Rattle.finding.specs.Findings.{finding_of}
 use Rattle.strips.specs.Readers.{Memo, is_again}
 use Rattle.strips.specs.Replies.{reply_block}
 use Rattle.strips.specs.Sights.{sight_of}
-use Rattle.strips.specs.declared.Replied.{Replied}
 use Rattle.strips.specs.declared.Sight.TheVariants.{Judges}
 use Rattle.uploads.specs.Uploads.{block_bytes}
 use Rattle.looking.specs.Views.{frames_of}
@@ -55,7 +55,7 @@ number_for End = 11
 number_for Colours = 11
 number_for Results = 11
 
-abbrev pub out_for : Judged → Replied → List ℕ
+abbrev pub out_for : Judged → Option Reply → List ℕ
 out_for OddLength r = control_bytes rep
 out_for OddTest r = control_bytes rep
 out_for OddByte r = control_bytes rep

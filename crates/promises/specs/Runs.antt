@@ -1,7 +1,6 @@
 -- Runs from a beginning, and what is promised all along them.
 -- Assumes nothing.
-use Rattle.std.specs.Prelude.{ℕ, ◌+◌, ◌<◌, ◌≡◌, Bool, true, false, cond, not, ◌&&◌, List, eqb, length, get_or, replicate}
-use Rattle.std.proofs.Math.Option.{Option, none, some}
+use Rattle.std.specs.Prelude.{ℕ, ◌+◌, ◌<◌, ◌≡◌, Bool, true, false, cond, not, ◌&&◌, List, eqb, length, get_or, replicate, None, Option, Some}
 use Rattle.memory.specs.Sizes.{lines, journal_size, unfinished_size, frames_size}
 use Rattle.memory.specs.Tests.{between}
 use Rattle.header.specs.Header.{entry_size}
@@ -20,8 +19,6 @@ use Rattle.strips.specs.declared.Sight.{Sight}
 use Rattle.strips.specs.declared.Sight.TheVariants.{Ignores, Adds, Judges}
 use Rattle.uploads.specs.Uploads.{block_bytes}
 use Rattle.answers.specs.Paper.{ack, number_of, first_out}
-use Rattle.answers.specs.declared.Reply.{Reply}
-use Rattle.answers.specs.declared.Reply.TheVariants.{Silence, Byte as Sent}
 use Rattle.looking.specs.Views.{frames_of, texts_of, joined_text}
 use Rattle.looking.specs.Looks.{look_of}
 use Rattle.receiving.specs.Steps.{Memory}
@@ -59,12 +56,12 @@ standard_beginning m = record { settings = replicate lines standard_settings; me
 abbrev pub answered : Response → ℕ
 answered t = number_of t.answer
 
-abbrev pub replied : Response → Reply
+abbrev pub replied : Response → Option ℕ
 replied t = first_out t.answer
 
-abbrev pub is_ack : Reply → Bool
-is_ack Silence = false
-is_ack (Sent b) = eqb b ack
+abbrev pub is_ack : Option ℕ → Bool
+is_ack None = false
+is_ack (Some b) = eqb b ack
 
 -- whether a number speaks of damage, that is of memory, a record or a journal that no run leaves: 41, 42, 43
 abbrev pub is_damage : ℕ → Bool
@@ -72,8 +69,8 @@ is_damage n = between 41 43 n
 
 -- the text that a look at a line of frames completes: n bytes of its frame behind the line's text; none where it completes none
 abbrev pub offered_by : State → ℕ → Look → Option (List ℕ)
-offered_by s i (Done v) = none
-offered_by s i (Decides n) = some (joined_text (line_at s.gateway i) n (texts_of i s.memory.unfinished) (frames_of i s.memory.frames))
+offered_by s i (Done v) = None
+offered_by s i (Decides n) = Some (joined_text (line_at s.gateway i) n (texts_of i s.memory.unfinished) (frames_of i s.memory.frames))
 
 -- on a reader's line a block with results that is right and is no repeat of the last stored one is wanted [B9, B10]
 abbrev pub is_results : Judged → Bool
@@ -91,13 +88,13 @@ is_wanted p w bs = is_results (judged_of p bs) && not (is_again w bs)
 
 -- and its finding is the text that the byte which ends it completes [B9]
 abbrev pub offered_at : Patient → Memo → List ℕ → Sight → Option (List ℕ)
-offered_at p w bs Ignores = none
-offered_at p w bs Adds = none
-offered_at p w bs Judges = cond (is_wanted p w bs) (some (finding_of p bs)) none
+offered_at p w bs Ignores = None
+offered_at p w bs Adds = None
+offered_at p w bs Judges = cond (is_wanted p w bs) (Some (finding_of p bs)) None
 
 abbrev pub offered_in : Patient → Line → Memo → List ℕ → Kind → Option (List ℕ)
 offered_in p l w frames (Byte b) = offered_at p w (block_bytes l b frames) (sight_of p l b)
-offered_in p l w frames (Seconds n) = none
+offered_in p l w frames (Seconds n) = None
 
 -- the text that an event completes on its line, by what that speaks
 abbrev pub offered : State → ℕ → Kind → Option (List ℕ)
@@ -109,7 +106,7 @@ offered s i k =
 -- the event completes a message on its line, and the message's length is such a one
 pub record Completes (s : State) (i : ℕ) (k : Kind) (Such : ℕ → Type 0) : Type 0 where
   pub text : List ℕ
-  pub complete : offered s i k ≡ some text
+  pub complete : offered s i k ≡ Some text
   pub such : Such (length text)
 
 -- the bytes that line i uses, and would use with a text of n bytes: the header is counted

@@ -1,7 +1,6 @@
 -- Messages that are cut into frames and sent on one line: the bytes, their answers, and what is stored.
 -- Assumes nothing.
-use Rattle.std.specs.Prelude.{ℕ, ◌+◌, ◌≤◌, ◌<◌, ◌≡◌, ◌≢◌, true, List, [], ◌∷◌, ◌++◌, map, length, get_or, replicate}
-use Rattle.std.proofs.Math.Option.{some}
+use Rattle.std.specs.Prelude.{ℕ, ◌+◌, ◌≤◌, ◌<◌, ◌≡◌, ◌≢◌, true, List, [], ◌∷◌, ◌++◌, map, length, get_or, replicate, Some}
 use Rattle.memory.specs.Sizes.{lines, frame_limit, journal_size, unfinished_size, frames_size}
 use Rattle.memory.specs.Parts.{splice}
 use Rattle.digits.specs.Number.{first_number}
@@ -105,7 +104,7 @@ pub record Intact (s : State) : Type 0 where
   pub lines_serials : length s.gateway.ledger.serials ≡ lines
   pub serials : (i : ℕ) → i < lines → get_or s.gateway.ledger.serials i 0 < serial_count
   pub entries : List Entry
-  pub whole : chain s.gateway.ledger s.memory.journal ≡ some entries
+  pub whole : chain s.gateway.ledger s.memory.journal ≡ Some entries
 
 -- the bytes bs on line i, from a state whose journal holds the entries es, get these answers; the journal then holds es and, behind them, one entry for each of
 -- the texts ms; and every other line has what it had [P4]

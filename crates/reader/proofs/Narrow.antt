@@ -1,8 +1,8 @@
 -- After a taking the bytes in use are still a number of 32 bits.
 -- Assumes nothing.
+use Rattle.std.specs.Prelude.{None, Option, Some}
 use mathlib.Core.Bool.{Bool, true, false}
 use mathlib.Core.List.{List, [], ◌∷◌}
-use mathlib.Core.Option.{Option, none, some}
 use Prim.Native.Nat.{ℕ}
 use native.Mathlib.Omega.{arith}
 use lib.Dec.{ltb, leb, eqb}
@@ -34,8 +34,8 @@ module _ (d : Ledger) (i : ℕ) (j b : List ℕ) (w : Narrow d) where
   oldest_narrow at (e ∷ es) = at_narrow at e
 
   from_narrow : (o : Option (List Entry)) → Narrow (take_from d i o j b).taking.ledger
-  from_narrow none = w
-  from_narrow (some es) = oldest_narrow (sizes (before i es)) (from i es)
+  from_narrow None = w
+  from_narrow (Some es) = oldest_narrow (sizes (before i es)) (from i es)
 
   pub taking_narrow : Narrow (take_of d i j b).taking.ledger
   unfolding take_of

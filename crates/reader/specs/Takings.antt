@@ -1,10 +1,10 @@
 -- What a taking leaves of what a host keeps, over plain numbers.
 -- Assumes nothing.
-use Rattle.std.specs.Prelude.{ℕ, ◌≡◌, List, ltb}
+use Rattle.journal.specs.declared.NotTaken.{NotTaken}
+use Rattle.std.specs.Prelude.{ℕ, ◌≡◌, List, ltb, Err, Ok, Result}
 use Rattle.memory.specs.Sizes.{lines}
 use Rattle.memory.specs.Tests.{unless}
 use Rattle.journal.specs.Removal.{AfterTaking, take_of}
-use Rattle.journal.specs.declared.Took.{Took}
 use Rattle.answers.specs.Paper.{number_of}
 use Rattle.answers.specs.declared.Answer.{Answer}
 use Rattle.taking.specs.Taking.{took_answer}
@@ -13,13 +13,9 @@ use Rattle.answers.specs.InNumbers.{in_numbers}
 use Rattle.answers.specs.declared.Answered.{Answered}
 
 -- the answer to a taking: for 8 the text's length and the serial [H5]
-unfoldable pub taking_in_numbers : Took → Answered
-taking_in_numbers (Took.Taken n serial) = record { number = number_of (Answer.Taken n serial); reply = 0; serial = serial; place = 0; digits = 0; length = n }
-taking_in_numbers Took.NothingWaiting = in_numbers (took_answer Took.NothingWaiting)
-taking_in_numbers Took.BufferShort = in_numbers (took_answer Took.BufferShort)
-taking_in_numbers Took.Broken = in_numbers (took_answer Took.Broken)
-taking_in_numbers Took.NoLine = in_numbers (took_answer Took.NoLine)
-taking_in_numbers Took.WrongSize = in_numbers (took_answer Took.WrongSize)
+unfoldable pub taking_in_numbers : Result (ℕ × ℕ) NotTaken → Answered
+taking_in_numbers (Ok (n, serial)) = record { number = number_of (Answer.Taken n serial); reply = 0; serial = serial; place = 0; digits = 0; length = n }
+taking_in_numbers (Err e) = in_numbers (took_answer (Err e))
 
 -- what a taking may write; the lines' numbers it only reads
 pub record TakeState : Type 0 where

@@ -5,7 +5,7 @@ ghost use Rattle.std.specs.Prelude.{◌≡◌};
 ghost use Rattle.reader.specs.Takings.{Taken, taking_in_numbers};
 
 use answers::{Answer, Answered};
-use journal::Took;
+use journal::NotTaken;
 use layout::{COUNTS, NUMBERS};
 
 // An entry taken, the only answer with values.
@@ -36,11 +36,12 @@ pub fn take(
 }
 
 // The answer to a taking; only 8 has values.
-fn taking_in_numbers(took: Took) -> Answered
+#[tactic(auto, unfolding(crate::specs::Takings::taking_in_numbers))]
+fn taking_in_numbers(took: Result<(usize, u16), NotTaken>) -> Answered
     ensures { result ≡ taking_in_numbers took }
 {
     match took {
-        Took::Taken(length, serial) => Answered {
+        Ok((length, serial)) => Answered {
             number: TAKEN,
             reply: 0,
             serial,
@@ -48,10 +49,6 @@ fn taking_in_numbers(took: Took) -> Answered
             digits: 0,
             length,
         },
-        Took::NothingWaiting => answers::in_numbers(taking::answer_to(took)),
-        Took::BufferShort => answers::in_numbers(taking::answer_to(took)),
-        Took::Broken => answers::in_numbers(taking::answer_to(took)),
-        Took::NoLine => answers::in_numbers(taking::answer_to(took)),
-        Took::WrongSize => answers::in_numbers(taking::answer_to(took)),
+        Err(_) => answers::in_numbers(taking::answer_to(took)),
     }
 }

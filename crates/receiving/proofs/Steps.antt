@@ -1,5 +1,6 @@
 -- What each way out of an event on its line alone says, and of the tests before a text is decided.
 -- Assumes nothing.
+use Rattle.std.specs.Prelude.{Err, Ok}
 use mathlib.Core.Path.{◌≡◌, refl, sym, ap, subst, ◌∙◌}
 use mathlib.Core.Bool.{Bool, true, false, ◌&&◌}
 use mathlib.Core.List.{List}
@@ -26,8 +27,6 @@ use Rattle.looking.specs.Inner.Fitting.{TextFits}
 use Rattle.receiving.specs.Verdicts.{decided, own_work, verdict_of}
 use Rattle.receiving.specs.Settled.{line_after, texts_after, frames_after}
 use Rattle.receiving.specs.Inner.Settled.{Settled}
-use Rattle.receiving.specs.declared.Tested.{Tested}
-use Rattle.receiving.specs.declared.Tested.TheVariants.{Refused}
 use Rattle.receiving.specs.Steps.{Memory, settle, step_of, memory_of, Stepping}
 use Rattle.receiving.specs.Alone.{line_alone, texts_alone, frames_alone, SteppingAlone}
 use Rattle.receiving.specs.Closing.{test_of}
@@ -118,24 +117,24 @@ module _ (l : Line) (d : Ledger) (e : Event) (j u f : List ℕ) where
       (k, t.unfinished ∙ ap (λ (x : Look). texts_alone x l e.line u f) k, t.frames ∙ ap (λ (x : Look). frames_alone x e.kind l e.line f) k)
 
 -- what has passed the tests: the line is ready and the text fits
-pub tested_ready : (l : Line) (e : Event) (n : ℕ) (j : ℕ) (u f : List ℕ) → test_of l e.line n j (length u) (length f) ≡ Tested.Ready → Ready l e.line u f × TextFits l n
+pub tested_ready : (l : Line) (e : Event) (n : ℕ) (j : ℕ) (u f : List ℕ) → test_of l e.line n j (length u) (length f) ≡ Ok tt → Ready l e.line u f × TextFits l n
 unfolding test_of
 tested_ready l e n j u f h = by_line_law (ltb e.line lines) refl h
   where
-    by_limits : (b : Bool) → within_limits l && text_fits l n ≡ b → e.line < lines → right_lengths j (length u) (length f) ≡ true → unless b (Refused BeyondLimits) Tested.Ready ≡ Tested.Ready → Ready l e.line u f × TextFits l n
+    by_limits : (b : Bool) → within_limits l && text_fits l n ≡ b → e.line < lines → right_lengths j (length u) (length f) ≡ true → unless b (Err BeyondLimits) (Ok (tt {0})) ≡ Ok tt → Ready l e.line u f × TextFits l n
     by_limits true w p k h = (ready l e j u f p k (and_left (within_limits l) (text_fits l n) w), test_fits l n (and_right (within_limits l) (text_fits l n) w))
     by_limits false w p k h = let z : ◌≡◌ {A = ℕ} 0 1 = cc in absurd (omega arith)
 
-    by_sizes : (b : Bool) → right_lengths j (length u) (length f) ≡ b → e.line < lines → unless b (Refused WrongSize) (unless (within_limits l && text_fits l n) (Refused BeyondLimits) Tested.Ready) ≡ Tested.Ready → Ready l e.line u f × TextFits l n
+    by_sizes : (b : Bool) → right_lengths j (length u) (length f) ≡ b → e.line < lines → unless b (Err WrongSize) (unless (within_limits l && text_fits l n) (Err BeyondLimits) (Ok (tt {0}))) ≡ Ok tt → Ready l e.line u f × TextFits l n
     by_sizes true k p h = by_limits (within_limits l && text_fits l n) refl p k h
     by_sizes false k p h = let z : ◌≡◌ {A = ℕ} 0 1 = cc in absurd (omega arith)
 
-    by_line_law : (b : Bool) → ltb e.line lines ≡ b → unless b (Refused NoLine) (unless (right_lengths j (length u) (length f)) (Refused WrongSize) (unless (within_limits l && text_fits l n) (Refused BeyondLimits) Tested.Ready)) ≡ Tested.Ready → Ready l e.line u f × TextFits l n
+    by_line_law : (b : Bool) → ltb e.line lines ≡ b → unless b (Err NoLine) (unless (right_lengths j (length u) (length f)) (Err WrongSize) (unless (within_limits l && text_fits l n) (Err BeyondLimits) (Ok (tt {0})))) ≡ Ok tt → Ready l e.line u f × TextFits l n
     by_line_law true p h = by_sizes (right_lengths j (length u) (length f)) refl (ltb-true e.line lines p) h
     by_line_law false p h = let z : ◌≡◌ {A = ℕ} 0 1 = cc in absurd (omega arith)
 
 -- and a line that is ready, with a text that fits, passes them
-pub ready_tested : (l : Line) (i n : ℕ) (u f : List ℕ) → Ready l i u f → TextFits l n → test_of l i n journal_size (length u) (length f) ≡ Tested.Ready
+pub ready_tested : (l : Line) (i n : ℕ) (u f : List ℕ) → Ready l i u f → TextFits l n → test_of l i n journal_size (length u) (length f) ≡ Ok tt
 unfolding test_of
 ready_tested l i n u f r t =
     rw (lt-ltb i lines r.line, eq-eqb (length u) unfinished_size r.texts, eq-eqb (length f) frames_size r.bytes, r.within, fits_test l n t)

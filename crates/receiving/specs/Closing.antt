@@ -1,6 +1,7 @@
 -- The line of a text that was decided: the row of the text's fate.
 -- Assumes nothing.
-use Rattle.std.specs.Prelude.{ℕ, ◌≡◌, ◌&&◌, ltb, length}
+use Rattle.answers.specs.declared.Answer.{Answer}
+use Rattle.std.specs.Prelude.{ℕ, ◌≡◌, ◌&&◌, ltb, length, Err, Ok, Result}
 use Rattle.memory.specs.Sizes.{lines, journal_size}
 use Rattle.memory.specs.Tests.{unless}
 use Rattle.line.specs.Line.{within_limits}
@@ -15,21 +16,19 @@ use Rattle.deciding.specs.declared.Fate.{Fate}
 use Rattle.receiving.specs.Verdicts.{fate_act}
 use Rattle.receiving.specs.Settled.{line_after, frames_after, texts_after}
 use Rattle.receiving.specs.Alone.{AloneMemory}
-use Rattle.receiving.specs.declared.Tested.{Tested}
-use Rattle.receiving.specs.declared.Tested.TheVariants.{Refused}
 
 -- 40, 41 and 42 of an event that is to complete a text with n bytes of its frame, by the lengths of what is lent: more bytes than the line has, or has room for, are beyond its limits
-unfoldable pub test_of : Line → ℕ → ℕ → ℕ → ℕ → ℕ → Tested
+unfoldable pub test_of : Line → ℕ → ℕ → ℕ → ℕ → ℕ → Result (Unit {0}) Answer
 test_of l i n journal unfinished frames =
-    unless (ltb i lines) (Refused NoLine)
-    (unless (right_lengths journal unfinished frames) (Refused WrongSize)
-    (unless (within_limits l && text_fits l n) (Refused BeyondLimits)
-    Tested.Ready))
+    unless (ltb i lines) (Err NoLine)
+    (unless (right_lengths journal unfinished frames) (Err WrongSize)
+    (unless (within_limits l && text_fits l n) (Err BeyondLimits)
+    (Ok tt)))
 
 -- the row of the text's fate; where one of the three is answered, everything is left as it was
-abbrev pub closing_act : Tested → Fate → ℕ → Act
-closing_act Tested.Ready fate n = fate_act fate n
-closing_act (Refused a) fate n = Leave
+abbrev pub closing_act : Result (Unit {0}) Answer → Fate → ℕ → Act
+closing_act (Ok tt) fate n = fate_act fate n
+closing_act (Err a) fate n = Leave
 
 pub record ClosedBy (a : Act) (l : Line) (e : Event) (m : AloneMemory) (r : Line) (m' : AloneMemory) : Type 0 where
   pub line : r ≡ line_after a l

@@ -1,7 +1,6 @@
 -- What is left after an act: `row_of` says it row by row, and what stands below reads the rows.
 -- Assumes nothing.
-use Rattle.std.specs.Prelude.{ℕ, ◌+◌, Bool, true, false, cond, List, length, set}
-use Rattle.std.proofs.Math.Option.{Option, none, some}
+use Rattle.std.specs.Prelude.{ℕ, ◌+◌, Bool, true, false, cond, List, length, set, None, Option, Some}
 use Rattle.memory.specs.Parts.{splice}
 use Rattle.journal.specs.Storage.{grown, appended}
 use Rattle.journal.specs.declared.Ledger.{Ledger}
@@ -27,29 +26,29 @@ pub record Row : Type 0 where
 -- the rows, one for each act
 abbrev pub row_of : Act → Row
 -- an ignored event (0), 20 and 40 to 43: nothing changes [L1]
-row_of Leave = record { line = λ l. l; adds = false; writes = none; stores = false }
+row_of Leave = record { line = λ l. l; adds = false; writes = None; stores = false }
 -- 1: the line waits; its counts are 0, its next number is 1, it has no last number and does not refuse [L5]
-row_of Open = record { line = opened_line; adds = false; writes = none; stores = false }
+row_of Open = record { line = opened_line; adds = false; writes = None; stores = false }
 -- 5, 6 and 7, our EOT (9) and 61: the same, but the line is neutral [L6, L15]
-row_of Close = record { line = closed_line; adds = false; writes = none; stores = false }
+row_of Close = record { line = closed_line; adds = false; writes = None; stores = false }
 -- STX (0): the line is inside a frame, and nothing else changes [L4]
-row_of Begin = record { line = begun_line; adds = false; writes = none; stores = false }
+row_of Begin = record { line = begun_line; adds = false; writes = None; stores = false }
 -- seconds (0): n are counted now [L3]
-row_of (Count n) = record { line = λ l. counted_line l n; adds = false; writes = none; stores = false }
+row_of (Count n) = record { line = λ l. counted_line l n; adds = false; writes = None; stores = false }
 -- a collected byte (0): it is added, and counted [L2]
-row_of Collect = record { line = λ l. collected_line l (l.collected + 1); adds = true; writes = none; stores = false }
+row_of Collect = record { line = λ l. collected_line l (l.collected + 1); adds = true; writes = None; stores = false }
 -- 3 and 21 to 29, as every judged frame: its last byte is added, and the line waits with nothing collected and no seconds [L7]
-row_of Refuse = record { line = waiting_line; adds = true; writes = none; stores = false }
+row_of Refuse = record { line = waiting_line; adds = true; writes = None; stores = false }
 -- 2: besides, the n bytes of the frame's text are written and counted as joined; the number advances [L8]
-row_of (Accept n) = record { line = λ l. accepted_line l (l.joined + n); adds = true; writes = some n; stores = false }
+row_of (Accept n) = record { line = λ l. accepted_line l (l.joined + n); adds = true; writes = Some n; stores = false }
 -- 4: besides, they are written and the whole text is stored; nothing is joined any more; the number advances [F9, L9]
-row_of (Store n) = record { line = λ l. accepted_line l 0; adds = true; writes = some n; stores = true }
+row_of (Store n) = record { line = λ l. accepted_line l 0; adds = true; writes = Some n; stores = true }
 -- 30, 31 and faults: besides, they are written; nothing is joined any more; the line refuses [L10]
-row_of (Object n) = record { line = refusing_line; adds = true; writes = some n; stores = false }
+row_of (Object n) = record { line = refusing_line; adds = true; writes = Some n; stores = false }
 -- 9, where a sending waits on: n seconds are counted now [L14]
-row_of (Await n) = record { line = λ l. counted_line l n; adds = false; writes = none; stores = false }
+row_of (Await n) = record { line = λ l. counted_line l n; adds = false; writes = None; stores = false }
 -- 9, where something is sent or the pause begins: the sending is so far, with the number of its frame, and no seconds [L14]
-row_of (Go s n) = record { line = λ l. gone_line l s n; adds = false; writes = none; stores = false }
+row_of (Go s n) = record { line = λ l. gone_line l s n; adds = false; writes = None; stores = false }
 
 -- the line's record
 abbrev pub line_after : Act → Line → Line
@@ -65,8 +64,8 @@ frames_after a k l i frames = cond (row_of a).adds (with_byte k l i frames) fram
 
 -- what a row that writes makes of something by the length of the frame's text; the others leave it
 abbrev pub by_length : {A : Type 0} → Option ℕ → A → (ℕ → A) → A
-by_length none old new = old
-by_length (some n) old new = new n
+by_length None old new = old
+by_length (Some n) old new = new n
 
 -- the unfinished texts: the frame's text is written behind the line's joined one [L8, L11]
 abbrev pub with_text : Line → ℕ → ℕ → List ℕ → List ℕ → List ℕ

@@ -41,27 +41,18 @@ pub fn step_alone(
         (record { unfinished = unfinished.entry.now; frames = frames.old })
         result (record { unfinished = unfinished.exit.now; frames = frames.new }) }
 {
-    let i = e.line as usize;
-    let kind = e.kind;
     let look = looking::look_alone(line, e, journal, unfinished, frames);
     match look {
         Look::Done(v) => {
-            let act = v.act;
-            let after = settling::settle(line, i, kind, act, unfinished, frames);
-            Alone { line: after, look }
+            let line = settling::settle(line, e.line as usize, e.kind, v.act, unfinished, frames);
+            Alone { line, look }
         }
         Look::Decides(_) => Alone { line, look },
     }
 }
 
-// What 40, 41 and 42 say of an event that is to complete a text.
-#[derive(Clone, Copy)]
-pub enum Tested {
-    Ready,
-    Refused(Answer),
-}
-
 // An event that is to complete a text with n bytes of its frame: 40, 41, and 42, where more bytes than the line has of the frame, or has room for, are beyond its limits too.
+#[tactic(auto, unfolding(crate::specs::Closing::test_of))]
 pub fn test(
     line: Line,
     i: usize,
@@ -69,22 +60,19 @@ pub fn test(
     journal: usize,
     unfinished: usize,
     frames: usize,
-) -> Tested
+) -> Result<(), Answer>
     ensures { result ≡ test_of line i n journal unfinished frames }
 {
     if memory::LINES <= i {
-        return Tested::Refused(Answer::NoLine);
+        return Err(Answer::NoLine);
     }
     if !looking::are_right(journal, unfinished, frames) {
-        return Tested::Refused(Answer::WrongSize);
+        return Err(Answer::WrongSize);
     }
-    if !line.is_within_limits() {
-        return Tested::Refused(Answer::BeyondLimits);
+    if !line.is_within_limits() || !testing::fits(line, n) {
+        return Err(Answer::BeyondLimits);
     }
-    if !testing::fits(line, n) {
-        return Tested::Refused(Answer::BeyondLimits);
-    }
-    Tested::Ready
+    Ok(())
 }
 
 // The line of a text that was decided, with n bytes of its frame: the row of the text's fate. An event that 40, 41 or 42 refuses leaves everything as it was.
@@ -101,7 +89,6 @@ pub fn close(
         result (record { unfinished = unfinished.exit.now; frames = frames.new }) }
 {
     let i = e.line as usize;
-    let kind = e.kind;
     match test(
         line,
         i,
@@ -110,7 +97,7 @@ pub fn close(
         unfinished.len(),
         frames.len(),
     ) {
-        Tested::Ready => settling::close(line, i, kind, n, fate, unfinished, frames),
-        Tested::Refused(_) => line,
+        Ok(()) => settling::close(line, i, e.kind, n, fate, unfinished, frames),
+        Err(_) => line,
     }
 }

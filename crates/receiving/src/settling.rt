@@ -112,12 +112,8 @@ fn add_byte(line: Line, i: usize, kind: Kind, frames: &mut [u8])
     requires { (i < lines) × (within_limits line ≡ true) × (length frames.old ≡ frames_size) }
     ensures { frames.new ≡ with_byte kind line i frames.old }
 {
-    match kind {
-        Kind::Byte(b) => {
-            let at = i * memory::FRAME_PART + line.collected as usize;
-            frames[at] = b;
-        }
-        Kind::Seconds(_) => {}
+    if let Kind::Byte(b) = kind {
+        frames[i * memory::FRAME_PART + line.collected as usize] = b;
     }
 }
 

@@ -10,14 +10,7 @@ pub fn fits(line: Line, n: usize) -> bool
     requires { within_limits line ≡ true }
     ensures { result ≡ text_fits line n }
 {
-    if (line.collected as usize) < 5 {
-        return false;
-    }
-    if line.collected as usize - 5 < n {
-        return false;
-    }
-    if memory::MESSAGE_LIMIT - (line.joined as usize) < n {
-        return false;
-    }
-    true
+    line.collected >= 5
+        && n <= line.collected as usize - 5
+        && line.joined as usize + n <= memory::MESSAGE_LIMIT
 }

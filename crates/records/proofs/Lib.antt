@@ -6,3 +6,4 @@ pub mod TwoPieces
 pub mod Endings
 pub mod Joined
 pub mod OneOutcome
+pub mod Finds

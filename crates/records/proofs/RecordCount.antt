@@ -1,13 +1,13 @@
 -- The CRs of a text as a loop counts them, and the number of records that they tell.
 -- Assumes nothing.
-use mathlib.Core.Path.{◌≡◌, refl, ap, ◌∙◌}
+use mathlib.Core.Path.{◌≡◌, refl, ap}
 use mathlib.Core.Bool.{Bool, true, false, cond}
-use mathlib.Core.List.{List, [], ◌∷◌}
-use Prim.Native.Nat.{ℕ, zero, suc, ◌+◌, ◌-◌, ◌<◌, ◌≤◌}
+use mathlib.Core.List.{List, [], ◌∷◌, ◌++◌}
+use Prim.Native.Nat.{ℕ, suc, ◌+◌, ◌-◌, ◌<◌, ◌≤◌}
 use native.Mathlib.Omega.{arith}
 use native.Mathlib.Numerals.{add-one, unary_clauses}
-use lib.ListN.{length, get_or, take, drop, drop_of_length-le}
-use lib.Seq.{drop-cons, drop-drop}
+use lib.ListN.{length, get_or, drop, drop_of_length-le}
+use lib.Seq.{drop-cons}
 use borrow.Author.Tests.{eq-eqb, ne_eqb}
 use Rattle.memory.specs.Tests.{is, count}
 use Rattle.characters.specs.Control.{cr}
@@ -36,23 +36,18 @@ count_le p (x ∷ s) = by_first (p x) (count_le p s)
     by_first true h = omega arith
     by_first false h = omega arith
 
--- the first k bytes, and those behind them
-count_split : (p : ℕ → Bool) (k : ℕ) (s : List ℕ) → count p s ≡ count p (take k s) + count p (drop k s)
-count_split p zero s = omega arith
-count_split p (suc k) [] = refl
-count_split p (suc k) (x ∷ s) = by_first (p x) (count_split p k s)
+count_append : (p : ℕ → Bool) (s t : List ℕ) → count p (s ++ t) ≡ count p s + count p t
+count_append p [] t = omega arith
+count_append p (x ∷ s) t = by_first (p x) (count_append p s t)
   where
-    by_first : (b : Bool) → count p s ≡ count p (take k s) + count p (drop k s)
-        → cond b (suc (count p s)) (count p s) ≡ cond b (suc (count p (take k s))) (count p (take k s)) + count p (drop k s)
+    by_first : (b : Bool) → count p (s ++ t) ≡ count p s + count p t
+        → cond b (suc (count p (s ++ t))) (count p (s ++ t)) ≡ cond b (suc (count p s)) (count p s) + count p t
     by_first true e = omega arith
     by_first false e = omega arith
 
--- from a place on: the part up to another place, and what stands behind it
-pub count_part : (p : ℕ → Bool) (s : List ℕ) (at end : ℕ) → at ≤ end → count p (drop at s) ≡ count p (take (end - at) (drop at s)) + count p (drop end s)
-count_part p s at end h =
-    let e : at + (end - at) ≡ end = omega arith in
-    let d : drop (end - at) (drop at s) ≡ drop end s = drop-drop (end - at) at s ∙ rw e in
-    rw d at (count_split p (end - at) (drop at s))
+-- a block of what is left is counted
+pub count_block : (p : ℕ → Bool) (n k : ℕ) (block rest : List ℕ) {t : ℕ} {left : List ℕ} → n + count p left ≡ t → left ≡ block ++ rest → k ≡ count p block → n + k + count p rest ≡ t
+count_block p n k block rest e f g = let z = rw (f, count_append p block rest) at e in omega (arith, z, g)
 
 -- a byte in front of a text that is not empty adds no record, unless it is a CR
 onto_length : (b : ℕ) (rs : List (List ℕ)) → 0 < length rs → length (onto b rs) ≡ length rs

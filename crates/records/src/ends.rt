@@ -12,12 +12,9 @@ fn count_block(text: &[u8]) -> u8
     requires { length text.now ≤ 255 }
     ensures { result ≡ count (is cr) text.now }
 {
-    let mut i: usize = 0;
     let mut n: u8 = 0;
-    while i < text.len() {
-        let b = text[i];
-        i += 1;
-        if b == CR {
+    for b in text {
+        if *b == CR {
             n += 1;
         }
     }
@@ -28,14 +25,9 @@ fn count_block(text: &[u8]) -> u8
 pub fn count(text: &[u8]) -> usize
     ensures { result ≡ count (is cr) text.now }
 {
-    let mut at: usize = 0;
     let mut n: usize = 0;
-    while BLOCK <= text.len() - at {
-        let end = at + BLOCK;
-        let k = count_block(&text[at..end]);
-        n = n + k as usize;
-        at = end;
+    for block in text.chunks(BLOCK) {
+        n += count_block(block) as usize;
     }
-    let k = count_block(&text[at..]);
-    n + k as usize
+    n
 }

@@ -11,12 +11,10 @@ use characters::CR;
 fn last_start(text: &[u8]) -> usize
     ensures { result ≡ last_start text.now }
 {
-    let mut i = text.len();
-    while 0 < i {
-        if text[i - 1] == CR {
-            return i;
+    for i in (0..text.len()).rev() {
+        if text[i] == CR {
+            return i + 1;
         }
-        i -= 1;
     }
     0
 }

@@ -10,18 +10,11 @@ use characters::CR;
 mod ends; // ends.rt: how many records of a text are ended
 mod last; // last.rt: the last record of a text
 
-// The index of the first byte b, or the length where there is none.
+// The index of the first byte b, or the length where there is none. No option: what is cut off there is the whole text then.
 pub fn index_of(text: &[u8], b: u8) -> usize
     ensures { result ≡ find (is b) text.now }
 {
-    let mut i: usize = 0;
-    while i < text.len() {
-        if text[i] == b {
-            return i;
-        }
-        i += 1;
-    }
-    i
+    text.iter().position(|x| *x == b).unwrap_or(text.len())
 }
 
 // The number of records; bytes behind the last CR count as one.

@@ -1,8 +1,7 @@
 -- What a read brings is the next piece of the trace, and the same is due behind it.
 -- Assumes nothing.
 use Rattle.std.proofs.Common.{ℕ, zero, suc, ◌+◌, ◌-◌, ◌≤◌, ◌<◌, ◌≡◌, true, Option, Some, None, List, [], ◌++◌, length, take, drop, min, max, refl, sym, ap, subst, ◌∙◌, arith, length-take, length-drop, take-append-drop}
-use lib.Seq.{take_at, drop_at, drop-drop, take-append-le}
-use borrow.Rule.Slice.PartMut.{put_mid, same_len_mid, take_put}
+use lib.Seq.{take_at, take-nil, drop_at, drop-drop}
 use Rattle.std.specs.Io.KnownBytes.{Consumes, IsAtEnd}
 use Rattle.memory.specs.Parts.{splice}
 use Rattle.replaying.specs.Desk.{Desk}
@@ -29,10 +28,6 @@ given_some : (n room : ℕ) (piece rest : List ℕ) → 0 < n → n ≤ room →
 given_some n room piece rest h i e =
     let all : max 1 (min n room) ≡ n = omega arith in
     rw all (take_at piece rest n e)
-
-take_none : (k : ℕ) → take {A = ℕ} k [] ≡ []
-take_none zero = refl
-take_none (suc k) = refl
 
 -- only one stage wants more
 pub wants_more : (stage : Stage) → wants stage ≡ true → stage ≡ Wants
@@ -105,7 +100,7 @@ module _ (k : Kept) (input out : List ℕ) (d : Desk) (f : Fine (stream_of k inp
       let none : s.rest' ≡ [] = at_end left' s.rest' s.known (b.ends e (omega (arith, w.1, f.long_input))) in
       let empty : piece ≡ [] = rw e in
       let all : rest ≡ [] = s.split ∙ ap (λ (x : List ℕ). x ++ s.rest') empty ∙ none in
-      rw (all, empty) (take_none (max 1 (min 0 (length filled - k.end))))
+      rw (all, empty) (take-nil (max 1 (min 0 (length filled - k.end))))
   came (suc m) e = rw s.split (given_some (suc m) (length filled - k.end) piece s.rest' (omega arith) (omega (arith, b.fits, e)) (piece_long ∙ e))
 
   -- what the read left is fed
@@ -135,26 +130,3 @@ module _ (k : Kept) (input out : List ℕ) (d : Desk) (f : Fine (stream_of k inp
             ∙ a.same;
         fewer = subst (λ (x : Stage). turns after (length s.rest') < turns_at x k.ended (k.end - k.from) (length rest)) (sym wanting) a.fewer;
       }
-
--- a read into what lies behind what waits
-module _ (k : Kept) (input buf : List ℕ) (left left' : Option (List ℕ)) (n : ℕ) (h : k.end ≤ length input) (long : length buf ≡ length input - k.end) where
-  abbrev tail : List ℕ
-  tail = drop (length input - k.end) (drop k.end input)
-
-  front_long : length (take k.end input) ≡ k.end
-  front_long = rw length-take (omega arith)
-
-  pub brings : n ≤ length buf → Consumes left left' (take n buf) → (n ≡ 0 → 0 < length buf → IsAtEnd left') → Brings k input left left' n (put_mid k.end (length input - k.end) input buf)
-  brings i c e = record {
-    long = same_length;
-    front = take_put k.end (length input - k.end) input buf h;
-    fits = omega (arith, same_length, i, long, h);
-    next = subst (λ (x : List ℕ). Consumes left left' x) (sym piece_same) c;
-    ends = λ z j. e z (omega (arith, j, long));
-  }
-    where
-      same_length : length (put_mid k.end (length input - k.end) input buf) ≡ length input
-      same_length = same_len_mid k.end (length input - k.end) input buf (long ∙ sym (rw (length-take, length-drop) (omega arith)))
-
-      piece_same : take n (drop k.end (put_mid k.end (length input - k.end) input buf)) ≡ take n buf
-      piece_same = ap (take n) (drop_at (take k.end input) (buf ++ tail) k.end front_long) ∙ take-append-le n buf tail i

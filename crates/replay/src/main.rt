@@ -27,15 +27,12 @@ fn main(rt: HostRuntime) {
         return;
     }
     let titled = has_argument(&rt, 2);
-    for i in 1..usize::MAX {
-        if !has_argument(&rt, i) {
-            return;
-        }
+    for i in (1..usize::MAX).take_while(|i| has_argument(&rt, *i)) {
         replay_argument(&rt, i, titled);
     }
 }
 
-// Whether the program was given an argument of this number.
+// Whether the program was given an argument of this number. `env::args` takes the heap, and refuses all for one that is not UTF-8.
 fn has_argument(rt: &impl Env, i: usize) -> bool {
     !matches!(rt.arg(i, &mut []), Err(FillError::NotPresent))
 }
@@ -82,11 +79,7 @@ fn list<T: Read, W: Write>(
         (Lists titled name.now (T.remaining trace.old) (W.contents listing.old) (W.contents listing.new)) }
 {
     let mut input = [0u8; INPUT];
-    match trace.read(&mut input) {
-        Ok(n) => {
-            writing::title(listing, name, titled)?;
-            turns::run(trace, listing, n, &mut input)
-        }
-        Err(error) => Err(Fault::Trace(error)),
-    }
+    let n = trace.read(&mut input).map_err(Fault::Trace)?;
+    writing::title(listing, name, titled)?;
+    turns::run(trace, listing, n, &mut input)
 }

@@ -6,6 +6,7 @@ ghost use Rattle.streaming.specs.Inner.Places.{LiesIn};
 ghost use Rattle.replay.specs.Inner.Passing.{Reads, Passes, WritesListing};
 
 use crate::writing;
+use replaying::Lent;
 use std::io;
 use std::io::{Read, Write};
 use streaming::Kept;
@@ -32,6 +33,7 @@ pub fn run<T: Read, W: Write>(
     ensures { OnOk result
         (WritesListing n input.old (T.remaining trace.old) (W.contents listing.old) (W.contents listing.new)) }
 {
+    // Arrays and no `Vec`: the replay runs in fixed memory, and lends it as hosts do.
     let mut out = [0u8; OUTPUT];
     let mut journal = [0u8; memory::JOURNAL_SIZE];
     let mut unfinished = [0u8; memory::UNFINISHED_SIZE];
@@ -40,19 +42,17 @@ pub fn run<T: Read, W: Write>(
     let mut numbers = [0u16; layout::NUMBERS];
     let mut counts = [0u32; layout::COUNTS];
     layout::fresh(&mut numbers, &mut counts);
+    let mut lent = Lent {
+        numbers: &mut numbers,
+        counts: &mut counts,
+        journal: &mut journal,
+        unfinished: &mut unfinished,
+        frames: &mut frames,
+        buffer: &mut buffer,
+    };
     let mut kept = streaming::begin(n);
     for _ in 0..u64::MAX {
-        kept = streaming::turn(
-            kept,
-            input,
-            &mut out,
-            &mut numbers,
-            &mut counts,
-            &mut journal,
-            &mut unfinished,
-            &mut frames,
-            &mut buffer,
-        );
+        kept = streaming::turn(kept, input, &mut out, &mut lent);
         kept = pass(trace, listing, kept, &out, input)?;
         if streaming::is_over(kept.stage) {
             return Ok(());
@@ -92,8 +92,6 @@ fn more<T: Read>(trace: &mut T, kept: Kept, input: &mut [u8]) -> Result<Kept, Fa
         Reads kept input.old (T.remaining trace.old) after input.new (T.remaining trace.new)) }
     ensures fault { IfErr result OfTrace }
 {
-    match trace.read(&mut input[kept.end..]) {
-        Ok(n) => Ok(streaming::feed(kept, n, input)),
-        Err(error) => Err(Fault::Trace(error)),
-    }
+    let n = trace.read(&mut input[kept.end..]).map_err(Fault::Trace)?;
+    Ok(streaming::feed(kept, n, input))
 }

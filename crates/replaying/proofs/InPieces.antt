@@ -1,5 +1,8 @@
 -- A trace replayed piece by piece has the listing of the whole, wherever the pieces are cut.
 -- Assumes nothing.
+use Rattle.std.specs.Prelude.{None, Option, Some}
+use Rattle.listing.specs.declared.Item.TheVariants.{Event, Taking}
+use Rattle.listing.specs.declared.Item.{Item}
 use Rattle.std.proofs.Common.{◌≡◌, ℕ, zero, suc, ◌+◌, ◌-◌, ◌<◌, ◌≤◌, Bool, true, false, ltb, leb, List, [], ◌∷◌, ◌++◌, length, take, drop, sym, refl, ap, ◌∙◌, true≢false, append_assoc, append-nil, add-zero, arith, length-append, length-drop, length-take, length-take-le, take_all, drop-drop, ltb-false, ltb-true, lt-ltb, le-leb}
 use lib.Seq.{take-append-le, drop-append-le}
 use Rattle.memory.specs.Parts.{splice}
@@ -8,8 +11,6 @@ use Rattle.memory.proofs.Parts.{length_splice, splice_nil, splice_join}
 use Rattle.memory.proofs.Tests.{find_le}
 use Rattle.listing.specs.Texts.{newline}
 use Rattle.listing.specs.Items.{item_of}
-use Rattle.listing.specs.declared.Item.{Item}
-use Rattle.listing.specs.declared.Item.TheVariants.{Event, Taking, NotAnEvent as NoItem}
 use Rattle.replaying.specs.Lines.{Next, Whole, Unended, first_line, next_of}
 use Rattle.replaying.specs.Desk.{row_room, Desk, Asked, event_asked, taking_asked}
 use Rattle.replaying.specs.Turns.{AfterTurn, stopped, row_of, acted, on_line, turn_of}
@@ -31,13 +32,13 @@ find_front p (x ∷ a) b h = by_first (p x) refl (λ e. find_front p a b (omega 
     by_first false e g = rw e (ap suc (g e))
 
 -- what a whole first line tells
-record FirstIs (text : List ℕ) (at : ℕ) (item : Item) (behind : ℕ) : Type 0 where
+record FirstIs (text : List ℕ) (at : ℕ) (item : Option Item) (behind : ℕ) : Type 0 where
   inside : find (is newline) text < length text
   asks : item ≡ item_of (take (find (is newline) text) text)
   ends : behind ≡ at + find (is newline) text + 1
 
-abbrev item_in : Next → Item
-item_in Unended = NoItem
+abbrev item_in : Next → Option Item
+item_in Unended = None
 item_in (Whole item behind) = item
 
 abbrev behind_in : Next → ℕ
@@ -48,7 +49,7 @@ abbrev is_whole : Next → Bool
 is_whole Unended = false
 is_whole (Whole item behind) = true
 
-first_is : (text : List ℕ) (at : ℕ) (item : Item) (behind : ℕ) → first_line text at ≡ Whole item behind → FirstIs text at item behind
+first_is : (text : List ℕ) (at : ℕ) (item : Option Item) (behind : ℕ) → first_line text at ≡ Whole item behind → FirstIs text at item behind
 unfolding first_line
 first_is text at item behind e = by_end (ltb (find (is newline) text) (length text)) refl e
   where
@@ -68,7 +69,7 @@ no_newline text at e = by_end (ltb (find (is newline) text) (length text)) refl 
     by_end false l q = omega (arith, find_le (is newline) text, ltb-false (find (is newline) text) (length text) l)
 
 -- and it is the first line of a longer text
-first_front : (text more : List ℕ) (at : ℕ) {item : Item} {behind : ℕ} → FirstIs text at item behind → first_line (text ++ more) 0 ≡ Whole item (0 + find (is newline) text + 1)
+first_front : (text more : List ℕ) (at : ℕ) {item : Option Item} {behind : ℕ} → FirstIs text at item behind → first_line (text ++ more) 0 ≡ Whole item (0 + find (is newline) text + 1)
 unfolding first_line
 first_front text more at f =
     let n = find (is newline) text in
@@ -80,10 +81,10 @@ first_front text more at f =
 shorter : (b : ℕ) (text : List ℕ) (m : ℕ) → 1 ≤ b → length text ≤ suc m → length (drop b text) ≤ m
 shorter b text m p h = rw length-drop (omega (arith, p, h))
 
-same_item : (item : Item) (text : List ℕ) (n : ℕ) (d : Desk) (go go' : Desk → Listed) → ((e : Desk) → go e ≡ go' e) → by_item item text n d go ≡ by_item item text n d go'
-same_item (Event e) text n d go go' q = ap (λ (l : Listed). in_front (row_of (following n) e.line (event_asked e d).answered) l) (q (event_asked e d).desk)
-same_item (Taking i k) text n d go go' q = ap (λ (l : Listed). in_front (row_of (following n) i (taking_asked i k d).answered) l) (q (taking_asked i k d).desk)
-same_item NoItem text n d go go' q = refl
+same_item : (item : Option Item) (text : List ℕ) (n : ℕ) (d : Desk) (go go' : Desk → Listed) → ((e : Desk) → go e ≡ go' e) → by_item item text n d go ≡ by_item item text n d go'
+same_item (Some (Event e)) text n d go go' q = ap (λ (l : Listed). in_front (row_of (following n) e.line (event_asked e d).answered) l) (q (event_asked e d).desk)
+same_item (Some (Taking i k)) text n d go go' q = ap (λ (l : Listed). in_front (row_of (following n) i (taking_asked i k d).answered) l) (q (taking_asked i k d).desk)
+same_item None text n d go go' q = refl
 
 empty_listed : (m : ℕ) (n : ℕ) (d : Desk) → listed m [] n d ≡ no_rows Input [] n d
 unfolding listed first_line
@@ -110,7 +111,7 @@ enough (suc m) (suc m') text n d h k = by_line_law (first_line text 0) refl (λ 
     by_line_law (Whole item behind) q g = same_item item text n d _ _ (λ e. g behind e (omega (arith, (first_is text 0 item behind q).ends)))
 
 -- a listing is its first row and the listing of what stands behind the line
-listing_step : (text : List ℕ) (item : Item) (behind n : ℕ) (d : Desk) → first_line text 0 ≡ Whole item behind
+listing_step : (text : List ℕ) (item : Option Item) (behind n : ℕ) (d : Desk) → first_line text 0 ≡ Whole item behind
     → listing_of text n d ≡ by_item item text n d (λ e. listing_of (drop behind text) (following n) e)
 unfolding listed
 listing_step text item behind n d q =
@@ -170,7 +171,7 @@ module _ (input : List ℕ) where
   carried NotAnEvent r at put out behind put' out' h k b = b
 
   -- a line that asks, and what the run behind it does
-  one_row : (at put : ℕ) (out : List ℕ) (n : ℕ) (d : Desk) (item : Item) (behind line : ℕ) (a : Asked) (r : AfterRun) → at ≤ length input → FirstIs (drop at input) at item behind
+  one_row : (at put : ℕ) (out : List ℕ) (n : ℕ) (d : Desk) (item : Option Item) (behind line : ℕ) (a : Asked) (r : AfterRun) → at ≤ length input → FirstIs (drop at input) at item behind
       → ((text : List ℕ) (go : Desk → Listed) → by_item item text n d go ≡ row_then (following n) line a go)
       → Goes r input behind (put + length (row_of (following n) line a.answered)) (splice out put (row_of (following n) line a.answered)) (following n) a.desk
       → Goes r input at put out n d
@@ -214,18 +215,18 @@ module _ (input : List ℕ) where
 
   module _ (most : ℕ) (at put : ℕ) (out : List ℕ) (n : ℕ) (d : Desk) (h : at ≤ length input) (k : length input ≤ at + suc most)
       (ih : (at put : ℕ) (out : List ℕ) (n : ℕ) (d : Desk) → at ≤ length input → length input ≤ at + most → Goes (run_of most input n at put out d) input at put out n d) where
-    reaches : {item : Item} {behind : ℕ} → FirstIs (drop at input) at item behind → behind ≤ length input
+    reaches : {item : Option Item} {behind : ℕ} → FirstIs (drop at input) at item behind → behind ≤ length input
     reaches f = omega (arith, f.ends, f.inside, length-drop at input, h)
 
-    fewer : {item : Item} {behind : ℕ} → FirstIs (drop at input) at item behind → length input ≤ behind + most
+    fewer : {item : Option Item} {behind : ℕ} → FirstIs (drop at input) at item behind → length input ≤ behind + most
     fewer f = omega (arith, f.ends, k)
 
-    on_item : (item : Item) (behind : ℕ) → FirstIs (drop at input) at item behind → Goes (after_turn most n at put (acted item (following n) behind out put d)) input at put out n d
-    on_item (Event e) behind f =
-        one_row at put out n d (Event e) behind e.line (event_asked e d) _ h f (λ text go. refl) (ih behind _ _ (following n) _ (reaches f) (fewer f))
-    on_item (Taking i m) behind f =
-        one_row at put out n d (Taking i m) behind i (taking_asked i m d) _ h f (λ text go. refl) (ih behind _ _ (following n) _ (reaches f) (fewer f))
-    on_item NoItem behind f = stays NotAnEvent at put out n d h (λ more. listing_step (drop at input ++ more) NoItem _ n d (first_front (drop at input) more at f))
+    on_item : (item : Option Item) (behind : ℕ) → FirstIs (drop at input) at item behind → Goes (after_turn most n at put (acted item (following n) behind out put d)) input at put out n d
+    on_item (Some (Event e)) behind f =
+        one_row at put out n d (Some (Event e)) behind e.line (event_asked e d) _ h f (λ text go. refl) (ih behind _ _ (following n) _ (reaches f) (fewer f))
+    on_item (Some (Taking i m)) behind f =
+        one_row at put out n d (Some (Taking i m)) behind i (taking_asked i m d) _ h f (λ text go. refl) (ih behind _ _ (following n) _ (reaches f) (fewer f))
+    on_item None behind f = stays NotAnEvent at put out n d h (λ more. listing_step (drop at input ++ more) None _ n d (first_front (drop at input) more at f))
 
     on_next : (x : Next) → next_of input at ≡ x → Goes (after_turn most n at put (on_line x (following n) out put d)) input at put out n d
     on_next Unended q = stays Input at put out n d h (no_newline (drop at input) at q)

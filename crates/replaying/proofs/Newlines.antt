@@ -1,26 +1,47 @@
 -- The next line: where it ends, and what it says.
 -- Assumes nothing.
-use Rattle.std.proofs.Common.{◌≡◌, ℕ, ◌+◌, ◌-◌, ◌<◌, ◌≤◌, Bool, true, false, not, ◌&&◌, ◌||◌, ltb, List, [], ◌∷◌, length, get_or, take, drop, sym, refl, subst, true≢false, arith, length-drop, take_all, ltb-true, le-ltb, lt-ltb}
+use Rattle.std.specs.Prelude.{None, Option, Some}
+use Rattle.listing.specs.declared.Item.{Item}
+use Rattle.std.proofs.Common.{◌≡◌, ℕ, ◌+◌, ◌<◌, ◌≤◌, Bool, true, false, not, ◌&&◌, ◌||◌, ltb, List, [], ◌∷◌, length, get_or, take, drop, sym, refl, ap, ◌∙◌, subst, true≢false, arith, length-drop, ltb-true, le-ltb, lt-ltb}
 use native.Mathlib.Decide.{ℕ_discrete, dec_le}
 use borrow.Author.Tests.{not-true}
 use Rattle.memory.specs.Tests.{is, find, unless}
 use Rattle.memory.proofs.Tests.{and_left, and_right, find_le}
 use Rattle.listing.specs.Texts.{newline}
 use Rattle.listing.specs.Items.{item_of}
-use Rattle.listing.specs.declared.Item.{Item}
 use Rattle.replaying.specs.Lines.{Next, Whole, Unended, first_line, next_of}
+use Rattle.replaying.specs.Inner.Asks.{line_length}
 use Rattle.replaying.specs.Inner.Usual.{usual, has_newline, is_usual}
 
-module _ (text : List ℕ) (at : ℕ) where
-  -- no newline in it
-  pub unended : find (is newline) text ≡ length text → Unended ≡ first_line text at
-  unfolding first_line
-  unended e = rw (e, le-ltb (length text) (length text) (omega arith))
+-- the first line, by its length
+abbrev pub line_by : List ℕ → ℕ → Option ℕ → Next
+line_by text at (Some n) = Whole (item_of (take n text)) (at + n + 1)
+line_by text at None = Unended
 
-  -- a newline behind n bytes
-  pub whole : {n : ℕ} {item : Item} → n ≡ find (is newline) text → n < length text → item ≡ item_of (take n text) → Whole item (at + n + 1) ≡ first_line text at
-  unfolding first_line
-  whole {n} {item} e h i = rw (i, ← e, lt-ltb n (length text) h)
+pub by_line_length : (text : List ℕ) (at : ℕ) → line_by text at (line_length text) ≡ first_line text at
+unfolding first_line line_length
+by_line_length text at = by_end (ltb (find (is newline) text) (length text))
+  where
+    by_end : (t : Bool) → line_by text at (unless t None (Some (find (is newline) text))) ≡ unless t Unended (Whole (item_of (take (find (is newline) text) text)) (at + find (is newline) text + 1))
+    by_end true = refl
+    by_end false = refl
+
+-- no newline in it, or a newline behind n bytes
+pub no_length : (text : List ℕ) → find (is newline) text ≡ length text → None ≡ line_length text
+unfolding line_length
+no_length text e = rw (e, le-ltb (length text) (length text) (omega arith))
+
+pub has_length : (text : List ℕ) {n : ℕ} → n ≡ find (is newline) text → n < length text → Some n ≡ line_length text
+unfolding line_length
+has_length text {n} e h = rw (← e, lt-ltb n (length text) h)
+
+module _ (text : List ℕ) (at : ℕ) where
+  -- so there is no whole line, or the first n bytes are one
+  pub unended : find (is newline) text ≡ length text → Unended ≡ first_line text at
+  unended e = ap (line_by text at) (no_length text e) ∙ by_line_length text at
+
+  pub whole : {n : ℕ} {item : Option Item} → n ≡ find (is newline) text → n < length text → item ≡ item_of (take n text) → Whole item (at + n + 1) ≡ first_line text at
+  whole {n} {item} e h i = ap (λ (x : Option Item). Whole x (at + n + 1)) i ∙ (ap (line_by text at) (has_length text e h) ∙ by_line_length text at)
 
 -- three bytes with no newline
 none_of : (a b c : Bool) → a || (b || c) ≡ false → (a ≡ false) × (b ≡ false) × (c ≡ false)
@@ -69,10 +90,6 @@ nothing_left input at h = unended (drop at input) at (by_length (drop at input) 
     by_length [] e = refl
     by_length (b ∷ t) e = absurd (omega arith)
 
--- the rest, lent as a part, is the rest
-pub rest_is : (input : List ℕ) (at : ℕ) → at ≤ length input → take (length input - at) (drop at input) ≡ drop at input
-rest_is input at h = take_all (length input - at) (drop at input) (rw length-drop (omega arith))
-
 -- and the line behind starts within it
 abbrev BehindIn : Next → ℕ → Type 0
 BehindIn Unended most = Unit {0}
@@ -86,7 +103,7 @@ first_within text at most h = by_end (ltb (find (is newline) text) (length text)
     by_end true e = omega (arith, h, ltb-true (find (is newline) text) (length text) e)
     by_end false e = tt
 
-pub behind_within : (input : List ℕ) (at : ℕ) {item : Item} {behind : ℕ} → Whole item behind ≡ next_of input at → behind ≤ length input
+pub behind_within : (input : List ℕ) (at : ℕ) {item : Option Item} {behind : ℕ} → Whole item behind ≡ next_of input at → behind ≤ length input
 behind_within input at {item} {behind} e = subst (λ (x : Next). BehindIn x (length input)) (sym e) (elim (dec_le at (length input)) [
   | yes h ↦ first_within (drop at input) at (length input) (rw length-drop (omega arith))
   | no h ↦ subst (λ (x : Next). BehindIn x (length input)) (nothing_left input at (omega (arith, h))) tt

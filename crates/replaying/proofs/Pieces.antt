@@ -1,11 +1,10 @@
 -- A run goes on by one line, or stops.
 -- Assumes nothing.
-use Rattle.std.proofs.Common.{◌≡◌, ℕ, zero, suc, ◌-◌, ◌<◌, ◌≤◌, List, sym, refl, ap, ◌∙◌, arith}
+use Rattle.std.proofs.Common.{◌≡◌, ℕ, zero, suc, ◌-◌, ◌<◌, List, sym, refl, ap, ◌∙◌, arith}
 use native.Mathlib.Numerals.{unary_clauses}
 use Rattle.replaying.specs.Desk.{Desk}
 use Rattle.replaying.specs.Turns.{Went, AfterTurn, turn_leaves, stopped, turn_of}
-use Rattle.replaying.specs.Runs.{AfterRun, run_leaves, following, left, by_turn, run_of}
-use Rattle.replaying.specs.declared.Progress.{Progress}
+use Rattle.replaying.specs.Runs.{following, left, by_turn, run_of}
 use Rattle.replaying.specs.declared.Stop.{Stop}
 use Rattle.replaying.specs.declared.Stop.TheVariants.{Input}
 
@@ -26,18 +25,6 @@ module _ (input : List ℕ) (count at put : ℕ) (out : List ℕ) (d : Desk) whe
   pub stopped_at : (most : ℕ) {s : Stop} → 0 < most → stopped s out d ≡ turn_of (following count) input at out put d → left s count at put out d ≡ run_of most input count at put out d
   stopped_at zero h l = absurd (omega arith)
   stopped_at (suc most) h l = sym (one_more most l)
-
--- what a run that stops leaves
-pub leaves : (out : List ℕ) (d : Desk) {r p : Progress} {whole : AfterRun} {n m : ℕ} → r ≡ p → run_leaves p out d ≡ whole → p.read ≤ n → p.written ≤ m
-    → (run_leaves r out d ≡ whole) × (r.read ≤ n) × (r.written ≤ m)
-leaves out d {r} {p} {whole} {n} {m} e w h k = rw e (w, h, k)
-
--- one line less
-pub one_less : (n : ℕ) → 0 < n → n - 1 < n
-one_less n h = omega (arith, h)
-
-pub none_left : (n : ℕ) → n ≤ 0 → n ≡ 0
-none_left n h = omega (arith, h)
 
 -- no line more
 pub ran_out : (input : List ℕ) (count at put : ℕ) (out : List ℕ) (d : Desk) → left Input count at put out d ≡ run_of 0 input count at put out d

@@ -4,3 +4,4 @@ pub mod Turns
 pub mod Runs
 pub mod Listed
 pub mod Inner
+pub mod Lents

@@ -1,14 +1,14 @@
 -- The lines of a trace: each is what stands before a newline.
 -- Assumes nothing.
-use Rattle.std.specs.Prelude.{ℕ, ◌+◌, List, length, take, drop, nat_lt}
+use Rattle.listing.specs.declared.Item.{Item}
+use Rattle.std.specs.Prelude.{ℕ, ◌+◌, List, length, take, drop, nat_lt, Option}
 use Rattle.memory.specs.Tests.{is, find, unless}
 use Rattle.listing.specs.Texts.{newline}
 use Rattle.listing.specs.Items.{item_of}
-use Rattle.listing.specs.declared.Item.{Item}
 
 -- the next line: its item and where the line behind it starts; or no whole line
 pub data Next : Type 0 where
-  Whole : Item → ℕ → Next
+  Whole : Option Item → ℕ → Next
   Unended : Next
 
 -- the first line of a text: its item, and where the text behind it starts, `at` bytes having stood before it

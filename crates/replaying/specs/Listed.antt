@@ -1,8 +1,8 @@
 -- The listing of a trace, with as much room as it needs: what a run of its pieces comes to.
 -- Assumes nothing.
-use Rattle.std.specs.Prelude.{ℕ, zero, suc, List, [], ◌++◌, length, drop}
+use Rattle.listing.specs.declared.Item.TheVariants.{Event, Taking}
 use Rattle.listing.specs.declared.Item.{Item}
-use Rattle.listing.specs.declared.Item.TheVariants.{Event, Taking, NotAnEvent as NoItem}
+use Rattle.std.specs.Prelude.{ℕ, zero, suc, List, [], ◌++◌, length, drop, None, Option, Some}
 use Rattle.replaying.specs.Lines.{Next, Whole, Unended, first_line}
 use Rattle.replaying.specs.Desk.{Desk, Asked, event_asked, taking_asked}
 use Rattle.replaying.specs.Turns.{row_of}
@@ -30,10 +30,10 @@ abbrev pub row_then : ℕ → ℕ → Asked → (Desk → Listed) → Listed
 row_then number line a go = in_front (row_of number line a.answered) (go a.desk)
 
 -- by what the first line asks; at one that is no event the rows end [T10]
-abbrev pub by_item : Item → List ℕ → ℕ → Desk → (Desk → Listed) → Listed
-by_item (Event e) text n d go = row_then (following n) e.line (event_asked e d) go
-by_item (Taking line k) text n d go = row_then (following n) line (taking_asked line k d) go
-by_item NoItem text n d go = no_rows NotAnEvent text n d
+abbrev pub by_item : Option Item → List ℕ → ℕ → Desk → (Desk → Listed) → Listed
+by_item (Some (Event e)) text n d go = row_then (following n) e.line (event_asked e d) go
+by_item (Some (Taking line k)) text n d go = row_then (following n) line (taking_asked line k d) go
+by_item None text n d go = no_rows NotAnEvent text n d
 
 abbrev pub by_line : Next → List ℕ → ℕ → Desk → (ℕ → Desk → Listed) → Listed
 by_line Unended text n d go = no_rows Input text n d

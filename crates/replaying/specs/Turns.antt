@@ -1,11 +1,11 @@
 -- One line replayed: what it leaves of the listing and the desk.
 -- Assumes nothing.
-use Rattle.std.specs.Prelude.{ℕ, ◌+◌, List, length, nat_le}
+use Rattle.listing.specs.declared.Item.TheVariants.{Event, Taking}
+use Rattle.listing.specs.declared.Item.{Item}
+use Rattle.std.specs.Prelude.{ℕ, ◌+◌, List, length, nat_le, None, Option, Some}
 use Rattle.memory.specs.Parts.{splice}
 use Rattle.memory.specs.Tests.{unless}
 use Rattle.listing.specs.Texts.{row_text}
-use Rattle.listing.specs.declared.Item.{Item}
-use Rattle.listing.specs.declared.Item.TheVariants.{Event, Taking, NotAnEvent as NoItem}
 use Rattle.answers.specs.declared.Answered.{Answered}
 use Rattle.replaying.specs.Lines.{Next, Whole, Unended, next_of}
 use Rattle.replaying.specs.Desk.{row_room, Desk, Asked, event_asked, taking_asked}
@@ -41,10 +41,10 @@ wrote number line behind out put a = record {
 }
 
 -- by what the line asks
-abbrev pub acted : Item → ℕ → ℕ → List ℕ → ℕ → Desk → AfterTurn
-acted (Event e) number behind out put d = wrote number e.line behind out put (event_asked e d)
-acted (Taking line n) number behind out put d = wrote number line behind out put (taking_asked line n d)
-acted NoItem number behind out put d = stopped NotAnEvent out d
+abbrev pub acted : Option Item → ℕ → ℕ → List ℕ → ℕ → Desk → AfterTurn
+acted (Some (Event e)) number behind out put d = wrote number e.line behind out put (event_asked e d)
+acted (Some (Taking line n)) number behind out put d = wrote number line behind out put (taking_asked line n d)
+acted None number behind out put d = stopped NotAnEvent out d
 
 abbrev pub on_line : Next → ℕ → List ℕ → ℕ → Desk → AfterTurn
 on_line Unended number out put d = stopped Input out d

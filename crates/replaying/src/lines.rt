@@ -1,136 +1,87 @@
 // The next line of a trace.
-ghost use Rattle.std.specs.Prelude.{◌≡◌, ◌+◌, ◌^◌, ◌<◌, ◌≤◌, length, nat_le};
+ghost use Rattle.std.specs.Prelude.{◌≡◌, ◌+◌, ◌^◌, ◌<◌, ◌≤◌, IfSome, length, nat_le};
 ghost use Rattle.replaying.specs.Desk.{row_room};
 ghost use Rattle.replaying.specs.Lines.{first_line};
-ghost use Rattle.replaying.specs.Inner.Asks.{nothing, asks_of_kind, asks_of_item, asks_by, asks_of};
+ghost use Rattle.replaying.specs.Inner.Asks.{line_length, asks_by, asks_of};
 ghost use Rattle.replaying.specs.Inner.Usual.{has_newline, is_usual};
 
-use super::Asks;
+use super::Stop;
 use listing::Item;
-use looking::{Event, Kind};
 
 const NEWLINE: u8 = b'\n';
 
 // The length of the usual line, as `0 B 41`.
 const USUAL: usize = 6;
 
+// What a line asks, and where the line behind it starts.
+#[derive(Clone, Copy)]
+pub struct Asks {
+    pub item: Item,
+    pub behind: usize,
+}
+
 // What comes next: the line that starts at `at`, where a listing of so many bytes has room for its row behind `put`.
-pub fn next(input: &[u8], at: usize, put: usize, most: usize) -> Asks
+pub fn next(input: &[u8], at: usize, put: usize, most: usize) -> Result<Asks, Stop>
     ensures { result ≡ asks_of input.now at put most }
 {
     if !has_room(put, most) {
-        return none(super::NO_ROOM);
+        return Err(Stop::Output);
     }
     if input.len() < at {
-        return none(super::NO_LINE);
+        return Err(Stop::Input);
     }
     first(&input[at..], at)
 }
 
 // Whether a listing of so many bytes has room for a row behind `put`.
+#[tactic(auto, using(memory::proofs::Branches::branches))]
 fn has_room(put: usize, most: usize) -> bool
     ensures { result ≡ nat_le (put + row_room) most }
 {
-    if most < put {
-        return false;
-    }
-    super::ROW_ROOM <= most - put
+    put <= most && super::ROW_ROOM <= most - put
 }
 
-// The first line of what is left behind `at` bytes. A line of the usual length is seen without a scan.
-fn first(rest: &[u8], at: usize) -> Asks
+// The first line of what is left behind `at` bytes.
+fn first(rest: &[u8], at: usize) -> Result<Asks, Stop>
     requires { at + length rest.now < 2 ^ 64 }
     ensures { result ≡ asks_by (first_line rest.now at) }
 {
+    let n = line_length(rest).ok_or(Stop::Input)?;
+    let item = listing::read(&rest[..n]).ok_or(Stop::NotAnEvent)?;
+    Ok(Asks {
+        item,
+        behind: at + n + 1,
+    })
+}
+
+// The length of the first line, if it ends. One of the usual length is seen without a scan.
+fn line_length(rest: &[u8]) -> Option<usize>
+    ensures value { result ≡ line_length rest.now }
+    ensures within { IfSome result (λ n. n < length rest.now) }
+{
     if is_usual(rest) {
-        return of_item(listing::read(&rest[..USUAL]), at + USUAL + 1);
+        return Some(USUAL);
     }
     let n = records::index_of(rest, NEWLINE);
     if n == rest.len() {
-        return none(super::NO_LINE);
+        return None;
     }
-    of_item(listing::read(&rest[..n]), at + n + 1)
-}
-
-// An item in numbers.
-fn of_item(item: Item, behind: usize) -> Asks
-    ensures { result ≡ asks_of_item item behind }
-{
-    match item {
-        Item::Event(e) => of_event(e, behind),
-        Item::Taking(line, size) => Asks {
-            letter: super::TAKING,
-            line,
-            value: 0,
-            size,
-            behind,
-        },
-        Item::NotAnEvent => none(super::NOT_AN_EVENT),
-    }
-}
-
-// An event in numbers, by its kind.
-fn of_event(e: Event, behind: usize) -> Asks
-    ensures { result ≡ asks_of_kind e.kind e.line behind }
-{
-    let kind = e.kind;
-    match kind {
-        Kind::Byte(value) => Asks {
-            letter: super::BYTE,
-            line: e.line,
-            value,
-            size: 0,
-            behind,
-        },
-        Kind::Seconds(value) => Asks {
-            letter: super::SECONDS,
-            line: e.line,
-            value,
-            size: 0,
-            behind,
-        },
-    }
-}
-
-// No line, by what stands in place of its letter.
-fn none(why: u8) -> Asks
-    ensures { result ≡ nothing why }
-{
-    Asks {
-        letter: why,
-        line: 0,
-        value: 0,
-        size: 0,
-        behind: 0,
-    }
+    Some(n)
 }
 
 // Whether the first newline is the seventh byte.
+#[tactic(auto, unfolding(crate::specs::Inner::Usual::is_usual), using(memory::proofs::Branches::branches))]
 fn is_usual(rest: &[u8]) -> bool
     ensures { result ≡ is_usual rest.now }
 {
-    if rest.len() <= USUAL {
-        return false;
-    }
-    if rest[USUAL] != NEWLINE {
-        return false;
-    }
-    if has_newline(rest, 0) {
-        return false;
-    }
-    !has_newline(rest, 3)
+    USUAL < rest.len() && rest[USUAL] == NEWLINE && !has_newline(rest, 0) && !has_newline(rest, 3)
 }
 
 // Whether one of the three bytes from `at` on is a newline.
+#[tactic(auto, unfolding(crate::specs::Inner::Usual::has_newline), using(memory::proofs::Branches::branches))]
 fn has_newline(rest: &[u8], at: usize) -> bool
     requires { at + 3 ≤ length rest.now }
     ensures { result ≡ has_newline rest.now at }
 {
-    if rest[at] == NEWLINE {
-        return true;
-    }
-    if rest[at + 1] == NEWLINE {
-        return true;
-    }
-    rest[at + 2] == NEWLINE
+    rest[at] == NEWLINE || rest[at + 1] == NEWLINE || rest[at + 2] == NEWLINE
 }

@@ -1,7 +1,7 @@
 // The room rule, over any shares; and today's.
 #![tactic(auto)]
 
-ghost use Rattle.std.specs.Prelude.{◌≡◌, max};
+ghost use Rattle.std.specs.Prelude.{◌≡◌};
 ghost use Rattle.room.specs.Room.{todays_shares, fits};
 
 // The bytes that are guaranteed to a line today.
@@ -13,24 +13,14 @@ pub fn shares() -> [u16; 8]
     [SHARE; 8]
 }
 
-fn larger(used: u32, share: u16) -> u32
-    ensures { result ≡ max used share }
-{
-    if used < share as u32 {
-        return share as u32;
-    }
-    used
-}
-
 // Whether the lines' claims, for each the larger of used count and share, fit the journal together.
+#[tactic(auto, unfolding(crate::specs::Room::claims))]
 pub fn has_room(used: [u32; 8], shares: [u16; 8]) -> bool
     ensures { result ≡ fits shares used }
 {
     let mut sum: usize = 0;
-    let mut i = 0;
-    while i < memory::LINES {
-        sum += larger(used[i], shares[i]) as usize;
-        i += 1;
+    for i in 0..memory::LINES {
+        sum += used[i].max(shares[i] as u32) as usize;
     }
     sum <= memory::JOURNAL_SIZE
 }

@@ -1,9 +1,11 @@
 -- The frame of a piece in lent memory, and what is written of the frame that a line offers.
 -- Assumes nothing.
+use Rattle.std.specs.Prelude.{Err, None, Ok, Option, Result, Some, ℕ}
+use Rattle.framing.specs.declared.Refusal.TheVariants.{NotFitting}
+use Rattle.framing.specs.declared.Refusal.{Refusal}
 use mathlib.Core.Path.{◌≡◌, sym, ap, ◌∙◌}
 use mathlib.Core.Bool.{Bool, true, false, cond}
 use mathlib.Core.List.{List}
-use mathlib.Core.Option.{Option, none, some}
 use Prim.Native.Nat.{ℕ, ◌+◌, ◌-◌, ◌≤◌, ◌<◌}
 use native.Mathlib.Omega.{arith}
 use borrow.Author.Tests.{le-leb, lt-leb}
@@ -16,8 +18,6 @@ use Rattle.frame.specs.Shape.{around_text}
 use Rattle.frame.specs.Piece.{Piece, piece}
 use Rattle.frame.specs.declared.End.{End}
 use Rattle.framing.specs.Writing.{put_of, put_in, FramePut}
-use Rattle.framing.specs.declared.Written.{Written}
-use Rattle.framing.specs.declared.Written.TheVariants.{NotFitting, Length}
 use Rattle.framing.proofs.Put.{length_frame}
 use Rattle.line.specs.declared.Line.{Line}
 use Rattle.line.specs.declared.State.{State}
@@ -29,9 +29,9 @@ use Rattle.sending.specs.Offered.{piece_from, frame_at, piece_in, piece_now, fra
 use Rattle.sending.proofs.Pieces.{piece_short}
 
 -- a frame of the first piece of what lies behind a place is that of the piece there
-module _ (limit at number : ℕ) (text out : List ℕ) {rest : List ℕ} {n : ℕ} {end : End} {r : Written} {out' : List ℕ} where
+module _ (limit at number : ℕ) (text out : List ℕ) {rest : List ℕ} {n : ℕ} {end : End} {r : Result ℕ Refusal} {out' : List ℕ} where
   pub piece_put : rest ≡ drop at text → n ≡ through_cr (take (piece_size limit) rest) → end ≡ end_after (get_or rest (n - 1) 0)
-      → FramePut number end (take n rest) out r out' → PiecePut number (some (piece_from limit at text)) out r out'
+      → FramePut number end (take n rest) out r out' → PiecePut number (Some (piece_from limit at text)) out r out'
   piece_put there found ends put =
       let same : piece end (take n rest) ≡ piece_from limit at text =
       ap (λ (e : End). piece e (take n rest)) ends
@@ -43,11 +43,11 @@ module _ (limit at number : ℕ) (text out : List ℕ) {rest : List ℕ} {n : �
       }
 
 -- with a number that frames have, and where there is room, the whole frame is over the start; where there is none, nothing is
-piece_written : (number : ℕ) (o : Option Piece) (out : List ℕ) {r : Written} {out' : List ℕ} → number ≤ most_number → length (frame_for number o) ≤ length out
-    → PiecePut number o out r out' → (r ≡ Length (length (frame_for number o))) × (out' ≡ splice out 0 (frame_for number o))
+piece_written : (number : ℕ) (o : Option Piece) (out : List ℕ) {r : Result ℕ Refusal} {out' : List ℕ} → number ≤ most_number → length (frame_for number o) ≤ length out
+    → PiecePut number o out r out' → (r ≡ Ok (length (frame_for number o))) × (out' ≡ splice out 0 (frame_for number o))
 unfolding put_of put_in
-piece_written number none out few room put = (put.answer, put.after ∙ sym (splice_nil out 0))
-piece_written number (some p) out few room put =
+piece_written number None out few room put = (put.answer, put.after ∙ sym (splice_nil out 0))
+piece_written number (Some p) out few room put =
     let long = length_frame number p.end p.bytes in
     let fits : length p.bytes + around_text ≤ length out = omega arith in
     let numbered = le-leb number most_number few in
@@ -55,11 +55,11 @@ piece_written number (some p) out few room put =
     (put.answer ∙ rw (numbered, holds, long), put.after ∙ rw (numbered, holds))
 
 -- and where there is no room, nothing is written
-piece_unwritten : (number : ℕ) (o : Option Piece) (out : List ℕ) {r : Written} {out' : List ℕ} → number ≤ most_number → length out < length (frame_for number o)
-    → PiecePut number o out r out' → (r ≡ NotFitting) × (out' ≡ out)
+piece_unwritten : (number : ℕ) (o : Option Piece) (out : List ℕ) {r : Result ℕ Refusal} {out' : List ℕ} → number ≤ most_number → length out < length (frame_for number o)
+    → PiecePut number o out r out' → (r ≡ Err NotFitting) × (out' ≡ out)
 unfolding put_of put_in
-piece_unwritten number none out few full put = absurd (omega arith)
-piece_unwritten number (some p) out few full put =
+piece_unwritten number None out few full put = absurd (omega arith)
+piece_unwritten number (Some p) out few full put =
     let long = length_frame number p.end p.bytes in
     let over : length out < length p.bytes + around_text = omega arith in
     let numbered = le-leb number most_number few in
@@ -83,18 +83,18 @@ module _ (limit number : ℕ) (text : List ℕ) (h : around_text ≤ limit) wher
   for_short joined (Out (Pausing n)) = omega arith
   for_short joined (Out (Offering n at)) = by_place (ltb at joined)
     where
-      by_place : (b : Bool) → length (frame_for number (cond b (some (piece_from limit at text)) none)) ≤ limit
+      by_place : (b : Bool) → length (frame_for number (cond b (Some (piece_from limit at text)) None)) ≤ limit
       by_place true = frame_short at
       by_place false = omega arith
 
 module _ (limit : ℕ) (l : Line) (text : List ℕ) where
   -- so the frame that a line offers is what is written
-  pub offered_written : (out : List ℕ) {r : Written} {out' : List ℕ} → l.next ≤ most_number → length (frame_now limit l text) ≤ length out
-      → PiecePut l.next (piece_now limit l text) out r out' → (r ≡ Length (length (frame_now limit l text))) × (out' ≡ splice out 0 (frame_now limit l text))
+  pub offered_written : (out : List ℕ) {r : Result ℕ Refusal} {out' : List ℕ} → l.next ≤ most_number → length (frame_now limit l text) ≤ length out
+      → PiecePut l.next (piece_now limit l text) out r out' → (r ≡ Ok (length (frame_now limit l text))) × (out' ≡ splice out 0 (frame_now limit l text))
   offered_written out few room put = piece_written l.next (piece_now limit l text) out few room put
 
-  pub offered_unwritten : (out : List ℕ) {r : Written} {out' : List ℕ} → l.next ≤ most_number → length out < length (frame_now limit l text)
-      → PiecePut l.next (piece_now limit l text) out r out' → (r ≡ NotFitting) × (out' ≡ out)
+  pub offered_unwritten : (out : List ℕ) {r : Result ℕ Refusal} {out' : List ℕ} → l.next ≤ most_number → length out < length (frame_now limit l text)
+      → PiecePut l.next (piece_now limit l text) out r out' → (r ≡ Err NotFitting) × (out' ≡ out)
   offered_unwritten out few full put = piece_unwritten l.next (piece_now limit l text) out few full put
 
   -- and a memory of as many bytes as the limit is long enough for it

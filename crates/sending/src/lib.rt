@@ -5,7 +5,7 @@ ghost use Rattle.std.specs.Prelude.{◌≡◌};
 ghost use Rattle.sending.specs.Onward.{byte_onward, wait_of, late_onward, seconds_onward};
 ghost use Rattle.sending.specs.Offered.{piece_now, PiecePut};
 
-use framing::Written;
+use framing::Refusal;
 use line::{Line, Sending, State};
 
 mod offering; // offering.rt: the frame that is offered, in lent memory
@@ -72,14 +72,14 @@ fn late(line: Line, s: Sending) -> Onward
 }
 
 // Writes the frame that the line offers over the start of out. Where it offers none the length is 0, and nothing is written.
-pub fn put_offered(limit: usize, line: Line, text: &[u8], out: &mut [u8]) -> Written
+pub fn put_offered(limit: usize, line: Line, text: &[u8], out: &mut [u8]) -> Result<usize, Refusal>
     ensures { PiecePut line.next (piece_now limit line text.now) out.old result out.new }
 {
     let state = line.state;
     match state {
-        State::Neutral => Written::Length(0),
-        State::Waiting => Written::Length(0),
-        State::Inside => Written::Length(0),
+        State::Neutral => Ok(0),
+        State::Waiting => Ok(0),
+        State::Inside => Ok(0),
         State::Out(s) => offering::put_sent(limit, line.next, line.joined, s, text, out),
     }
 }

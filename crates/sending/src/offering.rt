@@ -1,12 +1,11 @@
 // The frame that a line offers, in lent memory.
-ghost use Rattle.std.specs.Prelude.{◌≡◌, ◌-◌, get_or, drop};
-ghost use Rattle.std.proofs.Math.Option.{some};
+ghost use Rattle.std.specs.Prelude.{◌≡◌, ◌-◌, get_or, drop, Some};
 ghost use Rattle.pieces.specs.Pieces.{end_after};
 ghost use Rattle.line.specs.declared.State.TheVariants.{Out};
 ghost use Rattle.sending.specs.Offered.{piece_from, piece_in, PiecePut};
 
 use frame::End;
-use framing::Written;
+use framing::Refusal;
 use line::Sending;
 
 // By where the sending is: only one that awaits the reply to a frame offers it.
@@ -17,15 +16,15 @@ pub fn put_sent(
     s: Sending,
     text: &[u8],
     out: &mut [u8],
-) -> Written
+) -> Result<usize, Refusal>
     ensures { PiecePut number (piece_in limit joined (Out s) text.now) out.old result out.new }
 {
     match s {
-        Sending::Asking(_) => Written::Length(0),
-        Sending::Pausing(_) => Written::Length(0),
+        Sending::Asking(_) => Ok(0),
+        Sending::Pausing(_) => Ok(0),
         Sending::Offering(_, at) => {
             if joined <= at {
-                return Written::Length(0);
+                return Ok(0);
             }
             put_piece(limit, number, at as usize, text, out)
         }
@@ -33,8 +32,14 @@ pub fn put_sent(
 }
 
 // The frame of the piece at a place.
-fn put_piece(limit: usize, number: u8, at: usize, text: &[u8], out: &mut [u8]) -> Written
-    ensures { PiecePut number (some (piece_from limit at text.now)) out.old result out.new }
+fn put_piece(
+    limit: usize,
+    number: u8,
+    at: usize,
+    text: &[u8],
+    out: &mut [u8],
+) -> Result<usize, Refusal>
+    ensures { PiecePut number (Some (piece_from limit at text.now)) out.old result out.new }
 {
     let rest = rest_from(at, text);
     let n = pieces::first_piece(limit, rest);

@@ -18,7 +18,8 @@ pub struct Counts {
     pub manufacturers: u32,
 }
 
-// A decimal number from 1 to 999999 with no leading zero, or 0 for any other field.
+// A decimal number from 1 to 999999 with no leading zero, or 0 for any other field. No option: no record has the number 0, so a test of 0 is
+// the test of none, as in `number_of`.
 pub fn number(f: &[u8]) -> u32
     ensures { result ≡ number_of f.now }
 {
@@ -32,25 +33,13 @@ pub fn number(f: &[u8]) -> u32
         return 0;
     }
     let mut n: u32 = 0;
-    let mut i: usize = 0;
-    while i < f.len() {
-        let b = f[i];
-        if b < b'0' {
+    for b in f {
+        if !b.is_ascii_digit() {
             return 0;
         }
-        if b'9' < b {
-            return 0;
-        }
-        n = n * 10 + wide(b - b'0');
-        i += 1;
+        n = n * 10 + (*b - b'0') as u32;
     }
     n
-}
-
-fn wide(x: u8) -> u32
-    ensures { result ≡ x }
-{
-    x as u32
 }
 
 // The number that a type has reached; L always has 1.
@@ -75,12 +64,9 @@ fn restart(s: Counts, k: Kind) -> Counts
 {
     Counts {
         other: k,
-        patients: s.patients,
-        queries: s.queries,
-        orders: s.orders,
-        results: s.results,
         comments: 0,
         manufacturers: 0,
+        ..s
     }
 }
 
@@ -88,45 +74,26 @@ fn restart(s: Counts, k: Kind) -> Counts
 pub fn count_on(s: Counts, k: Kind, n: u32) -> Counts
     ensures { result ≡ counted s k n }
 {
-    let mut t = restart(s, k);
+    let t = restart(s, k);
     match k {
         Kind::Header => s,
-        Kind::Patient => {
-            t.patients = n;
-            t.orders = 0;
-            t
-        }
-        Kind::Order => {
-            t.orders = n;
-            t.results = 0;
-            t
-        }
-        Kind::Result => {
-            t.results = n;
-            t
-        }
-        Kind::Query => {
-            t.queries = n;
-            t
-        }
+        Kind::Patient => Counts {
+            patients: n,
+            orders: 0,
+            ..t
+        },
+        Kind::Order => Counts {
+            orders: n,
+            results: 0,
+            ..t
+        },
+        Kind::Result => Counts { results: n, ..t },
+        Kind::Query => Counts { queries: n, ..t },
         Kind::Terminator => t,
-        Kind::Comment => with_comments(s, n),
-        Kind::Manufacturer => with_manufacturers(s, n),
+        Kind::Comment => Counts { comments: n, ..s },
+        Kind::Manufacturer => Counts {
+            manufacturers: n,
+            ..s
+        },
     }
-}
-
-fn with_comments(s: Counts, n: u32) -> Counts
-    ensures { result ≡ counted s Kind.Comment n }
-{
-    let mut t = s;
-    t.comments = n;
-    t
-}
-
-fn with_manufacturers(s: Counts, n: u32) -> Counts
-    ensures { result ≡ counted s Kind.Manufacturer n }
-{
-    let mut t = s;
-    t.manufacturers = n;
-    t
 }

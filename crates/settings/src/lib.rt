@@ -30,11 +30,7 @@ pub struct Settings {
 pub fn speaks_frames(settings: Settings) -> bool
     ensures { result ≡ speaks_frames settings }
 {
-    let dialogue = settings.dialogue;
-    match dialogue {
-        Dialogue::Frames => true,
-        Dialogue::Blocks(_) => false,
-    }
+    matches!(settings.dialogue, Dialogue::Frames)
 }
 
 impl Patient {

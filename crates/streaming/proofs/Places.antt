@@ -1,13 +1,12 @@
 -- What waits lies in the input, behind every turn and every read.
 -- Assumes nothing.
+use Rattle.std.specs.Prelude.{None, Option, Some, ℕ}
 use Rattle.std.proofs.Common.{◌≡◌, ℕ, ◌+◌, ◌-◌, ◌≤◌, Bool, true, false, cond, eqb, ltb, leb, List, length, drop, sym, refl, subst, arith, length-drop, length-set, length-take, le-leb, leb-true}
 use borrow.Author.Tests.{eqb-false}
 use Rattle.memory.specs.Moves.{later, closed_up}
 use Rattle.memory.proofs.Parts.{length_part, length_splice}
 use Rattle.listing.specs.Items.{line_limit}
 use Rattle.listing.specs.Texts.{header_text, total_text, fault_text, end_of}
-use Rattle.listing.specs.declared.Written.{Written}
-use Rattle.listing.specs.declared.Written.TheVariants.{To, NotFitting}
 use Rattle.replaying.specs.Desk.{Desk}
 use Rattle.replaying.specs.Runs.{following, piece_of}
 use Rattle.replaying.specs.declared.Progress.{Progress}
@@ -93,9 +92,9 @@ ran_lies s h =
 
 -- ---- behind a line that is no row
 
-behind_lies : (k : Kept) (w : Written) (next : Stage) (most : ℕ) → LiesIn k most → LiesIn (behind k w next) most
-behind_lies k (To n) next most h = h
-behind_lies k NotFitting next most h = (omega arith, omega arith)
+behind_lies : (k : Kept) (w : Option ℕ) (next : Stage) (most : ℕ) → LiesIn k most → LiesIn (behind k w next) most
+behind_lies k (Some n) next most h = h
+behind_lies k None next most h = (omega arith, omega arith)
 
 said_lies : (stage : Stage) (k : Kept) (out : List ℕ) (most : ℕ) → LiesIn k most → LiesIn (said_at stage k out).kept most
 said_lies Begins k out most h = behind_lies k (end_of header_text out 0) Runs most h

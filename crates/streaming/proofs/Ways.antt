@@ -1,126 +1,22 @@
--- A turn, one way out after the other.
+-- A turn that has run what waits, and one that has not.
 -- Assumes nothing.
-use Rattle.std.proofs.Common.{◌≡◌, ℕ, ◌+◌, ◌-◌, ◌<◌, ◌≤◌, Bool, true, false, cond, ◌&&◌, ltb, leb, List, length, sym, refl, ap, ◌∙◌, subst, true≢false, arith, le-ltb, lt-ltb, le-leb, leb-false, leb-true}
-use borrow.Author.Tests.{lt-leb}
-use Rattle.memory.specs.Parts.{splice}
-use Rattle.memory.specs.Moves.{copied, closed_up}
-use Rattle.memory.proofs.Parts.{length_splice}
+use Rattle.std.specs.Prelude.{ℕ}
+use Rattle.std.proofs.Common.{◌≡◌, ℕ, ◌+◌, ◌-◌, Bool, true, false, cond, ◌&&◌, ltb, leb, List, length, refl, ap, true≢false, le-leb, leb-true}
 use Rattle.memory.proofs.Tests.{and_left, and_right}
 use Rattle.listing.specs.Items.{line_limit}
-use Rattle.listing.specs.Texts.{end_of, TextWritten}
-use Rattle.listing.specs.declared.Written.{Written}
-use Rattle.listing.specs.declared.Written.TheVariants.{To, NotFitting}
 use Rattle.replaying.specs.Desk.{Desk}
 use Rattle.replaying.specs.Runs.{AfterRun, run_leaves, piece_of}
 use Rattle.replaying.specs.declared.Progress.{Progress}
 use Rattle.replaying.specs.declared.Stop.{Stop}
 use Rattle.replaying.specs.declared.Stop.TheVariants.{Input, Output, NotAnEvent}
 use Rattle.streaming.specs.Stages.{is_running, nothing, closes}
-use Rattle.streaming.specs.Fed.{grown, finished, fed_of}
 use Rattle.streaming.specs.Handed.{onward, by_stop, handed, moved}
-use Rattle.streaming.specs.Said.{Said, behind, silent, saying, said_of}
+use Rattle.streaming.specs.Said.{said_of}
 use Rattle.streaming.specs.Inner.Places.{LiesIn}
-use Rattle.streaming.specs.Inner.Ready.{is_ready, instead_at, instead_of}
-use Rattle.streaming.specs.Inner.Rest.{moved_for}
+use Rattle.streaming.specs.Inner.Ready.{is_ready, instead_of}
 use Rattle.streaming.specs.Streams.{stream_of, waiting, handed_on, ran, spoken, turned}
 use Rattle.streaming.specs.declared.Kept.{Kept}
-use Rattle.streaming.specs.declared.Stage.{Stage}
 use Rattle.streaming.specs.declared.Stage.TheVariants.{Wants, Total, Fault}
-
--- ---- what a read has brought
-
--- room for n behind an end, tested without a sum
-pub as_sum : (end n most : ℕ) → end ≤ most → leb n (most - end) ≡ leb (end + n) most
-as_sum end n most h = by_test_law (leb (end + n) most) refl
-  where
-    by_test_law : (t : Bool) → leb (end + n) most ≡ t → leb n (most - end) ≡ t
-    by_test_law true e = le-leb n (most - end) (omega (arith, h, leb-true (end + n) most e))
-    by_test_law false e = lt-leb n (most - end) (omega (arith, h, leb-false (end + n) most e))
-
-module _ (k : Kept) (n : ℕ) (input : List ℕ) where
-  abbrev Feeds : Kept → List ℕ → Type 0
-  Feeds r input' = (r ≡ (fed_of k n input).kept) × (input' ≡ (fed_of k n input).input)
-
-  pub feeds_past : {r : Kept} → leb (k.end + n) (length input) ≡ false → r ≡ nothing → Feeds r input
-  unfolding fed_of
-  feeds_past t e = (rw t e, rw t)
-
-  pub feeds_more : {r : Kept} → leb (k.end + n) (length input) ≡ true → 0 < n → r ≡ grown k n → Feeds r input
-  unfolding fed_of
-  feeds_more t h e = (rw (t, lt-ltb 0 n h) e, rw (t, lt-ltb 0 n h))
-
-  pub feeds_last : {r : Kept} {input' : List ℕ} → leb (k.end + n) (length input) ≡ true → n ≤ 0 → r ≡ (finished k input).kept → input' ≡ (finished k input).input → Feeds r input'
-  unfolding fed_of
-  feeds_last t h e i = (rw (t, le-ltb 0 n h) e, rw (t, le-ltb 0 n h) i)
-
--- ---- a line that is no row
-
--- what is known behind it
-abbrev Says : Said → Kept → List ℕ → Type 0
-Says s r out = (r ≡ s.kept) × (out ≡ s.out) × (r.written ≤ length out)
-
-module _ (k : Kept) (out : List ℕ) where
-  pub at_stage : {stage : Stage} {r : Kept} {out' : List ℕ} → k.stage ≡ stage → Says (instead_at stage k out) r out' → Says (instead_of k out) r out'
-  unfolding instead_of
-  at_stage {stage} {r} {out'} e h = subst (λ (x : Stage). Says (instead_at x k out) r out') (sym e) h
-
-  -- a text written ends within its memory
-  pub text_said : (text : List ℕ) (next : Stage) {w : Written} {r : Kept} {out' : List ℕ} → TextWritten text out 0 w out' → r ≡ behind k w next → Says (saying text next k out) r out'
-  unfolding end_of copied
-  text_said text next {w} {r} {out'} t e = (e ∙ ap (λ (x : Written). behind k x next) t.answer, t.after, rw e (within w t.answer))
-    where
-      within : (x : Written) → x ≡ end_of text out 0 → (behind k x next).written ≤ length out'
-      within x q = by_room (leb (0 + length text) (length out)) refl (q) t.after
-        where
-          by_room : (b : Bool) → leb (0 + length text) (length out) ≡ b → x ≡ cond b (To (0 + length text)) NotFitting → out' ≡ cond b (splice out 0 text) out → (behind k x next).written ≤ length out'
-          by_room true l a o =
-              let fits = leb-true (0 + length text) (length out) l in
-              let long : length out' ≡ length out = ap length o ∙ length_splice out 0 text fits in
-              rw a (omega (arith, fits, long))
-          by_room false l a o = rw a (omega arith)
-
-  pub nothing_said : {r : Kept} → r ≡ silent k → (r ≡ silent k) × (out ≡ out) × (r.written ≤ length out)
-  nothing_said e = (e, refl, rw e (omega arith))
-
-  pub nothing_left : {r : Kept} → r ≡ nothing → (r ≡ nothing) × (out ≡ out) × (r.written ≤ length out)
-  nothing_left e = (e, refl, rw e (omega arith))
-
--- ---- what is left of a run
-
--- all whole lines are run
-module _ (at end : ℕ) (ended : Bool) (events written : ℕ) (input : List ℕ) where
-  abbrev Rests : Kept → List ℕ → Type 0
-  Rests r input' = (r ≡ onward (end - at) ended events written) × (input' ≡ moved_for r at end input)
-
-  pub at_end : {r : Kept} → ended ≡ true → r ≡ closes events written Total → Rests r input
-  unfolding onward
-  at_end t e = (rw t e, rw e)
-
-  pub too_long : {r : Kept} → ended ≡ false → line_limit < end - at → r ≡ closes events written Fault → Rests r input
-  unfolding onward
-  too_long t l e = (rw (t, lt-ltb line_limit (end - at) l) e, rw e)
-
-  pub waits_on : {input' : List ℕ} → ended ≡ false → end - at ≤ line_limit → input' ≡ closed_up input 0 at end
-      → Rests (record { from = 0; end = end - at; events = events; ended = false; written = written; stage = Wants }) input'
-  unfolding onward
-  waits_on t l m = (rw (t, le-ltb line_limit (end - at) l), m)
-
--- a run stopped
-module _ (k : Kept) (p : Progress) (input : List ℕ) where
-  abbrev HandedOn : Kept → List ℕ → Type 0
-  HandedOn r input' = (r ≡ handed k p) × (input' ≡ moved k p input)
-
-  pub no_room : p.stop ≡ Output → HandedOn (by_stop Output k p) input
-  unfolding handed moved
-  no_room q = (rw q, rw q)
-
-  pub no_event : {r : Kept} → p.stop ≡ NotAnEvent → r ≡ closes p.events p.written Fault → HandedOn r input
-  unfolding handed moved
-  no_event q e = (rw q e, rw q)
-
-  pub no_line : {r : Kept} {input' : List ℕ} → p.stop ≡ Input → r ≡ by_stop Input k p → input' ≡ moved_for r (k.from + p.read) k.end input → HandedOn r input'
-  unfolding handed moved
-  no_line {r} {input'} q e m = (rw q e, rw q (subst (λ (x : Kept). input' ≡ moved_for x (k.from + p.read) k.end input) e m))
 
 -- what is to be written are the rows
 pub rows_shown : (k : Kept) (p : Progress) → (handed k p).written ≡ p.written

@@ -1,10 +1,8 @@
 -- What a line of the listing that is no row leaves: its text, and what comes behind it.
 -- Assumes nothing.
-use Rattle.std.specs.Prelude.{ℕ, List}
+use Rattle.std.specs.Prelude.{ℕ, List, None, Option, Some}
 use Rattle.memory.specs.Moves.{copied}
 use Rattle.listing.specs.Texts.{header_text, total_text, fault_text, end_of}
-use Rattle.listing.specs.declared.Written.{Written}
-use Rattle.listing.specs.declared.Written.TheVariants.{To, NotFitting}
 use Rattle.replaying.specs.Runs.{following}
 use Rattle.streaming.specs.declared.Kept.{Kept}
 use Rattle.streaming.specs.declared.Stage.{Stage}
@@ -17,9 +15,9 @@ pub record Said : Type 0 where
   pub out : List ℕ
 
 -- behind a text: how much is to be written, and what comes next
-abbrev pub behind : Kept → Written → Stage → Kept
-behind k (To n) stage = record { from = k.from; end = k.end; events = k.events; ended = k.ended; written = n; stage = stage }
-behind k NotFitting stage = nothing
+abbrev pub behind : Kept → Option ℕ → Stage → Kept
+behind k (Some n) stage = record { from = k.from; end = k.end; events = k.events; ended = k.ended; written = n; stage = stage }
+behind k None stage = nothing
 
 -- nothing is to be written
 abbrev pub silent : Kept → Kept

@@ -7,13 +7,11 @@ use super::{Kept, Stage};
 const NEWLINE: u8 = b'\n';
 
 // Whether n bytes behind the end of those that wait lie in an input of so many bytes.
+#[tactic(auto, using(memory::proofs::Branches::branches))]
 pub fn has_room(end: usize, n: usize, most: usize) -> bool
     ensures { result ≡ nat_le (end + n) most }
 {
-    if most < end {
-        return false;
-    }
-    n <= most - end
+    end <= most && n <= most - end
 }
 
 // n bytes more wait.
@@ -22,16 +20,16 @@ pub fn grow(kept: Kept, n: usize) -> Kept
     ensures { result ≡ grown kept n }
 {
     Kept {
-        from: kept.from,
         end: kept.end + n,
-        events: kept.events,
         ended: false,
         written: 0,
         stage: Stage::Runs,
+        ..kept
     }
 }
 
 // The trace is at its end: a last line without a newline counts, and gets one.
+#[tactic(auto, unfolding(crate::specs::Fed::finished), using(memory::proofs::Branches::branches))]
 pub fn finish(kept: Kept, input: &mut [u8]) -> Kept
     requires { kept.end ≤ length input.old }
     ensures { (result ≡ (finished kept input.old).kept) × (input.new ≡ (finished kept input.old).input) }
@@ -45,11 +43,10 @@ pub fn finish(kept: Kept, input: &mut [u8]) -> Kept
     }
     input[end] = NEWLINE;
     Kept {
-        from: kept.from,
         end: end + 1,
-        events: kept.events,
         ended: true,
         written: 0,
         stage: Stage::Runs,
+        ..kept
     }
 }

@@ -9,47 +9,33 @@ use super::{Kept, Stage};
 use replaying::{Progress, Stop};
 
 // Whether what waits is to be run, and lies in an input of so many bytes.
+#[tactic(auto, unfolding(crate::specs::Inner::Ready::is_ready), using(memory::proofs::Branches::branches))]
 pub fn is_ready(kept: Kept, most: usize) -> bool
     ensures { result ≡ is_ready kept most }
 {
-    let stage = kept.stage;
-    if !runs(stage) {
-        return false;
-    }
-    if kept.end < kept.from {
-        return false;
-    }
-    kept.end <= most
+    runs(kept.stage) && kept.from <= kept.end && kept.end <= most
 }
 
 fn runs(stage: Stage) -> bool
     ensures { result ≡ is_running stage }
 {
-    match stage {
-        Stage::Begins => false,
-        Stage::Runs => true,
-        Stage::Wants => false,
-        Stage::Total => false,
-        Stage::Fault => false,
-        Stage::Over => false,
-    }
+    matches!(stage, Stage::Runs)
 }
 
 // What comes behind a run, by why it stopped.
+#[tactic(auto, unfolding(crate::specs::Handed::handed, crate::specs::Handed::moved), using(memory::proofs::Branches::branches))]
 pub fn hand_on(kept: Kept, p: Progress, input: &mut [u8]) -> Kept
     requires { (kept.from + p.read ≤ kept.end) × (kept.end ≤ length input.old) }
     ensures { (result ≡ handed kept p) × (input.new ≡ moved kept p input.old) }
 {
-    let stop = p.stop;
     let at = kept.from + p.read;
-    match stop {
+    match p.stop {
         Stop::Output => Kept {
             from: at,
-            end: kept.end,
             events: p.events,
-            ended: kept.ended,
             written: p.written,
             stage: Stage::Runs,
+            ..kept
         },
         Stop::NotAnEvent => super::close(p.events, p.written, Stage::Fault),
         Stop::Input => rest(at, kept.end, kept.ended, p.events, p.written, input),
@@ -58,6 +44,7 @@ pub fn hand_on(kept: Kept, p: Progress, input: &mut [u8]) -> Kept
 
 // All whole lines are run, up to `at`: at the end of the trace nothing is left. A line that is too long is not an event, wherever it ends.
 // Else more is wanted, and what is left moves to the start of the input.
+#[tactic(auto, unfolding(crate::specs::Handed::onward), using(memory::proofs::Branches::branches))]
 fn rest(at: usize, end: usize, ended: bool, events: u64, written: usize, input: &mut [u8]) -> Kept
     requires { at ≤ end }
     ensures { (result ≡ onward (end - at) ended events written) × (input.new ≡ moved_for result at end input.old) }

@@ -3,10 +3,12 @@
 #![tactic(auto)]
 
 ghost use Rattle.std.specs.Prelude.{◌≡◌, ◌≤◌, length};
-ghost use Rattle.replaying.specs.Desk.{desk_of};
+ghost use Rattle.replaying.specs.Lents.{desk, SameReferences};
 ghost use Rattle.streaming.specs.Stages.{begun, wants, is_over, nothing, closes};
 ghost use Rattle.streaming.specs.Fed.{fed_of};
 ghost use Rattle.streaming.specs.Streams.{stream_of, turned};
+
+use replaying::Lent;
 
 mod feeding; // feeding.rt: what a read has brought
 mod handing; // handing.rt: what waits, before a run and behind it
@@ -30,7 +32,7 @@ pub struct Kept {
     pub from: usize,
     pub end: usize,
     pub events: u64,
-    pub ended: bool,
+    pub ended: bool, // not a stage: what waits is run both before the end of the trace is read and after it
     pub written: usize,
     pub stage: Stage,
 }
@@ -53,28 +55,14 @@ pub fn begin(n: usize) -> Kept
 pub fn wants_more(stage: Stage) -> bool
     ensures { result ≡ wants stage }
 {
-    match stage {
-        Stage::Begins => false,
-        Stage::Runs => false,
-        Stage::Wants => true,
-        Stage::Total => false,
-        Stage::Fault => false,
-        Stage::Over => false,
-    }
+    matches!(stage, Stage::Wants)
 }
 
 // Whether the listing is written.
 pub fn is_over(stage: Stage) -> bool
     ensures { result ≡ is_over stage }
 {
-    match stage {
-        Stage::Begins => false,
-        Stage::Runs => false,
-        Stage::Wants => false,
-        Stage::Total => false,
-        Stage::Fault => false,
-        Stage::Over => true,
-    }
+    matches!(stage, Stage::Over)
 }
 
 // Nothing is left to do.
@@ -106,6 +94,7 @@ fn close(events: u64, written: usize, stage: Stage) -> Kept
 }
 
 // n bytes were read behind what waits; none where the trace is at its end.
+#[tactic(auto, unfolding(crate::specs::Fed::fed_of), using(memory::proofs::Branches::branches))]
 pub fn feed(kept: Kept, n: usize, input: &mut [u8]) -> Kept
     ensures { (result ≡ (fed_of kept n input.old).kept) × (input.new ≡ (fed_of kept n input.old).input) }
 {
@@ -119,19 +108,9 @@ pub fn feed(kept: Kept, n: usize, input: &mut [u8]) -> Kept
 }
 
 // One turn: the next line or the next rows of the listing at the start of the output; where more is wanted, the unread rest is at the start of the input.
-pub fn turn(
-    kept: Kept,
-    input: &mut [u8],
-    out: &mut [u8],
-    numbers: &mut [u16; layout::NUMBERS],
-    counts: &mut [u32; layout::COUNTS],
-    journal: &mut [u8],
-    unfinished: &mut [u8],
-    frames: &mut [u8],
-    buffer: &mut [u8],
-) -> Kept
-    ensures { (stream_of result input.new out.new (desk_of numbers.new counts.new journal.new unfinished.new frames.new buffer.new)
-        ≡ turned (stream_of kept input.old out.old (desk_of numbers.old counts.old journal.old unfinished.old frames.old buffer.old)))
+pub fn turn(kept: Kept, input: &mut [u8], out: &mut [u8], lent: &mut Lent<'_>) -> Kept
+    ensures same_references { SameReferences lent.old lent.new }
+    ensures turn { (stream_of result input.new out.new (desk lent.new) ≡ turned (stream_of kept input.old out.old (desk lent.old)))
         × (result.written ≤ length out.new) }
 {
     if !handing::is_ready(kept, input.len()) {
@@ -139,19 +118,6 @@ pub fn turn(
     }
     let from = kept.from;
     let end = kept.end;
-    handing::hand_on(
-        kept,
-        replaying::run(
-            kept.events,
-            &input[from..end],
-            out,
-            numbers,
-            counts,
-            journal,
-            unfinished,
-            frames,
-            buffer,
-        ),
-        input,
-    )
+    let progress = replaying::run(kept.events, &input[from..end], out, lent);
+    handing::hand_on(kept, progress, input)
 }

@@ -4,15 +4,14 @@ ghost use Rattle.streaming.specs.Said.{silent, behind};
 ghost use Rattle.streaming.specs.Inner.Ready.{instead_of};
 
 use super::{Kept, Stage};
-use listing::Written;
 
 // The line that comes next, at the start of the output; where none does, nothing. Where what waits cannot be run, nothing is left to do.
+#[tactic(auto, unfolding(crate::specs::Inner::Ready::instead_of, listing::specs::Texts::end_of, memory::specs::Moves::copied), using(memory::proofs::Branches::branches))]
 pub fn say(kept: Kept, out: &mut [u8]) -> Kept
     ensures { (result ≡ (instead_of kept out.old).kept) × (out.new ≡ (instead_of kept out.old).out)
         × (result.written ≤ length out.new) }
 {
-    let stage = kept.stage;
-    match stage {
+    match kept.stage {
         Stage::Begins => {
             let written = listing::write_header(out, 0);
             follow(kept, written, Stage::Runs)
@@ -33,32 +32,21 @@ pub fn say(kept: Kept, out: &mut [u8]) -> Kept
 }
 
 // What comes behind a line that was written; where it had no room, nothing.
-fn follow(kept: Kept, written: Written, stage: Stage) -> Kept
+fn follow(kept: Kept, written: Option<usize>, stage: Stage) -> Kept
     ensures { result ≡ behind kept written stage }
 {
     match written {
-        Written::To(n) => Kept {
-            from: kept.from,
-            end: kept.end,
-            events: kept.events,
-            ended: kept.ended,
+        Some(n) => Kept {
             written: n,
             stage,
+            ..kept
         },
-        Written::NotFitting => super::over(),
+        None => super::over(),
     }
 }
 
 fn quiet(kept: Kept) -> Kept
     ensures { result ≡ silent kept }
 {
-    let stage = kept.stage;
-    Kept {
-        from: kept.from,
-        end: kept.end,
-        events: kept.events,
-        ended: kept.ended,
-        written: 0,
-        stage,
-    }
+    Kept { written: 0, ..kept }
 }

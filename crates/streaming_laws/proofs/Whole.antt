@@ -1,5 +1,6 @@
 -- The listing of a whole trace: rows in front of it, a rest without a newline, and a line that is too long.
 -- Assumes nothing.
+use Rattle.std.specs.Prelude.{None}
 use mathlib.Core.Path.{◌≡◌, refl, sym, ap, subst, ◌∙◌}
 use mathlib.Core.Bool.{Bool, true, false, ◌&&◌}
 use mathlib.Core.List.{List, [], ◌∷◌, ◌++◌, append_assoc}
@@ -15,7 +16,6 @@ use Rattle.memory.proofs.Tests.{find_le}
 use Rattle.sequence.specs.Numbers.{is_digit}
 use Rattle.listing.specs.Texts.{newline, fault_text}
 use Rattle.listing.specs.Items.{shortest, line_limit, operand_at, operand_of, is_laid_out, item_of}
-use Rattle.listing.specs.declared.Item.TheVariants.{NotAnEvent as NoItem}
 use Rattle.replaying.specs.Desk.{Desk}
 use Rattle.replaying.specs.Runs.{following}
 use Rattle.replaying.specs.Listed.{Listed, no_rows, in_front, by_line, listed, listing_of}
@@ -74,11 +74,11 @@ find_behind p (x ∷ a) b e = by_first (p x) refl (λ q. find_behind p a b (omeg
     by_first true q g = absurd (omega (arith, rw q at e))
     by_first false q g = rw q (omega (arith, g q))
 
-too_long : (text : List ℕ) → line_limit < length text → item_of text ≡ NoItem
+too_long : (text : List ℕ) → line_limit < length text → item_of text ≡ None
 unfolding item_of is_laid_out
 too_long text h = rw (lt-leb (length text) line_limit h) (by_short (leb shortest (length text)))
   where
-    by_short : (b : Bool) → unless (b && false && is_digit (get_or text 0 0) && is 0x20 (get_or text 1 0) && is 0x20 (get_or text 3 0)) NoItem (operand_of (get_or text 0 0 - 0x30) (get_or text 2 0) (drop operand_at text)) ≡ NoItem
+    by_short : (b : Bool) → unless (b && false && is_digit (get_or text 0 0) && is 0x20 (get_or text 1 0) && is 0x20 (get_or text 3 0)) None (operand_of (get_or text 0 0 - 0x30) (get_or text 2 0) (drop operand_at text)) ≡ None
     by_short true = refl
     by_short false = refl
 
@@ -91,7 +91,7 @@ module _ (rest : List ℕ) (n : ℕ) (d : Desk) (none : find (is newline) rest �
       let k = find (is newline) text in
       let far : length rest ≤ k = omega (arith, find_behind (is newline) rest more none) in
       let line : length (take k text) ≡ k = length-take-le k text (omega (arith, h)) in
-      let item : NoItem ≡ item_of (take k text) = sym (too_long (take k text) (omega (arith, line, far, long))) in
+      let item : None ≡ item_of (take k text) = sym (too_long (take k text) (omega (arith, line, far, long))) in
       let fuel : length text ≡ suc (length text - 1) = omega (arith, h) in
       ap (λ (m : ℕ). listed m text n d) fuel
       ∙ ap (λ (x : Next). by_line x text n d (λ behind e. listed (length text - 1) (drop behind text) (following n) e)) (sym (whole text 0 refl h item))

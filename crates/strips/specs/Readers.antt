@@ -1,9 +1,8 @@
 -- What is kept of a strip reader beside its line's record.
 -- Assumes nothing.
-use Rattle.std.specs.Prelude.{ℕ, Bool, true, false, ◌&&◌, List, [], ◌∷◌, eqb, replicate}
+use Rattle.std.specs.Prelude.{ℕ, Bool, true, false, ◌&&◌, List, [], ◌∷◌, eqb, replicate, None}
 use Rattle.settings.specs.Settings.{block_limit}
 use Rattle.strips.specs.declared.Reader.{Reader}
-use Rattle.strips.specs.declared.Replied.TheVariants.{NoneYet}
 
 -- and the last stored block, one byte to a number; a shorter one leaves the numbers behind it
 pub record Memo : Type 0 where
@@ -11,7 +10,7 @@ pub record Memo : Type 0 where
   pub block : List ℕ
 
 abbrev pub fresh_reader : Reader
-fresh_reader = record { reply = NoneYet; since = false; kept = false }
+fresh_reader = record { reply = None; since = false; kept = false }
 
 -- nothing was replied, nothing stored [B7]
 abbrev pub fresh_memo : Memo

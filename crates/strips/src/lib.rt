@@ -16,19 +16,18 @@ use characters::{CR, STX};
 use line::{Line, State};
 use settings::Patient;
 
-// Our last reply to the reader: none yet, that it may send more, or that it is to send again.
+// Our reply to a reader, with its number: that it may send more, or that it is to send again.
 #[derive(Clone, Copy)]
-pub enum Replied {
-    NoneYet,
-    More,
-    Again,
+pub enum Reply {
+    More = 1,
+    Again = 2,
 }
 
 // What is kept of a reader beside its line's record: our last reply, whether it asked or wanted that reply again since its last stored
 // block, and whether there is such a block.
 #[derive(Clone, Copy)]
 pub struct Reader {
-    pub reply: Replied,
+    pub reply: Option<Reply>,
     pub since: bool,
     pub kept: bool,
 }
@@ -54,7 +53,7 @@ impl Reader {
         ensures { result ≡ fresh_reader }
     {
         Reader {
-            reply: Replied::NoneYet,
+            reply: None,
             since: false,
             kept: false,
         }
@@ -62,40 +61,31 @@ impl Reader {
 }
 
 // Our last reply by its number, and its number.
-pub fn replied_of(n: u16) -> Replied
+pub fn replied_of(n: u16) -> Option<Reply>
     ensures { result ≡ replied_of n }
 {
-    if n == 0 {
-        return Replied::NoneYet;
+    match n {
+        0 => None,
+        1 => Some(Reply::More),
+        _ => Some(Reply::Again),
     }
-    if n == 1 {
-        return Replied::More;
-    }
-    Replied::Again
 }
 
-pub fn reply_number(reply: Replied) -> u16
+pub fn reply_number(reply: Option<Reply>) -> u16
     ensures { result ≡ reply_number reply }
 {
-    match reply {
-        Replied::NoneYet => 0,
-        Replied::More => 1,
-        Replied::Again => 2,
-    }
+    reply.map_or(0, |reply| reply as u16)
 }
 
 // A byte on a reader's line: between blocks all but STX is ignored.
+#[tactic(auto, unfolding(crate::specs::Sights::sight_of))]
 pub fn see(patient: Patient, line: Line, byte: u8) -> Sight
     ensures { result ≡ sight_of patient line byte }
 {
-    let state = line.state;
-    if !takes(state, byte) {
+    if !takes(line.state, byte) {
         return Sight::Ignores;
     }
-    if byte == CR {
-        return Sight::Judges;
-    }
-    if line.collected as usize + 1 == patient.results_length() {
+    if byte == CR || usize::from(line.collected) + 1 == patient.results_length() {
         return Sight::Judges;
     }
     Sight::Adds
@@ -104,21 +94,7 @@ pub fn see(patient: Patient, line: Line, byte: u8) -> Sight
 fn takes(state: State, byte: u8) -> bool
     ensures { result ≡ is_inside state || is stx byte }
 {
-    if is_inside(state) {
-        return true;
-    }
-    byte == STX
-}
-
-fn is_inside(state: State) -> bool
-    ensures { result ≡ is_inside state }
-{
-    match state {
-        State::Neutral => false,
-        State::Waiting => false,
-        State::Inside => true,
-        State::Out(_) => false,
-    }
+    matches!(state, State::Inside) || byte == STX
 }
 
 // A whole block, by what it is; `again` says that it is the last stored one, repeated.
@@ -126,13 +102,16 @@ pub fn hear(judged: Judged, again: bool, reader: Reader) -> Hearing
     ensures { result ≡ hearing_of judged again reader }
 {
     match judged {
-        Judged::OddLength => heard(Answer::OddLength, replied_with(Replied::Again, reader)),
-        Judged::OddTest => heard(Answer::OddTest, replied_with(Replied::Again, reader)),
-        Judged::OddByte => heard(Answer::OddByte, replied_with(Replied::Again, reader)),
-        Judged::Multiple => heard(Answer::Heard, replied_with(Replied::More, marked(reader))),
+        Judged::OddLength => heard(Answer::OddLength, replied_with(Some(Reply::Again), reader)),
+        Judged::OddTest => heard(Answer::OddTest, replied_with(Some(Reply::Again), reader)),
+        Judged::OddByte => heard(Answer::OddByte, replied_with(Some(Reply::Again), reader)),
+        Judged::Multiple => heard(
+            Answer::Heard,
+            replied_with(Some(Reply::More), marked(reader)),
+        ),
         Judged::Repeat => heard(reply_answer(reader), marked(reader)),
         Judged::End => heard(Answer::Noted, reader),
-        Judged::Colours => heard(Answer::Heard, replied_with(Replied::More, reader)),
+        Judged::Colours => heard(Answer::Heard, replied_with(Some(Reply::More), reader)),
         Judged::Results => hear_results(again, reader),
     }
 }
@@ -142,7 +121,7 @@ fn hear_results(again: bool, reader: Reader) -> Hearing
     ensures { result ≡ hearing_of Results again reader }
 {
     if again {
-        return heard(Answer::Heard, replied_with(Replied::More, reader));
+        return heard(Answer::Heard, replied_with(Some(Reply::More), reader));
     }
     Hearing {
         answer: Answer::Filed,
@@ -161,24 +140,18 @@ fn heard(answer: Answer, reader: Reader) -> Hearing
     }
 }
 
-fn replied_with(reply: Replied, reader: Reader) -> Reader
+fn replied_with(reply: Option<Reply>, reader: Reader) -> Reader
     ensures { result ≡ replied_with reply reader }
 {
-    Reader {
-        reply,
-        since: reader.since,
-        kept: reader.kept,
-    }
+    Reader { reply, ..reader }
 }
 
 fn marked(reader: Reader) -> Reader
     ensures { result ≡ marked_with reader }
 {
-    let reply = reader.reply;
     Reader {
-        reply,
         since: true,
-        kept: reader.kept,
+        ..reader
     }
 }
 
@@ -187,7 +160,7 @@ pub fn filed() -> Reader
     ensures { result ≡ filed_reader }
 {
     Reader {
-        reply: Replied::More,
+        reply: Some(Reply::More),
         since: false,
         kept: true,
     }
@@ -197,10 +170,8 @@ pub fn filed() -> Reader
 fn reply_answer(reader: Reader) -> Answer
     ensures { result ≡ reply_answer reader.reply }
 {
-    let reply = reader.reply;
-    match reply {
-        Replied::NoneYet => Answer::Noted,
-        Replied::More => Answer::Heard,
-        Replied::Again => Answer::Heard,
+    match reader.reply {
+        None => Answer::Noted,
+        Some(_) => Answer::Heard,
     }
 }

@@ -1,48 +1,39 @@
 -- Texts that a host cuts, reads, escapes and unescapes: what became of one, in plain numbers. A message is read by the delimiters that it names; to escape and
 -- unescape, a host hands them over, four bytes in the order of a header.
 -- Assumes nothing.
-use Rattle.std.specs.Prelude.{ℕ, ◌≡◌, List, length}
+use Rattle.faults.specs.declared.Refusal.{Refusal}
+use Rattle.escaping.specs.declared.Refusal.{Refusal as EscapeRefusal}
+use Rattle.std.specs.Prelude.{ℕ, ◌≡◌, List, length, Err, Ok, Result}
 use Rattle.memory.specs.Sizes.{frame_limit}
 use Rattle.kinds.specs.Delimiters.{four_at}
 use Rattle.records.specs.Records.{records}
 use Rattle.escaping.specs.Escape.{escape_answer, escaped_over}
 use Rattle.escaping.specs.Unescape.{unescape_answer, unescaped_over}
-use Rattle.escaping.specs.declared.Put.{Put}
-use Rattle.escaping.specs.declared.Put.TheVariants as put
 use Rattle.owner.specs.Owners.{types_of, owners_of}
 use Rattle.owner.specs.Reading.{offsets_of, lengths_of, reading_of, laid}
-use Rattle.owner.specs.declared.Reading.{Reading}
-use Rattle.owner.specs.declared.Reading.TheVariants as reading
 use Rattle.cutting.specs.Frames.{cut_answer, cut_in}
-use Rattle.cutting.specs.declared.Framed.{Framed}
-use Rattle.cutting.specs.declared.Framed.TheVariants as framed
 use Rattle.answers.specs.InNumbers.{done, refused_with}
 use Rattle.answers.specs.declared.Answer.TheVariants.{Malformed, NotFitting, Faulty}
 use Rattle.answers.specs.declared.Fault.TheVariants.{BadDelimiters}
 use Rattle.answers.specs.declared.Made.{Made}
 
-unfoldable pub made_by_cutting : Framed → Made
-made_by_cutting (framed.Length n) = done n
-made_by_cutting framed.Malformed = refused_with Malformed
-made_by_cutting framed.NotFitting = refused_with NotFitting
-made_by_cutting (framed.Faulty f place) = refused_with (Faulty f place)
+-- what became of a text that was cut or read
+unfoldable pub made_of : Result ℕ Refusal → Made
+made_of (Ok n) = done n
+made_of (Err Refusal.Malformed) = refused_with Malformed
+made_of (Err Refusal.NotFitting) = refused_with NotFitting
+made_of (Err (Refusal.Faulty f place)) = refused_with (Faulty f place)
 
 -- a four that is not allowed has no record, and so no place [A55]
-unfoldable pub made_by_putting : Put → Made
-made_by_putting (put.Done n) = done n
-made_by_putting put.Malformed = refused_with Malformed
-made_by_putting put.NotFitting = refused_with NotFitting
-made_by_putting put.BadDelimiters = refused_with (Faulty BadDelimiters 0)
-
-unfoldable pub made_by_reading : Reading → Made
-made_by_reading (reading.Read n) = done n
-made_by_reading reading.Malformed = refused_with Malformed
-made_by_reading reading.NotFitting = refused_with NotFitting
-made_by_reading (reading.Faulty f place) = refused_with (Faulty f place)
+unfoldable pub made_by_putting : Result ℕ EscapeRefusal → Made
+made_by_putting (Ok n) = done n
+made_by_putting (Err EscapeRefusal.Malformed) = refused_with Malformed
+made_by_putting (Err EscapeRefusal.NotFitting) = refused_with NotFitting
+made_by_putting (Err EscapeRefusal.BadDelimiters) = refused_with (Faulty BadDelimiters 0)
 
 -- a message cut into frames of today's limit
 pub record CutFrames (text out : List ℕ) (r : Made) (out' : List ℕ) : Type 0 where
-  pub result : r ≡ made_by_cutting (cut_answer frame_limit text out)
+  pub result : r ≡ made_of (cut_answer frame_limit text out)
   pub after : out' ≡ cut_in frame_limit text out
 
 -- a text with its delimiters escaped
@@ -56,11 +47,11 @@ pub record Unescaped (four c out : List ℕ) (r : Made) (out' : List ℕ) : Type
   pub after : out' ≡ unescaped_over (four_at 0 four) c out
 
 -- a message read: types, offsets, lengths and owners of its records
-abbrev pub reading_into : List ℕ → List ℕ → List ℕ → List ℕ → List ℕ → Reading
+abbrev pub reading_into : List ℕ → List ℕ → List ℕ → List ℕ → List ℕ → Result ℕ Refusal
 reading_into text ts os ls ws = reading_of text (length ts) (length os) (length ls) (length ws)
 
 pub record RecordsRead (text ts os ls ws : List ℕ) (r : Made) (ts' os' ls' ws' : List ℕ) : Type 0 where
-  pub result : r ≡ made_by_reading (reading_into text ts os ls ws)
+  pub result : r ≡ made_of (reading_into text ts os ls ws)
   pub types : ts' ≡ laid (reading_into text ts os ls ws) ts (types_of (records text))
   pub offsets : os' ≡ laid (reading_into text ts os ls ws) os (offsets_of 0 (records text))
   pub lengths : ls' ≡ laid (reading_into text ts os ls ws) ls (lengths_of (records text))

@@ -3,20 +3,18 @@
 #![tactic(auto)]
 
 ghost use Rattle.std.specs.Prelude.{◌≡◌};
-ghost use Rattle.texts.specs.Texts.{made_by_cutting, made_by_putting, made_by_reading, CutFrames, Escaped, Unescaped, RecordsRead};
+ghost use Rattle.texts.specs.Texts.{made_of, made_by_putting, CutFrames, Escaped, Unescaped, RecordsRead};
 
 use answers::{Answer, Fault, Made, done, refused_with};
-use cutting::Framed;
-use escaping::Put;
+use faults::Refusal;
 use kinds::Delimiters;
-use owner::Reading;
 
 // Cuts a message into frames.
 pub fn cut(text: &[u8], out: &mut [u8]) -> Made
     ensures { CutFrames text.now out.old result out.new }
 {
     let framed = cutting::cut(memory::FRAME_LIMIT, text, out);
-    made_by_cutting(framed)
+    made_of(framed)
 }
 
 // Escapes the delimiters of a text, which are handed over in the order of a header.
@@ -47,39 +45,33 @@ pub fn read(
         result types.new offsets.new lengths.new owners.new }
 {
     let reading = owner::read(text, types, offsets, lengths, owners);
-    made_by_reading(reading)
+    made_of(reading)
 }
 
-fn made_by_cutting(framed: Framed) -> Made
-    ensures { result ≡ made_by_cutting framed }
+// What became of a text that was cut or read.
+#[tactic(auto, unfolding(crate::specs::Texts::made_of))]
+fn made_of(done_to: Result<usize, Refusal>) -> Made
+    ensures { result ≡ made_of done_to }
 {
-    match framed {
-        Framed::Length(n) => done(n),
-        Framed::Malformed => refused_with(Answer::Malformed),
-        Framed::NotFitting => refused_with(Answer::NotFitting),
-        Framed::Faulty(fault, place) => refused_with(Answer::Faulty(fault, place)),
+    match done_to {
+        Ok(n) => done(n),
+        Err(Refusal::Malformed) => refused_with(Answer::Malformed),
+        Err(Refusal::NotFitting) => refused_with(Answer::NotFitting),
+        Err(Refusal::Faulty(fault, place)) => refused_with(Answer::Faulty(fault, place)),
     }
 }
 
-fn made_by_putting(put: Put) -> Made
+#[tactic(auto, unfolding(crate::specs::Texts::made_by_putting))]
+fn made_by_putting(put: Result<usize, escaping::Refusal>) -> Made
     ensures { result ≡ made_by_putting put }
 {
     match put {
-        Put::Done(n) => done(n),
-        Put::Malformed => refused_with(Answer::Malformed),
-        Put::NotFitting => refused_with(Answer::NotFitting),
+        Ok(n) => done(n),
+        Err(escaping::Refusal::Malformed) => refused_with(Answer::Malformed),
+        Err(escaping::Refusal::NotFitting) => refused_with(Answer::NotFitting),
         // No record is wrong, so there is no place.
-        Put::BadDelimiters => refused_with(Answer::Faulty(Fault::BadDelimiters, 0)),
-    }
-}
-
-fn made_by_reading(reading: Reading) -> Made
-    ensures { result ≡ made_by_reading reading }
-{
-    match reading {
-        Reading::Read(n) => done(n),
-        Reading::Malformed => refused_with(Answer::Malformed),
-        Reading::NotFitting => refused_with(Answer::NotFitting),
-        Reading::Faulty(fault, place) => refused_with(Answer::Faulty(fault, place)),
+        Err(escaping::Refusal::BadDelimiters) => {
+            refused_with(Answer::Faulty(Fault::BadDelimiters, 0))
+        }
     }
 }

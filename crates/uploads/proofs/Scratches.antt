@@ -1,6 +1,9 @@
 -- What lies in a scratch: the block that a byte ends, and the finding of a block with results.
 -- Assumes nothing.
-use mathlib.Core.Path.{◌≡◌, ap, ◌∙◌}
+use Rattle.std.proofs.lemmas.Option.{same_Some}
+use Rattle.std.specs.Prelude.{Option, Some, true}
+use Rattle.std.specs.Option.{is_some}
+use mathlib.Core.Path.{sym, ◌≡◌, ap, ◌∙◌}
 use mathlib.Core.Bool.{Bool}
 use mathlib.Core.List.{List, [], ◌∷◌, ◌++◌}
 use Prim.Native.Nat.{ℕ, ◌+◌, ◌-◌, ◌≤◌, ◌<◌}
@@ -40,22 +43,28 @@ module _ (place frames : List ℕ) (i n b : ℕ) {r : Bool} {place' : List ℕ} 
       rw (add-one, take-suc-set place' n b (omega (arith, still_long)), front, own)
 
 -- the finding of a block of the right length, in a scratch of the right size
-module _ (p : Patient) (bs out : List ℕ) {r : ℕ} {out' : List ℕ} (right : length bs ≡ results_length p) (size : length out ≡ finding_limit) (x : FindingPut p bs out r out') where
-  made_length : r ≡ length (finding_of p bs)
+module _ (p : Patient) (bs out : List ℕ) {r : Option ℕ} {out' : List ℕ} (right : length bs ≡ results_length p) (size : length out ≡ finding_limit) (x : FindingPut p bs out r out') where
+  made_answer : r ≡ Some (length (finding_of p bs))
   unfolding put_length
-  made_length = x.answer ∙ rw (eq-eqb (length bs) (results_length p) right, size)
+  made_answer = x.answer ∙ rw (eq-eqb (length bs) (results_length p) right, size)
+
+  pub made_there : is_some r ≡ true
+  made_there = ap is_some made_answer
+
+  made_length : {n : ℕ} → r ≡ Some n → n ≡ length (finding_of p bs)
+  made_length is = same_Some _ _ (sym is ∙ made_answer)
 
   made_over : out' ≡ splice out 0 (finding_of p bs)
   unfolding put_over
   made_over = x.after ∙ rw (eq-eqb (length bs) (results_length p) right, size)
 
-  pub made_fits : r ≤ length out'
-  made_fits =
+  pub made_fits : {n : ℕ} → r ≡ Some n → n ≤ length out'
+  made_fits is =
       let short : length (finding_of p bs) ≤ finding_limit = finding_short p bs in
       let same : length out' ≡ length out = ap length made_over ∙ length_splice out 0 (finding_of p bs) (omega arith) in
-      omega (arith, made_length)
+      omega (arith, made_length is)
 
-  pub made_text : take r out' ≡ finding_of p bs
-  made_text =
+  pub made_text : {n : ℕ} → r ≡ Some n → take n out' ≡ finding_of p bs
+  made_text is =
       let short : length (finding_of p bs) ≤ finding_limit = finding_short p bs in
-      rw made_length (held out (finding_of p bs) (omega arith) made_over)
+      rw (made_length is) (held out (finding_of p bs) (omega arith) made_over)

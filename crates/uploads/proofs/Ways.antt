@@ -1,5 +1,8 @@
 -- Each way out of the work on a block.
 -- Assumes nothing.
+use Rattle.std.specs.Result.{is_ok}
+use Rattle.std.specs.Prelude.{Result, Ok, Err}
+use Rattle.journal.specs.declared.Refusal.{Refusal}
 use mathlib.Core.Path.{◌≡◌, refl, sym, ap, subst, ◌∙◌}
 use mathlib.Core.Bool.{Bool, true, false}
 use mathlib.Core.List.{List}
@@ -12,12 +15,10 @@ use Rattle.room.specs.Room.{todays_shares}
 use Rattle.settings.specs.Settings.{results_length, block_limit}
 use Rattle.settings.specs.declared.Patient.{Patient}
 use Rattle.header.proofs.Heads.{head_size_high}
-use Rattle.journal.specs.Answers.{is_fits}
 use Rattle.journal.specs.Verdicts.{judge_of}
 use Rattle.journal.specs.Storage.{grown, store_by, store_of, Stored}
 use Rattle.journal.specs.declared.Ledger.{Ledger}
 use Rattle.journal.specs.declared.Storing.{Storing}
-use Rattle.journal.specs.declared.Verdict.{Verdict as Judgement}
 use Rattle.journal.proofs.Judged.{fits_facts}
 use Rattle.journal.proofs.Wholes.{kept}
 use Rattle.line.specs.declared.Line.{Line}
@@ -41,19 +42,19 @@ use Rattle.uploads.proofs.Readings.{results_fit, reader_within}
 use Rattle.uploads.proofs.Acts.{acted}
 
 -- what storing a finding does is what the journal's answer comes to
-store_row : (q : Judgement) (r : Reader) (d : Ledger) (i : ℕ) (text j : List ℕ)
+store_row : (q : Result (Unit {0}) Refusal) (r : Reader) (d : Ledger) (i : ℕ) (text j : List ℕ)
     → ((store_by q d i text j).storing.answer ≡ q)
     × ((store_by q d i text j).storing.ledger ≡ ledger_by (filing q r).deed d i text)
     × ((store_by q d i text j).journal ≡ journal_by (filing q r).deed d i text j)
-store_row Judgement.Fits r d i text j = (refl, refl, refl)
-store_row Judgement.NoRoom r d i text j = (refl, refl, refl)
-store_row Judgement.Broken r d i text j = (refl, refl, refl)
-store_row Judgement.NoLine r d i text j = (refl, refl, refl)
-store_row Judgement.WrongSize r d i text j = (refl, refl, refl)
-store_row Judgement.Malformed r d i text j = (refl, refl, refl)
+store_row (Ok tt) r d i text j = (refl, refl, refl)
+store_row (Err Refusal.NoRoom) r d i text j = (refl, refl, refl)
+store_row (Err Refusal.Broken) r d i text j = (refl, refl, refl)
+store_row (Err Refusal.NoLine) r d i text j = (refl, refl, refl)
+store_row (Err Refusal.WrongSize) r d i text j = (refl, refl, refl)
+store_row (Err Refusal.Malformed) r d i text j = (refl, refl, refl)
 
 -- an entry that fits leaves fewer bytes in use than the journal and one entry have: a number of 32 bits
-pub grown_narrow : (d : Ledger) (i : ℕ) (j : List ℕ) (n : ℕ) → is_fits (judge_of d todays_shares i n j) ≡ true → Narrow (grown d i n)
+pub grown_narrow : (d : Ledger) (i : ℕ) (j : List ℕ) (n : ℕ) → is_ok (judge_of d todays_shares i n j) ≡ true → Narrow (grown d i n)
 unfolding grown
 grown_narrow d i j n q =
     let f = fits_facts d todays_shares i n j q in
@@ -65,13 +66,13 @@ pub stored_narrow : (d : Ledger) (i : ℕ) (t j : List ℕ) {s : Storing} {j' : 
 unfolding store_of
 stored_narrow d i t j w st = subst (λ (x : Storing). Narrow x.ledger) (sym st.result) (by_verdict (judge_of d todays_shares i (length t) j) refl)
   where
-    by_verdict : (q : Judgement) → judge_of d todays_shares i (length t) j ≡ q → Narrow (store_by q d i t j).storing.ledger
-    by_verdict Judgement.Fits e = grown_narrow d i j (length t) (ap is_fits e)
-    by_verdict Judgement.NoRoom e = w
-    by_verdict Judgement.Broken e = w
-    by_verdict Judgement.NoLine e = w
-    by_verdict Judgement.WrongSize e = w
-    by_verdict Judgement.Malformed e = w
+    by_verdict : (q : Result (Unit {0}) Refusal) → judge_of d todays_shares i (length t) j ≡ q → Narrow (store_by q d i t j).storing.ledger
+    by_verdict (Ok tt) e = grown_narrow d i j (length t) (ap is_ok e)
+    by_verdict (Err Refusal.NoRoom) e = w
+    by_verdict (Err Refusal.Broken) e = w
+    by_verdict (Err Refusal.NoLine) e = w
+    by_verdict (Err Refusal.WrongSize) e = w
+    by_verdict (Err Refusal.Malformed) e = w
 
 -- only a right block with results is for storing
 pub stores_results : (q : Judged) (again : Bool) (r : Reader) → (hearing_of q again r).stores ≡ true → q ≡ judged.Results

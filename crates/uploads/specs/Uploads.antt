@@ -1,13 +1,13 @@
 -- One event on a strip reader's line: the whole of it, on its record, what is kept of the reader, the ledger and the lent bytes.
 -- Assumes nothing.
-use Rattle.std.specs.Prelude.{ℕ, ◌+◌, List, [], ltb, length}
+use Rattle.journal.specs.declared.Refusal.{Refusal}
+use Rattle.std.specs.Prelude.{ℕ, ◌+◌, List, [], ltb, length, Result, Ok, Err}
 use Rattle.memory.specs.Sizes.{lines}
 use Rattle.memory.specs.Parts.{splice}
 use Rattle.memory.specs.Tests.{unless}
 use Rattle.journal.specs.Verdicts.{judge_of}
 use Rattle.journal.specs.Storage.{grown, appended}
 use Rattle.journal.specs.declared.Ledger.{Ledger}
-use Rattle.journal.specs.declared.Verdict.{Verdict as Judgement}
 use Rattle.settings.specs.declared.Patient.{Patient}
 use Rattle.line.specs.Line.{block_within}
 use Rattle.line.specs.declared.Line.{Line}
@@ -57,16 +57,16 @@ abbrev pub ruling : Deed → Answer → Ruling
 ruling x a = record { deed = x; answer = a }
 
 -- what the journal says of a finding: 43, 31, or it is stored. That it has no line, no right size or no text is never asked here. [A4, A31, A43, B9]
-abbrev pub filing : Judgement → Reader → Ruling
-filing Judgement.Fits r = ruling file Filed
-filing Judgement.NoRoom r = ruling (settle r) Crowded
-filing Judgement.Broken r = ruling leave Broken
-filing Judgement.NoLine r = ruling leave NoLine
-filing Judgement.WrongSize r = ruling leave WrongSize
-filing Judgement.Malformed r = ruling leave Malformed
+abbrev pub filing : Result (Unit {0}) Refusal → Reader → Ruling
+filing (Ok tt) r = ruling file Filed
+filing (Err Refusal.NoRoom) r = ruling (settle r) Crowded
+filing (Err Refusal.Broken) r = ruling leave Broken
+filing (Err Refusal.NoLine) r = ruling leave NoLine
+filing (Err Refusal.WrongSize) r = ruling leave WrongSize
+filing (Err Refusal.Malformed) r = ruling leave Malformed
 
 -- a whole block: only one whose finding is to be stored asks the journal [B9]
-abbrev pub heard_by : Hearing → Reader → Judgement → Ruling
+abbrev pub heard_by : Hearing → Reader → Result (Unit {0}) Refusal → Ruling
 heard_by h r j = unless h.stores (ruling (settle h.reader) h.answer) (filing j r)
 
 -- the block that a byte makes, with what the line has of the frames

@@ -74,16 +74,11 @@ fn put_byte(line: Line, i: usize, byte: u8, frames: &mut [u8])
 fn judged(line: Line) -> Line
     ensures { result ≡ judged_line line }
 {
-    let settings = line.settings;
-    let last = line.last;
     Line {
         state: State::Neutral,
         collected: 0,
         joined: 0,
         seconds: 0,
-        next: line.next,
-        last: last,
-        refusing: line.refusing,
-        settings: settings,
+        ..line
     }
 }

@@ -1,19 +1,16 @@
 // A block with results that is no repeat: its finding is stored, or not, and the line is left with what the journal says.
 ghost use Rattle.std.specs.Prelude.{◌≤◌, ◌≡◌, length};
-ghost use Rattle.room.specs.Room.{todays_shares};
 ghost use Rattle.settings.specs.Settings.{results_length, block_limit};
-ghost use Rattle.journal.specs.Verdicts.{judge_of};
-ghost use Rattle.ledger.specs.Ledgers.{Narrow, ledger_of};
-ghost use Rattle.looking.specs.Views.{frames_of};
+ghost use Rattle.ledger.specs.Ledgers.{Narrow};
 ghost use Rattle.looking.specs.declared.Kind.TheVariants.{Byte};
-ghost use Rattle.finding.specs.Findings.{finding_of};
 ghost use Rattle.keeping.specs.Keeping.{reader_of};
-ghost use Rattle.uploads.specs.Uploads.{block_bytes, filing};
-ghost use Rattle.uploads.specs.Inner.Ruled.{Reading, Room, Acted, Ruled};
+ghost use Rattle.uploads.specs.Uploads.{filing};
+ghost use Rattle.uploads.specs.Inner.Ruled.{Room, Acted};
+ghost use Rattle.uploads.specs.Inner.Lents.{Reads, own_block, filing_ruling, Leaves, SameReferences};
 
-use crate::{acting, storing};
+use crate::{Lent, acting, storing};
 use answers::{Answer, Answered};
-use journal::{Ledger, Verdict};
+use journal::{Ledger, Refusal};
 use layout::{COUNTS, NUMBERS};
 use line::Line;
 use settings::Patient;
@@ -24,28 +21,34 @@ pub fn file(
     i: u8,
     byte: u8,
     block: &[u8],
-    numbers: &mut [u16; NUMBERS],
-    counts: &mut [u32; COUNTS],
-    journal: &mut [u8],
-    frames: &mut [u8],
+    lent: &mut Lent<'_>,
 ) -> Answered
-    requires { Reading numbers.old frames.old patient line i × (block.now ≡ block_bytes line byte (frames_of i frames.old)) × (length block.now ≡ results_length patient) }
-    ensures { Ruled numbers.old counts.old journal.old frames.old patient line i (Byte byte)
-        (filing (judge_of (ledger_of numbers.old counts.old) todays_shares i (length (finding_of patient block.now)) journal.old) (reader_of numbers.old i))
-        result numbers.new counts.new journal.new frames.new }
+    requires { Reads lent.old patient line i × (block.now ≡ own_block lent.old line i byte) × (length block.now ≡ results_length patient) }
+    ensures same_references { SameReferences lent.old lent.new }
+    ensures ruled { Leaves lent.old patient line i (Byte byte) (filing_ruling lent.old patient i block.now) result lent.new }
 {
+    let numbers = &mut *lent.numbers;
+    let counts = &mut *lent.counts;
+    let journal = &mut *lent.journal;
+    let frames = &mut *lent.frames;
     let ledger = ledger::ledger_of(numbers, counts);
     let stored = storing::store(patient, ledger, i, block, journal);
-    let booked = stored.ledger;
-    let verdict = stored.answer;
     by_room(
-        verdict, booked, line, i as usize, byte, block, numbers, counts, frames,
+        stored.answer,
+        stored.ledger,
+        line,
+        i as usize,
+        byte,
+        block,
+        numbers,
+        counts,
+        frames,
     )
 }
 
 // What the journal's answer comes to, with its ledger then.
 fn by_room(
-    verdict: Verdict,
+    verdict: Result<(), Refusal>,
     ledger: Ledger,
     line: Line,
     i: usize,
@@ -60,18 +63,18 @@ fn by_room(
         (filing verdict (reader_of numbers.old i)) result numbers.new counts.new frames.new }
 {
     match verdict {
-        Verdict::Fits => {
+        Ok(()) => {
             acting::file(line, i, byte, block, ledger, numbers, counts, frames);
             answers::in_numbers(Answer::Filed)
         }
-        Verdict::NoRoom => {
+        Err(Refusal::NoRoom) => {
             let reader = keeping::reader_of(numbers, i);
             acting::settle(line, i, byte, reader, numbers, frames);
             answers::in_numbers(Answer::Crowded)
         }
-        Verdict::Broken => answers::in_numbers(Answer::Broken),
-        Verdict::NoLine => answers::in_numbers(Answer::NoLine),
-        Verdict::WrongSize => answers::in_numbers(Answer::WrongSize),
-        Verdict::Malformed => answers::in_numbers(Answer::Malformed),
+        Err(Refusal::Broken) => answers::in_numbers(Answer::Broken),
+        Err(Refusal::NoLine) => answers::in_numbers(Answer::NoLine),
+        Err(Refusal::WrongSize) => answers::in_numbers(Answer::WrongSize),
+        Err(Refusal::Malformed) => answers::in_numbers(Answer::Malformed),
     }
 }

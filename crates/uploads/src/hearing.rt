@@ -20,15 +20,10 @@ pub fn hear(patient: Patient, i: usize, block: &[u8], numbers: &[u16; NUMBERS]) 
 }
 
 // Whether a block is the last stored one, and the reader asked since.
+#[tactic(auto, unfolding(keeping::specs::Keeping::is_kept))]
 fn is_again(reader: Reader, i: usize, block: &[u8], numbers: &[u16; NUMBERS]) -> bool
     requires { i < lines }
     ensures { result ≡ is_again (record { reader = reader; block = kept_block numbers.now i }) block.now }
 {
-    if !reader.since {
-        return false;
-    }
-    if !reader.kept {
-        return false;
-    }
-    keeping::is_kept(numbers, i, block)
+    reader.since && reader.kept && keeping::is_kept(numbers, i, block)
 }

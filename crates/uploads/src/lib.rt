@@ -2,14 +2,8 @@
 #![tactic(auto)]
 
 ghost use Rattle.std.specs.Prelude.{◌≡◌};
-ghost use Rattle.room.specs.Room.{todays_shares};
-ghost use Rattle.ledger.specs.Ledgers.{ledger_of};
-ghost use Rattle.looking.specs.Views.{frames_of};
 ghost use Rattle.looking.specs.declared.Kind.TheVariants.{Byte};
-ghost use Rattle.keeping.specs.Keeping.{memo_of};
-ghost use Rattle.uploads.specs.Uploads.{ruling_of};
 ghost use Rattle.uploads.specs.Calls.{Uploading};
-ghost use Rattle.uploads.specs.Inner.Ruled.{Reading, Ruled};
 
 use answers::{Answer, Answered};
 use layout::{COUNTS, NUMBERS};
@@ -26,6 +20,7 @@ mod storing; // storing.rt: its finding stored
 mod whole; // whole.rt: a whole block
 
 // An event on a strip reader's line: 40, 41, 42, which is also for a line of frames, then its work. No unfinished byte is written.
+#[inline(never)] // a frame of its own: a message that `calls` decides needs none of this one's places
 pub fn event(
     e: Event,
     numbers: &mut [u16; NUMBERS],
@@ -54,57 +49,59 @@ pub fn event(
     let dialogue = settings.dialogue;
     match dialogue {
         Dialogue::Frames => answers::in_numbers(Answer::BeyondLimits),
-        Dialogue::Blocks(patient) => on_line(patient, line, e, numbers, counts, journal, frames),
-    }
-}
-
-// Past 40 to 42: seconds are ignored.
-fn on_line(
-    patient: Patient,
-    line: Line,
-    e: Event,
-    numbers: &mut [u16; NUMBERS],
-    counts: &mut [u32; COUNTS],
-    journal: &mut [u8],
-    frames: &mut [u8],
-) -> Answered
-    requires { Reading numbers.old frames.old patient line e.line }
-    ensures { Ruled numbers.old counts.old journal.old frames.old patient line e.line e.kind
-        (ruling_of todays_shares patient line (memo_of numbers.old e.line) (ledger_of numbers.old counts.old) e.line e.kind journal.old (frames_of e.line frames.old))
-        result numbers.new counts.new journal.new frames.new }
-{
-    let kind = e.kind;
-    match kind {
-        Kind::Byte(byte) => on_byte(
-            patient, line, e.line, byte, numbers, counts, journal, frames,
-        ),
-        Kind::Seconds(_) => answers::nothing(),
-    }
-}
-
-// A byte is ignored, or added to the block, or ends it.
-fn on_byte(
-    patient: Patient,
-    line: Line,
-    i: u8,
-    byte: u8,
-    numbers: &mut [u16; NUMBERS],
-    counts: &mut [u32; COUNTS],
-    journal: &mut [u8],
-    frames: &mut [u8],
-) -> Answered
-    requires { Reading numbers.old frames.old patient line i }
-    ensures { Ruled numbers.old counts.old journal.old frames.old patient line i (Byte byte)
-        (ruling_of todays_shares patient line (memo_of numbers.old i) (ledger_of numbers.old counts.old) i (Byte byte) journal.old (frames_of i frames.old))
-        result numbers.new counts.new journal.new frames.new }
-{
-    let sight = strips::see(patient, line, byte);
-    match sight {
-        Sight::Ignores => answers::nothing(),
-        Sight::Adds => {
-            acting::add(line, i as usize, byte, numbers, frames);
-            answers::nothing()
+        Dialogue::Blocks(patient) => {
+            let mut lent = Lent {
+                numbers,
+                counts,
+                journal,
+                frames,
+            };
+            lent.on_line(patient, line, e)
         }
-        Sight::Judges => whole::end_block(patient, line, i, byte, numbers, counts, journal, frames),
+    }
+}
+
+// What a host lends to an event on a strip reader's line, but for the unfinished texts. `event` takes it apart, as `calls` hands it over.
+#[derive(Drop)]
+struct Lent<'a> {
+    numbers: &'a mut [u16; NUMBERS],
+    counts: &'a mut [u32; COUNTS],
+    journal: &'a mut [u8],
+    frames: &'a mut [u8],
+}
+
+impl Lent<'_> {
+    ghost use Rattle.uploads.specs.Inner.Lents.{Reads, event_ruling, Leaves, SameReferences};
+
+    // Past 40 to 42: seconds are ignored.
+    fn on_line(&mut self, patient: Patient, line: Line, e: Event) -> Answered
+        requires { Reads self.old patient line e.line }
+        ensures same_references { SameReferences self.old self.new }
+        ensures ruled { Leaves self.old patient line e.line e.kind (event_ruling self.old patient line e.line e.kind) result self.new }
+    {
+        let kind = e.kind;
+        match kind {
+            Kind::Byte(byte) => self.on_byte(patient, line, e.line, byte),
+            Kind::Seconds(_) => answers::nothing(),
+        }
+    }
+
+    // A byte is ignored, or added to the block, or ends it.
+    fn on_byte(&mut self, patient: Patient, line: Line, i: u8, byte: u8) -> Answered
+        requires { Reads self.old patient line i }
+        ensures same_references { SameReferences self.old self.new }
+        ensures ruled { Leaves self.old patient line i (Byte byte) (event_ruling self.old patient line i (Byte byte)) result self.new }
+    {
+        let sight = strips::see(patient, line, byte);
+        match sight {
+            Sight::Ignores => answers::nothing(),
+            Sight::Adds => {
+                let numbers = &mut *self.numbers;
+                let frames = &mut *self.frames;
+                acting::add(line, i as usize, byte, numbers, frames);
+                answers::nothing()
+            }
+            Sight::Judges => whole::end_block(patient, line, i, byte, self),
+        }
     }
 }

@@ -35,6 +35,6 @@ fn in_place(
     requires { (length place.old ≡ finding_limit) × (length block.now ≡ results_length patient) }
     ensures { Stored ledger todays_shares line (finding_of patient block.now) journal.old result journal.new }
 {
-    let n = finding::put_finding(patient, block, place);
+    let n = finding::put_finding(patient, block, place).unwrap();
     journal::store(ledger, room::shares(), line, &place[..n], journal)
 }

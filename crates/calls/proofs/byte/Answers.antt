@@ -1,6 +1,7 @@
 -- `calls::byte` meets its contract: 40, 41, a byte that is only collected, or an event.
 -- Assumes nothing.
 use native.Mathlib.Omega.{arith}
+use Rattle.std.proofs.Common.{rules}
 use mathlib.Core.Path.{◌≡◌, sym, ◌∙◌}
 use mathlib.Core.Bool.{true}
 use lib.ListN.{length}
@@ -46,4 +47,4 @@ returns c =
     record { numbers = a.numbers.now; counts = a.counts.now; memory = record { journal = a.journal.now; unfinished = a.unfinished.now; frames = a.frames.now } } in
     let on_line : c.args.line < lines = omega arith in
     let sizes : (let a = c.args in right_lengths (length a.journal.now) (length a.unfinished.now) (length a.frames.now) ≡ true) = sym c.are_right.ensures ∙ c.if-not-are_right.false in
-    not_collected kept c.args.line c.args.byte on_line sizes c.collect.ensures c.if-collect.false c.event.ensures
+    search (rules, not_collected kept c.args.line c.args.byte on_line sizes c.collect.ensures c.if-collect.false c.event.ensures.event)

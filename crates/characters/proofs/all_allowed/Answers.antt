@@ -1,6 +1,6 @@
--- `characters::all_allowed` meets its contract. The loop's invariant: the bytes from i on decide.
+-- `characters::all_allowed` meets its contract. The loop's invariant: the bytes that are still to come decide.
 -- Assumes nothing.
-use Rattle.std.proofs.Common.{sym, refl, ◌∙◌, arith}
+use Rattle.std.proofs.Common.{sym, ◌∙◌, arith}
 use Rattle.memory.proofs.Tests.{all_stop, all_next, all_done}
 use Rattle.characters.specs.Allowed.{allowed}
 use Rattle.characters.proofs.PrintableBytes.{all_printable}
@@ -9,20 +9,15 @@ use Rattle.characters.proofs.all_allowed.Goals as goal
 pub returns-then-is_printable : goal.returns-then-is_printable
 returns-then-is_printable c = sym (all_printable c.args.text.now (sym c.is_printable.ensures ∙ c.if-is_printable.true))
 
-pub loop-i-init : goal.loop-i-init
-loop-i-init c = (omega arith, refl)
-
 pub returns-then-not-is_marked : goal.returns-then-not-is_marked
 returns-then-not-is_marked c =
-    all_stop allowed c.args.text.now c.loop-i.i (omega arith)
-    (sym (c.is_marked.ensures.1 c.classes-table.ensures) ∙ c.if-not-is_marked.true) c.loop-i.invariant.1
+    all_stop allowed c.args.text.now c.loop-b.b-index (omega arith)
+    (sym (c.is_marked.ensures.1 c.classes-table.ensures) ∙ c.if-not-is_marked.true) c.loop-b.invariant
 
-pub loop-i-preserved : goal.loop-i-preserved
-loop-i-preserved c = (
-  omega arith,
-  all_next allowed c.args.text.now c.loop-i.i (omega arith)
-      (sym (c.is_marked.ensures.1 c.classes-table.ensures) ∙ c.if-not-is_marked.false) c.loop-i.invariant.1,
-)
+pub loop-b-preserved : goal.loop-b-preserved
+loop-b-preserved c =
+    all_next allowed c.args.text.now c.loop-b.b-index (omega arith)
+    (sym (c.is_marked.ensures.1 c.classes-table.ensures) ∙ c.if-not-is_marked.false) c.loop-b.invariant
 
 pub returns : goal.returns
-returns c = all_done allowed c.args.text.now c.loop-i.i (omega arith) c.loop-i.invariant.1
+returns c = all_done allowed c.args.text.now c.loop-b.b-index (omega arith) c.loop-b.invariant

@@ -2,7 +2,7 @@
 -- Assumes nothing.
 use mathlib.Core.Path.{◌≡◌}
 use mathlib.Core.List.{List}
-use Prim.Native.Nat.{ℕ, ◌+◌, ◌≤◌}
+use Prim.Native.Nat.{ℕ, ◌+◌, ◌-◌, ◌≤◌}
 use lib.ListN.{length, drop}
 use Rattle.records.specs.Fields.{field_of}
 use Rattle.component.proofs.field_of.Given as goal
@@ -14,8 +14,5 @@ pub record Passing (rec : List ℕ) (b n at left : ℕ) : Type 0 where
   pub some_left : 1 ≤ left
   pub same_field : field_of b left (drop at rec) ≡ field_of b n rec
 
-abbrev pub invariant-loop-left : goal.invariant-loop-left
-invariant-loop-left l = Passing l.rec l.b l.n l.at l.left
-
-abbrev pub decreases-loop-left : goal.decreases-loop-left
-decreases-loop-left l = l.left
+abbrev pub invariant-loop : goal.invariant-loop
+invariant-loop l = Passing l.rec l.b l.n l.at (l.n + 1 - l.counter)

@@ -1,6 +1,7 @@
 -- `cutting::cut` meets its contract: each answer under the tests that led to it.
 -- Assumes nothing.
-use mathlib.Core.Path.{◌≡◌, sym, ◌∙◌}
+use Rattle.std.specs.Prelude.{Err}
+use mathlib.Core.Path.{ap, ◌≡◌, sym, ◌∙◌}
 use mathlib.Core.Bool.{true}
 use native.Mathlib.Omega.{arith}
 use lib.ListN.{length}
@@ -20,7 +21,7 @@ pub returns-then-not-is_message : goal.returns-then-not-is_message
 returns-then-not-is_message c =
     let a = c.args in
     let no = sym c.is_message.ensures ∙ c.if-not-is_message.true in
-    no_message a.limit a.text.now a.out.now (omega arith) no c.refused.ensures
+    no_message a.limit a.text.now a.out.now (omega arith) no (ap Err c.refuse.ensures)
 
 pub measure-n-requires : goal.measure-n-requires
 measure-n-requires c =

@@ -1,5 +1,7 @@
 -- `faults::check` meets its contract: each test in its turn, and then the records.
 -- Assumes nothing.
+use Rattle.std.specs.Prelude.{Err, ℕ}
+use Rattle.faults.specs.declared.Flaw.TheVariants.{Faulty}
 use mathlib.Core.Path.{◌≡◌, sym, ap, ◌∙◌}
 use mathlib.Core.Bool.{true}
 use native.Mathlib.Omega.{arith}
@@ -12,7 +14,6 @@ use Rattle.records.proofs.RecordCount.{count_le, count_open}
 use Rattle.kinds.specs.declared.Delimiters.{Delimiters}
 use Rattle.answers.specs.declared.Fault.TheVariants.{NoFinalCr}
 use Rattle.faults.specs.Faults.{records_fault, fault}
-use Rattle.faults.specs.declared.Checked.TheVariants.{Faulty}
 use Rattle.faults.proofs.Walked.{not_allowed, empty, no_final_cr, ended}
 use Rattle.faults.proofs.check.Goals as goal
 
@@ -40,7 +41,7 @@ pub returns-then-text-n-ne-CR : goal.returns-then-text-n-ne-CR
 returns-then-text-n-ne-CR c =
     let clean : all allowed c.args.text.now ≡ true = sym c.all_allowed.ensures ∙ c.if-not-all_allowed.false in
     let a = c.args in
-    ap (Faulty NoFinalCr) c.count_records.ensures ∙ no_final_cr _ a.text.now (omega arith) clean (omega arith) (ne_eqb _ _ c.if-text-n-ne-CR.true)
+    ap (λ (n : ℕ). Err (Faulty NoFinalCr n)) c.count_records.ensures ∙ no_final_cr _ a.text.now (omega arith) clean (omega arith) (ne_eqb _ _ c.if-text-n-ne-CR.true)
 
 pub records_fault-requires : goal.records_fault-requires
 records_fault-requires c = (c.delimiters_of.ensures, omega arith, omega arith)

@@ -6,8 +6,6 @@ use Rattle.memory.specs.Tests.{is}
 use Rattle.kinds.specs.Delimiters.{standard}
 use Rattle.records.specs.Records.{joined}
 use Rattle.escaping.specs.Escape.{escaped}
-use Rattle.escaping.specs.declared.Put.{Put}
-use Rattle.escaping.specs.declared.Put.TheVariants.{Done, Malformed, NotFitting, BadDelimiters}
 use Rattle.settings.specs.Settings.{patient_length}
 use Rattle.settings.specs.declared.Patient.{Patient}
 use Rattle.settings.specs.declared.Patient.TheVariants.{Ten}
@@ -47,13 +45,6 @@ spot_count = 13
 -- a datum as the finding says it
 unfoldable pub saying : List ℕ → List ℕ
 saying bs = escaped standard (trimmed bs)
-
--- how many bytes an escaping put out
-abbrev pub length_put : Put → ℕ
-length_put (Done n) = n
-length_put Malformed = 0
-length_put NotFitting = 0
-length_put BadDelimiters = 0
 
 -- a template with the data of a block in the places of its marks; where no datum is left a mark becomes nothing
 abbrev pub filled : List ℕ → List ℕ → List Spot → List ℕ

@@ -1,9 +1,7 @@
 -- `journal::judge` meets its contract: each test is one of the definition, in its order.
 -- Assumes nothing.
-use Rattle.std.proofs.Common.{◌≡◌, true, false, sym, ◌∙◌, arith}
-use borrow.Author.Tests.{not-true, not-false}
-use Rattle.journal.specs.Chain.{chain, is_some}
-use Rattle.journal.proofs.Wholes.{kept, used_below}
+use Rattle.std.proofs.Common.{true, false, not, ap, sym, ◌∙◌, arith}
+use Rattle.journal.proofs.Wholes.{kept, used_below, seen_broken, seen_whole}
 use Rattle.journal.proofs.Judged.{judged_line_law, judged_size, judged_text, judged_broken, judged_room}
 use Rattle.journal.proofs.judge.Goals as goal
 
@@ -21,31 +19,28 @@ returns-then-length-gt-MESSAGE_LIMIT c =
     let a = c.args in
     judged_text a.ledger a.shares a.line a.length a.journal.now (omega arith) (omega arith) (λ p q. omega arith)
 
-pub returns-then-not-seen : goal.returns-then-not-seen
-returns-then-not-seen c =
+pub returns-then-is_none : goal.returns-then-is_none
+returns-then-is_none c =
     let a = c.args in
-    judged_broken a.ledger a.shares a.line a.length a.journal.now (omega arith) (omega arith) (omega arith) (omega arith) (sym c.look-seen.ensures.is_whole ∙ not-true _ c.if-not-seen.true)
+    judged_broken a.ledger a.shares a.line a.length a.journal.now (omega arith) (omega arith) (omega arith) (omega arith) (seen_broken a.ledger a.journal.now _ _ c.look.ensures (c.is_none.ensures ∙ ap not c.if-is_none.true))
 
 pub overflow_add-used : goal.overflow_add-used
 overflow_add-used c =
-    let whole : (let a = c.args in
-    is_some (chain a.ledger a.journal.now) ≡ true) = sym c.look-seen.ensures.is_whole ∙ not-false _ c.if-not-seen.false in
     let a = c.args in
+    let whole = seen_whole a.ledger a.journal.now _ _ c.look.ensures (c.is_none.ensures ∙ ap not c.if-is_none.false) in
     let k = kept a.ledger a.journal.now whole in
     omega (arith, used_below a.ledger a.journal.now a.line k (omega arith), k.whole.room)
 
 pub returns-then-not-has_room : goal.returns-then-not-has_room
 returns-then-not-has_room c =
-    let whole : (let a = c.args in
-    is_some (chain a.ledger a.journal.now) ≡ true) = sym c.look-seen.ensures.is_whole ∙ not-false _ c.if-not-seen.false in
     let a = c.args in
+    let whole = seen_whole a.ledger a.journal.now _ _ c.look.ensures (c.is_none.ensures ∙ ap not c.if-is_none.false) in
     judged_room a.ledger a.shares a.line a.length a.journal.now (omega arith) (omega arith) (omega arith) (omega arith) false whole
     (rw (← c.entry_size.ensures.0) (sym c.has_room.ensures ∙ c.if-not-has_room.true))
 
 pub returns : goal.returns
 returns c =
-    let whole : (let a = c.args in
-    is_some (chain a.ledger a.journal.now) ≡ true) = sym c.look-seen.ensures.is_whole ∙ not-false _ c.if-not-seen.false in
     let a = c.args in
+    let whole = seen_whole a.ledger a.journal.now _ _ c.look.ensures (c.is_none.ensures ∙ ap not c.if-is_none.false) in
     judged_room a.ledger a.shares a.line a.length a.journal.now (omega arith) (omega arith) (omega arith) (omega arith) true whole
     (rw (← c.entry_size.ensures.0) (sym c.has_room.ensures ∙ c.if-not-has_room.false))

@@ -1,25 +1,23 @@
 -- `journal::store` meets its contract: the verdict is `judge`'s, and only where it fits is the entry written.
 -- Assumes nothing.
-use Rattle.std.proofs.Common.{◌≡◌, true, length, sym, ap, ◌∙◌, rules}
+use Rattle.std.specs.Result.{is_ok}
+use Rattle.std.proofs.Common.{◌≡◌, length, sym, ap, ◌∙◌, rules}
 use Rattle.memory.specs.Sizes.{lines}
-use Rattle.journal.specs.Answers.{is_fits}
-use Rattle.journal.proofs.Storings.{ready, not_stored, is_stored}
+use Rattle.journal.proofs.Storings.{ready, not_stored, is_stored, no_err, an_err}
 use Rattle.journal.proofs.store.Goals as goal
 
-pub returns-then-not-is_fits : goal.returns-then-not-is_fits
-returns-then-not-is_fits c =
+pub returns-then-is_err : goal.returns-then-is_err
+returns-then-is_err c =
     let a = c.args in
-    not_stored a.ledger a.shares a.line a.text.now a.journal.now _ c.judge-verdict.ensures (sym c.is_fits.ensures ∙ c.if-not-is_fits.true)
+    not_stored a.ledger a.shares a.line a.text.now a.journal.now _ c.judge-verdict.ensures (an_err _ (sym c.is_err.ensures.value ∙ c.if-is_err.true))
 
 pub append-after-requires : goal.append-after-requires
 append-after-requires c =
-    let fits : is_fits c.judge-verdict.result ≡ true = sym c.is_fits.ensures ∙ c.if-not-is_fits.false in
     let a = c.args in
     let u : length a.ledger.used ≡ lines = search rules in
-    ready a.ledger a.shares a.line a.text.now a.journal.now (ap is_fits (sym c.judge-verdict.ensures) ∙ fits) u
+    ready a.ledger a.shares a.line a.text.now a.journal.now (ap is_ok (sym c.judge-verdict.ensures) ∙ no_err _ (sym c.is_err.ensures.value ∙ c.if-is_err.false)) u
 
 pub returns : goal.returns
 returns c =
-    let fits : is_fits c.judge-verdict.result ≡ true = sym c.is_fits.ensures ∙ c.if-not-is_fits.false in
     let a = c.args in
-    is_stored a.ledger a.shares a.line a.text.now a.journal.now _ _ _ c.judge-verdict.ensures fits c.append-after.ensures
+    is_stored a.ledger a.shares a.line a.text.now a.journal.now _ _ _ c.judge-verdict.ensures (no_err _ (sym c.is_err.ensures.value ∙ c.if-is_err.false)) c.append-after.ensures

@@ -1,9 +1,8 @@
 -- `keeping::is_kept` meets its contract.
 -- Assumes nothing.
-use mathlib.Core.Path.{sym, ◌∙◌}
-use native.Mathlib.Omega.{arith}
-use borrow.Author.Rules.{rules}
-use Rattle.keeping.proofs.Walks.{none_compared, kept_nowhere, kept_short, kept_end, kept_differs, kept_on}
+use Rattle.std.proofs.Common.{◌≡◌, ◌↔◌, IsTrue, ℕ, ◌+◌, ◌-◌, ◌<◌, List, length, get_or, take, drop, length-take, length-drop, sym, ◌∙◌, arith, rules}
+use Rattle.layout.specs.Layout.{block_start}
+use Rattle.keeping.proofs.Walks.{kept_nowhere, kept_short, lent_at, kept_tells}
 use Rattle.keeping.proofs.is_kept.Goals as goal
 
 pub returns-then-i-ge-LINES : goal.returns-then-i-ge-LINES
@@ -16,24 +15,14 @@ returns-then-block-gt-BLOCK_LIMIT c =
     let a = c.args in
     kept_short a.numbers.now a.i a.block.now (search rules) (search rules)
 
-pub loop-k-init : goal.loop-k-init
-loop-k-init c =
-    let a = c.args in
-    none_compared a.numbers.now a.i a.block.now
-
-pub returns-then-wide-numbers : goal.returns-then-wide-numbers
-returns-then-wide-numbers c =
-    let a = c.args in
-    kept_differs a.numbers.now a.i a.block.now (omega arith) (omega arith) c.loop-k.k (omega arith) c.loop-k.invariant
-    (λ e. c.if-wide-numbers.true (c.wide.ensures ∙ e))
-
-pub loop-k-preserved : goal.loop-k-preserved
-loop-k-preserved c =
-    let a = c.args in
-    kept_on a.numbers.now a.i a.block.now (omega arith) (omega arith) c.loop-k.k (omega arith) c.loop-k.invariant
-    (sym c.wide.ensures ∙ c.if-wide-numbers.false)
-
 pub returns : goal.returns
 returns c =
-    let a = c.args in
-    kept_end a.numbers.now a.i a.block.now (omega arith) (omega arith) c.loop-k.k (omega arith) c.loop-k.invariant
+    let ns = c.args.numbers.now in
+    let i = c.args.i in
+    let bs = c.args.block.now in
+    let at = block_start i in
+    let ks : List ℕ = take (at + length bs - at) (drop at ns) in
+    let long : length ks ≡ length bs = simp (length-take, length-drop) (omega arith) in
+    let each : IsTrue c.all.result ↔ ((k : ℕ) → k < length bs → get_or bs k 0 ≡ get_or ks k 0) = search rules in
+    kept_tells ns i bs (omega arith) (omega arith)
+    (λ t k g. each.0 t k g ∙ lent_at ns at (length bs) k g, λ h. each.1 (λ k g. h k g ∙ sym (lent_at ns at (length bs) k g)))

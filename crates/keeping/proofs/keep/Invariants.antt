@@ -1,12 +1,7 @@
 -- `keeping::keep` meets its contract.
 -- Assumes nothing.
-use Prim.Native.Nat.{◌-◌}
-use lib.ListN.{length}
 use Rattle.keeping.proofs.Walks.{Kept}
 use Rattle.keeping.proofs.keep.Given as goal
 
 abbrev pub invariant-loop-k : goal.invariant-loop-k
 invariant-loop-k l = Kept l.initial.numbers l.i l.block l.numbers l.k
-
-abbrev pub decreases-loop-k : goal.decreases-loop-k
-decreases-loop-k l = length l.block - l.k

@@ -16,4 +16,4 @@ unfolding with_reader
 returns c =
     let a = c.args in
     let there : a.i < lines = search rules in
-    rw (lt-ltb a.i lines there, c.yes_number-2.ensures, c.yes_number.ensures, c.reply_number.ensures)
+    rw (lt-ltb a.i lines there, c.reply_number.ensures) (search rules)

@@ -3,8 +3,6 @@
 use Rattle.std.specs.Prelude.{ℕ, [], ◌∷◌, get_or}
 use Rattle.kinds.specs.declared.Kind.{Kind}
 use Rattle.kinds.specs.declared.Kind.TheVariants.{Header, Patient, Order, Result, Query, Terminator, Comment, Manufacturer}
-use Rattle.kinds.specs.declared.Letter.{Letter}
-use Rattle.kinds.specs.declared.Letter.TheVariants.{Known, Unknown}
 
 -- the row of a type in the table of followers
 abbrev pub row_of : Kind → ℕ
@@ -20,8 +18,3 @@ row_of Manufacturer = 7
 -- and the type of a row
 abbrev pub kind_at : ℕ → Kind
 kind_at i = get_or (Header ∷ Patient ∷ Order ∷ Result ∷ Query ∷ Terminator ∷ Comment ∷ Manufacturer ∷ []) i Header
-
--- the row of what a letter names; 8 where it names no type
-abbrev pub letter_row : Letter → ℕ
-letter_row (Known k) = row_of k
-letter_row Unknown = 8

@@ -1,34 +1,31 @@
--- `layout::can_start` meets its contract. The loop's invariant: the lines from i on decide.
+-- `layout::can_start` meets its contract: every one of the lines is looked at.
 -- Assumes nothing.
-use mathlib.Core.Path.{◌≡◌, refl, sym, ap, ◌∙◌}
+use mathlib.Core.Path.{◌≡◌, ap, ◌∙◌}
 use mathlib.Core.Bool.{Bool, ◌&&◌}
-use mathlib.Core.List.{List}
-use Prim.Native.Nat.{ℕ, suc, ◌+◌, ◌-◌, ◌<◌}
+use mathlib.Core.List.{List, ◌∷◌}
+use Prim.Native.Nat.{ℕ, zero, suc, ◌+◌, ◌≤◌, ◌<◌}
 use native.Mathlib.Omega.{arith}
-use lib.ListN.{get_or}
-use Rattle.memory.specs.Sizes.{lines}
+use lib.ListN.{length, get_or, drop, drop_of_length-le}
+use lib.Seq.{drop-cons}
+use borrow.Author.Rules.{rules}
+use borrow.Author.Tests.{tests}
+use Rattle.std.specs.List.{list_all}
+use Rattle.std.proofs.lemmas.Iterator.{YieldsList-from_slice}
+use Rattle.std.proofs.lemmas.Iterator.Search.{all_from_yields_List}
 use Rattle.layout.specs.Layout.{is_spoken, spoken_from}
 use Rattle.layout.proofs.can_start.Goals as goal
 
--- the first line that is left, and those behind it
-next : (ts : List ℕ) (i : ℕ) → i < lines → spoken_from ts i (lines - i) ≡ is_spoken (get_or ts i 0) && spoken_from ts (i + 1) (lines - (i + 1))
-next ts i h =
-    let more : lines - i ≡ suc (lines - (i + 1)) = omega arith in
-    ap (spoken_from ts i) more
-
-pub loop-i-init : goal.loop-i-init
-loop-i-init c = (omega arith, refl)
-
-pub returns-then-not-is_spoken : goal.returns-then-not-is_spoken
-returns-then-not-is_spoken c = rw (sym c.loop-i.invariant.1, next c.args.speaks.now c.loop-i.i (omega arith), sym c.is_spoken.ensures ∙ c.if-not-is_spoken.true)
-
-pub loop-i-preserved : goal.loop-i-preserved
-loop-i-preserved c =
-    let speaks = c.args.speaks.now in
-    let spoken = sym c.is_spoken.ensures ∙ c.if-not-is_spoken.false in
-    (omega arith, sym (next speaks c.loop-i.i (omega arith) ∙ ap (λ (b : Bool). b && spoken_from speaks (c.loop-i.i + 1) (lines - (c.loop-i.i + 1))) spoken) ∙ c.loop-i.invariant.1)
+-- the lines from i on, up to the list's end
+from : (ts : List ℕ) (i n : ℕ) → i + n ≡ length ts → list_all is_spoken (drop i ts) ≡ spoken_from ts i n
+from ts i zero h = let le : length ts ≤ i = omega arith in rw (drop_of_length-le ts le)
+from ts i (suc n) h =
+    let lt : i < length ts = omega arith in
+    let next : suc i ≡ i + 1 = omega arith in
+    let split : drop i ts ≡ get_or ts i 0 ∷ drop (i + 1) ts = drop-cons ts i 0 lt ∙ ap (λ (k : ℕ). get_or ts i 0 ∷ drop k ts) next in
+    ap (list_all is_spoken) split ∙ ap (λ (b : Bool). is_spoken (get_or ts i 0) && b) (from ts (i + 1) n (omega arith))
 
 pub returns : goal.returns
 returns c =
-    let done : 0 ≡ lines - c.loop-i.i = omega arith in
-    ap (spoken_from c.args.speaks.now c.loop-i.i) done ∙ c.loop-i.invariant.1
+    let ts = c.args.speaks.now in
+    all_from_yields_List is_spoken _ _ c.all.result c.all.ensures.ran (YieldsList-from_slice ts cc) (λ x b q k. search (rules, tests))
+    ∙ from ts 0 8 (search rules)

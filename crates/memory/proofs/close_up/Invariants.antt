@@ -19,6 +19,3 @@ pub record Moved (area₀ : List ℕ) (at gap end last : ℕ) (area : List ℕ) 
 
 abbrev pub invariant-loop-i : goal.invariant-loop-i
 invariant-loop-i l = Moved l.initial.area l.at l.gap l.end l.last l.area l.i
-
-abbrev pub decreases-loop-i : goal.decreases-loop-i
-decreases-loop-i l = l.last - l.i

@@ -1,6 +1,7 @@
 -- `owner::read` meets its contract: each answer under the tests that led to it; what is stored is what the two fillings ensure.
 -- Assumes nothing.
-use mathlib.Core.Path.{◌≡◌, refl, sym, ◌∙◌}
+use Rattle.std.specs.Prelude.{Err}
+use mathlib.Core.Path.{ap, ◌≡◌, refl, sym, ◌∙◌}
 use mathlib.Core.Bool.{true}
 use Prim.Native.Nat.{◌≤◌}
 use native.Mathlib.Omega.{arith}
@@ -17,7 +18,7 @@ use Rattle.owner.proofs.read.Goals as goal
 pub returns-then-not-is_message : goal.returns-then-not-is_message
 returns-then-not-is_message c =
     let a = c.args in
-    read_none a.text.now a.types.now a.offsets.now a.lengths.now a.owners.now _ c.refused.ensures (sym c.is_message.ensures ∙ c.if-not-is_message.true)
+    read_none a.text.now a.types.now a.offsets.now a.lengths.now a.owners.now _ (ap Err c.refuse.ensures) (sym c.is_message.ensures ∙ c.if-not-is_message.true)
 
 pub returns-then-not-has_room : goal.returns-then-not-has_room
 returns-then-not-has_room c =

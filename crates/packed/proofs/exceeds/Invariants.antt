@@ -1,12 +1,9 @@
--- `packed::exceeds` meets its contract. The loop's invariant: i bytes are taken off n.
+-- `packed::exceeds` meets its contract. The loop's invariant: so many bytes as it has turned are taken off n.
 -- Assumes nothing.
 use mathlib.Core.Path.{◌≡◌}
-use Prim.Native.Nat.{◌-◌, ◌/◌, ◌^◌, ◌≤◌}
+use Prim.Native.Nat.{◌/◌, ◌^◌}
 use Rattle.packed.specs.Fields.{width, octets}
 use Rattle.packed.proofs.exceeds.Given as goal
 
-abbrev pub invariant-loop-i : goal.invariant-loop-i
-invariant-loop-i l = (l.i ≤ l.size) × (l.rest ≡ l.n / 2 ^ width (octets l.i))
-
-abbrev pub decreases-loop-i : goal.decreases-loop-i
-decreases-loop-i l = l.size - l.i
+abbrev pub invariant-loop : goal.invariant-loop
+invariant-loop l = l.rest ≡ l.n / 2 ^ width (octets l.counter)

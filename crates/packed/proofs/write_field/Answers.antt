@@ -1,11 +1,10 @@
 -- `packed::write_field` meets its contract. The loop's invariant: the bytes from i on are written, and rest is what they leave of n.
 -- Assumes nothing.
-use mathlib.Core.Path.{◌≡◌, refl, sym, ◌∙◌}
-use Prim.Native.Nat.{ℕ, ◌+◌, ◌-◌, ◌^◌, ◌≤◌}
-use native.Mathlib.Nat.{div-one, sub_self, sub-zero, add-zero}
+use mathlib.Core.Path.{◌≡◌, sym, ◌∙◌}
+use Prim.Native.Nat.{ℕ, ◌+◌, ◌-◌, ◌^◌}
+use native.Mathlib.Nat.{div-one, sub_self}
 use native.Mathlib.Omega.{arith}
 use borrow.Author.Tests.{leb-true, leb-false}
-use lib.ListN.{length, length-set}
 use Rattle.packed.specs.Fields.{width, octets}
 use Rattle.memory.proofs.Parts.{splice_nil}
 use Rattle.packed.proofs.Octets.{write_more, rest_more, written_outside, written_large, written_yes}
@@ -29,38 +28,27 @@ returns-then-exceeds c =
 pub loop-i-init : goal.loop-i-init
 loop-i-init c =
     let a = c.args in
-    record {
-      short = omega arith;
-      inside = omega arith;
-      below = leb-false (2 ^ width (octets a.size)) a.n (sym c.exceeds.ensures ∙ c.if-exceeds.false);
-      within = omega arith;
-      same = rw (sub_self a.size) (sym (splice_nil a.area.now (a.at + a.size)));
-      left = rw (sub_self a.size) (sym (div-one a.n));
-      long = refl;
-    }
+    let end : ℕ = a.at + a.size in
+    record { low = omega arith; same = rw (sub_self end) (sym (splice_nil a.area.now end)); left = rw (sub_self end) (sym (div-one a.n)) }
 
 pub loop-i-preserved : goal.loop-i-preserved
 loop-i-preserved c =
     let l = c.loop-i in
     let a = c.args in
-    let k : ℕ = a.size - l.i in
-    let here : a.at + l.i ≡ a.at + (l.i - 1) + 1 = omega arith in
-    let more : a.size - (l.i - 1) ≡ k + 1 = omega arith in
-    let room : a.at + (l.i - 1) + (k + 1) ≤ length a.area.now = omega arith in
+    let k : ℕ = a.at + a.size - l.i in
+    let more : a.at + a.size - (l.i - 1) ≡ k + 1 = omega arith in
     record {
-      short = omega arith;
-      inside = omega arith;
-      below = l.invariant.below;
-      within = omega arith;
-      same = rw (more, l.invariant.same, l.invariant.left, here) (write_more a.area.now (a.at + (l.i - 1)) k a.n room);
+      low = omega arith;
+      same = rw (more, l.invariant.same, l.invariant.left) (write_more a.area.now (l.i - 1) l.i k a.n (omega arith) (omega arith));
       left = rw (more, l.invariant.left) (rest_more a.n k);
-      long = simp length-set (omega arith);
     }
 
 pub returns : goal.returns
 returns c =
     let l = c.loop-i in
     let a = c.args in
-    let none : l.i ≡ 0 = omega arith in
-    written_yes a.area.now a.at a.size a.n (omega arith) (omega arith) l.invariant.below
-    (l.invariant.same ∙ rw (none, add-zero a.at, sub-zero a.size))
+    let first : l.i ≡ a.at = omega arith in
+    let all : a.at + a.size - a.at ≡ a.size = omega arith in
+    written_yes a.area.now a.at a.size a.n (omega arith) (omega arith)
+    (leb-false (2 ^ width (octets a.size)) a.n (sym c.exceeds.ensures ∙ c.if-exceeds.false))
+    (l.invariant.same ∙ rw (first, all))

@@ -2,23 +2,15 @@
 -- Assumes nothing.
 use mathlib.Core.Path.{◌≡◌}
 use mathlib.Core.List.{List}
-use Prim.Native.Nat.{ℕ, ◌+◌, ◌-◌, ◌/◌, ◌^◌, ◌≤◌, ◌<◌}
-use lib.ListN.{length}
+use Prim.Native.Nat.{ℕ, ◌+◌, ◌-◌, ◌/◌, ◌^◌, ◌≤◌}
 use Rattle.memory.specs.Parts.{splice}
-use Rattle.packed.specs.Fields.{width, octets, unpack, longest_field}
+use Rattle.packed.specs.Fields.{width, octets, unpack}
 use Rattle.packed.proofs.write_field.Given as goal
 
-pub record Written (area₀ : List ℕ) (at size n : ℕ) (area : List ℕ) (rest i : ℕ) : Type 0 where
-  pub short : size ≤ longest_field
-  pub inside : at + size ≤ length area₀
-  pub below : n < 2 ^ width (octets size)
-  pub within : i ≤ size
-  pub same : area ≡ splice area₀ (at + i) (unpack (octets (size - i)) n)
-  pub left : rest ≡ n / 2 ^ width (octets (size - i))
-  pub long : length area ≡ length area₀
+pub record Written (area₀ : List ℕ) (at end n : ℕ) (area : List ℕ) (rest i : ℕ) : Type 0 where
+  pub low : at ≤ i
+  pub same : area ≡ splice area₀ i (unpack (octets (end - i)) n)
+  pub left : rest ≡ n / 2 ^ width (octets (end - i))
 
 abbrev pub invariant-loop-i : goal.invariant-loop-i
-invariant-loop-i l = Written l.initial.area l.at l.size l.n l.area l.rest l.i
-
-abbrev pub decreases-loop-i : goal.decreases-loop-i
-decreases-loop-i l = l.i
+invariant-loop-i l = Written l.initial.area l.at (l.at + l.size) l.n l.area l.rest l.i

@@ -1,6 +1,7 @@
 -- An event or a start by its line's parts and the store alone, and a taking by the store alone: what the proof of stretches asks of a machine with lines.
 -- Assumes nothing.
-use Rattle.std.specs.Prelude.{ℕ, List}
+use Rattle.answers.specs.declared.Answer.{Answer}
+use Rattle.std.specs.Prelude.{ℕ, List, Err, Ok, Result}
 use Rattle.memory.specs.Sizes.{journal_size, unfinished_size, frames_size}
 use Rattle.memory.specs.Parts.{splice}
 use Rattle.room.specs.Room.{todays_shares}
@@ -15,8 +16,6 @@ use Rattle.line.specs.Line.{record_within}
 use Rattle.finding.specs.Findings.{finding_of}
 use Rattle.uploads.specs.Uploads.{Deed, Ruling, ruling_of, line_by, memo_by, ledger_by, journal_by, block_of}
 use Rattle.orders.specs.Starts.{can_start, start_look, start_answer, line_started}
-use Rattle.orders.specs.declared.Start.{Start}
-use Rattle.orders.specs.declared.Start.TheVariants.{Asks, Refused}
 use Rattle.taking.specs.Taking.{took_answer}
 use Rattle.looking.specs.declared.Kind.{Kind}
 use Rattle.looking.specs.declared.Act.{Act}
@@ -59,14 +58,14 @@ abbrev pub on_event : ℕ → Parts → Kind → Store → Response × Parts × 
 on_event i p k j = by_dialogue p.line.settings.dialogue (on_frames i p k j) (λ q. on_blocks q i p k j)
 
 -- a start by its line's parts alone: the text goes to the start of the line's part of the unfinished texts
-abbrev pub own_started : Start → List ℕ → List ℕ → List ℕ
-own_started Asks text texts = splice texts 0 text
-own_started (Refused a) text texts = texts
+abbrev pub own_started : Result (Unit {0}) Answer → List ℕ → List ℕ → List ℕ
+own_started (Ok tt) text texts = splice texts 0 text
+own_started (Err a) text texts = texts
 
-abbrev pub parts_started : Start → Parts → List ℕ → Parts
+abbrev pub parts_started : Result (Unit {0}) Answer → Parts → List ℕ → Parts
 parts_started x p text = record { line = line_started x p.line text; texts = own_started x text p.texts; frames = p.frames; memo = p.memo }
 
-abbrev pub started_by : Start → Parts → List ℕ → Store → Response × Parts × Store
+abbrev pub started_by : Result (Unit {0}) Answer → Parts → List ℕ → Store → Response × Parts × Store
 started_by x p text j = (told (start_answer x) (parts_started x p text), parts_started x p text, j)
 
 abbrev pub on_start : ℕ → Parts → List ℕ → Store → Response × Parts × Store

@@ -1,7 +1,6 @@
 -- What an event comes to. The statements about one event are shown from this alone, so for an event of a new kind this is what has to be shown.
 -- Assumes nothing.
-use Rattle.std.specs.Prelude.{ℕ, ◌≡◌, true, false, List, length}
-use Rattle.std.proofs.Math.Option.{none, some}
+use Rattle.std.specs.Prelude.{ℕ, ◌≡◌, true, false, List, length, None, Some}
 use Rattle.faults.specs.Message.{is_message}
 use Rattle.journal.specs.Storage.{grown, appended}
 use Rattle.journal_laws.specs.Runs.{State as Store}
@@ -25,7 +24,7 @@ module _ (s : State) (i : ℕ) (k : Kind) where
 
   -- it completes no text and decides nothing: the store stays, and at any other store the event would go the same
   pub record Passes : Type 0 where
-    pub no_text : offered s i k ≡ none
+    pub no_text : offered s i k ≡ None
     pub undecided : decides answer ≡ false
     pub no_damage : is_damage (answered answer) ≡ false
     pub kept : store ≡ store_of s
@@ -33,7 +32,7 @@ module _ (s : State) (i : ℕ) (k : Kind) where
 
   -- it completes the text t and decides, with a number that is such a one, and this is the store then
   pub record Settles (t : List ℕ) (Such : ℕ → Type 0) (then : Store) : Type 0 where
-    pub complete : offered s i k ≡ some t
+    pub complete : offered s i k ≡ Some t
     pub decided : decides answer ≡ true
     pub number : Such (answered answer)
     pub left : store ≡ then

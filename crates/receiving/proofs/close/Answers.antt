@@ -9,14 +9,14 @@ use Rattle.receiving.proofs.close.Goals as goal
 pub close-requires : goal.close-requires
 close-requires c =
     let a = c.args in
-    tested_ready a.line a.e a.n journal_size a.unfinished.now a.frames.now (sym c.test.ensures ∙ c.in-Ready.is)
+    tested_ready a.line a.e a.n journal_size a.unfinished.now a.frames.now (sym c.test.ensures ∙ c.in-Ok.is)
 
-pub returns-in-Ready : goal.returns-in-Ready
-returns-in-Ready c =
+pub returns-in-Ok : goal.returns-in-Ok
+returns-in-Ok c =
     let a = c.args in
-    closed_by a.line a.e a.n a.fate a.unfinished.now a.frames.now _ (sym c.in-Ready.is ∙ c.test.ensures) c.close.ensures
+    closed_by a.line a.e a.n a.fate a.unfinished.now a.frames.now _ (sym c.in-Ok.is ∙ c.test.ensures) c.close.ensures
 
-pub returns-in-Refused : goal.returns-in-Refused
-returns-in-Refused c =
+pub returns-in-Err : goal.returns-in-Err
+returns-in-Err c =
     let a = c.args in
-    closed_by a.line a.e a.n a.fate a.unfinished.now a.frames.now _ (sym c.in-Refused.is ∙ c.test.ensures) (record { line = refl; texts = refl; frames = refl })
+    closed_by a.line a.e a.n a.fate a.unfinished.now a.frames.now _ (sym c.in-Err.is ∙ c.test.ensures) (record { line = refl; texts = refl; frames = refl })

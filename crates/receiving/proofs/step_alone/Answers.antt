@@ -6,8 +6,8 @@ use Rattle.looking.proofs.Alone.{Acts, alone_acts}
 use Rattle.receiving.proofs.Steps.{alone_settled, alone_decides}
 use Rattle.receiving.proofs.step_alone.Goals as goal
 
-pub settle-after-requires : goal.settle-after-requires
-settle-after-requires c =
+pub settle-line-requires : goal.settle-line-requires
+settle-line-requires c =
     let acts : (let a = c.args in Acts c.look_alone-look.result a.line a.e.line a.unfinished.now a.frames.now) = let a = c.args in
     subst (λ (k : Look). Acts k a.line a.e.line a.unfinished.now a.frames.now) (sym c.look_alone-look.ensures) (alone_acts a.line a.e a.journal a.unfinished.now a.frames.now) in
     let a = c.args in
@@ -17,7 +17,7 @@ settle-after-requires c =
 pub returns-in-Done : goal.returns-in-Done
 returns-in-Done c =
     let a = c.args in
-    alone_settled a.line a.e a.journal a.unfinished.now a.frames.now (sym c.in-Done.is ∙ c.look_alone-look.ensures) c.settle-after.ensures
+    alone_settled a.line a.e a.journal a.unfinished.now a.frames.now (sym c.in-Done.is ∙ c.look_alone-look.ensures) c.settle-line.ensures
 
 pub returns-in-Decides : goal.returns-in-Decides
 returns-in-Decides c =

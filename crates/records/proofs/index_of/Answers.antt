@@ -1,19 +1,20 @@
--- `records::index_of` meets its contract: what is passed holds no d, so the answer is the place and what is found from there.
+-- `records::index_of` meets its contract: the place where std finds b, or the length.
 -- Assumes nothing.
+use mathlib.Core.Path.{ap, ◌∙◌}
 use borrow.Author.Rules.{rules}
-use native.Mathlib.Omega.{arith}
-use borrow.Author.Tests.{eq-eqb, ne_eqb}
-use Rattle.memory.proofs.Tests.{find_stop, find_next, find_done}
+use borrow.Author.Tests.{tests}
+use lib.ListN.{length}
+use Prim.Native.Nat.{ℕ}
+use Rattle.std.proofs.Common.{Option}
+use Rattle.std.specs.Option.{unwrap_or}
+use Rattle.std.proofs.lemmas.Iterator.{YieldsList-from_slice}
+use Rattle.std.proofs.lemmas.Iterator.Search.{position_from_yields_List}
+use Rattle.memory.specs.Tests.{is}
+use Rattle.records.proofs.Finds.{position_find}
 use Rattle.records.proofs.index_of.Goals as goal
 
-pub loop-i-init : goal.loop-i-init
-loop-i-init c = record { within = omega arith; not_yet = omega arith }
-
-pub returns-then-text-i : goal.returns-then-text-i
-returns-then-text-i c = find_stop _ _ _ (search rules) (eq-eqb _ _ c.if-text-i.true) c.loop-i.invariant.not_yet
-
-pub loop-i-preserved : goal.loop-i-preserved
-loop-i-preserved c = record { within = omega arith; not_yet = find_next _ _ _ (search rules) (ne_eqb _ _ c.if-text-i.false) c.loop-i.invariant.not_yet }
-
 pub returns : goal.returns
-returns c = find_done _ _ _ (search rules) c.loop-i.invariant.not_yet
+returns c =
+    let s = c.args.text.now in
+    let found = position_from_yields_List (is c.args.b) _ _ c.position.result c.position.ensures.ran (YieldsList-from_slice s cc) (λ x b q k. search (rules, tests)) in
+    c.unwrap_or.ensures ∙ ap (λ (o : Option ℕ). unwrap_or o (length s)) found ∙ position_find (is c.args.b) s

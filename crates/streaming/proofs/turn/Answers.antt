@@ -1,7 +1,7 @@
 -- `streaming::turn` meets its contract.
 -- Assumes nothing.
 use Rattle.std.proofs.Common.{◌≡◌, true, false, length, sym, ap, ◌∙◌}
-use Rattle.replaying.specs.Desk.{Desk, desk_of}
+use Rattle.replaying.specs.Lents.{desk}
 use Rattle.streaming.specs.declared.Kept.{Kept}
 use Rattle.streaming.specs.Inner.Places.{LiesIn}
 use Rattle.streaming.specs.Inner.Ready.{is_ready}
@@ -9,13 +9,12 @@ use Rattle.streaming.proofs.Places.{read_within}
 use Rattle.streaming.proofs.Ways.{rows_shown, ready_lies, has_run, has_said}
 use Rattle.streaming.proofs.turn.Goals as goal
 
-pub returns-then-not-is_ready : goal.returns-then-not-is_ready
-returns-then-not-is_ready c =
-    let desk : Desk = let a = c.args in desk_of a.numbers.now a.counts.now a.journal.now a.unfinished.now a.frames.now a.buffer.now in
+pub returns-then-not-is_ready-clause-turn : goal.returns-then-not-is_ready-clause-turn
+returns-then-not-is_ready-clause-turn c =
     let a = c.args in
     let (next, text, within) = c.say.ensures in
     let waits : is_ready a.kept (length a.input.now) ≡ false = sym c.is_ready.ensures ∙ c.if-not-is_ready.true in
-    (has_said a.kept a.input.now a.out.now desk waits next text, within)
+    (has_said a.kept a.input.now a.out.now (desk a.lent.now) waits next text, within)
 
 pub slice_bounds-run-count : goal.slice_bounds-run-count
 slice_bounds-run-count c =
@@ -40,15 +39,12 @@ hand_on-requires c =
     let ready : (let a = c.args in is_ready a.kept (length a.input.now) ≡ true) = sym c.is_ready.ensures ∙ c.if-not-is_ready.false in
     let lies : (let a = c.args in LiesIn a.kept (length a.input.now)) = let a = c.args in ready_lies a.kept (length a.input.now) ready in
     let a = c.args in
-    (read_within a.kept a.input.now c.run.result.read lies c.run.ensures.1, lies.1)
+    (read_within a.kept a.input.now c.run-progress.result.read lies c.run-progress.ensures.run.1, lies.1)
 
-pub returns : goal.returns
-returns c =
+pub returns-clause-turn : goal.returns-clause-turn
+returns-clause-turn c =
     let a = c.args in
-    let desk : Desk = desk_of a.numbers.now a.counts.now a.journal.now a.unfinished.now a.frames.now a.buffer.now in
-    let m = c.run.new in
-    let desk-behind : Desk = desk_of m.numbers m.counts m.journal m.unfinished m.frames m.buffer in
     let ready : is_ready a.kept (length a.input.now) ≡ true = sym c.is_ready.ensures ∙ c.if-not-is_ready.false in
     let (next, rest) = c.hand_on.ensures in
-    let rows : c.hand_on.result.written ≡ c.run.result.written = ap (λ (x : Kept). x.written) next ∙ rows_shown a.kept c.run.result in
-    (has_run a.kept a.input.now a.out.now desk {d' = desk-behind} ready c.run.ensures.0 next rest, rw rows c.run.ensures.2)
+    let rows : c.hand_on.result.written ≡ c.run-progress.result.written = ap (λ (x : Kept). x.written) next ∙ rows_shown a.kept c.run-progress.result in
+    (has_run a.kept a.input.now a.out.now (desk a.lent.now) {d' = desk c.run-progress.new.lent} ready c.run-progress.ensures.run.0 next rest, rw rows c.run-progress.ensures.run.2)

@@ -3,6 +3,7 @@
 use mathlib.Core.Path.{◌≡◌, sym, ◌∙◌}
 use mathlib.Core.Bool.{true}
 use native.Mathlib.Omega.{arith}
+use Rattle.std.proofs.Common.{rules}
 use Rattle.looking.specs.Lent.{right_sizes}
 use Rattle.numbers.specs.Changes.{is_within}
 use Rattle.numbers.proofs.Changes.{not_within}
@@ -52,4 +53,4 @@ returns-in-Blocks c =
     record { numbers = a.numbers.now; counts = a.counts.now; memory = record { journal = a.journal.now; unfinished = a.unfinished.now; frames = a.frames.now } } in
     let right : (let a = c.args in right_sizes a.journal.now a.unfinished.now a.frames.now ≡ true) = sym c.are_right.ensures ∙ c.if-not-are_right.false in
     let within : (let a = c.args in is_within a.numbers.now a.e.line ≡ true) = sym c.is_within.ensures ∙ c.if-not-is_within.false in
-    by_work kept c.args.e right within c.record_of-line.ensures c.in-Blocks.is c.on_line.ensures
+    search (rules, by_work kept c.args.e right within c.record_of-line.ensures c.in-Blocks.is c.on_line.ensures.ruled)

@@ -1,33 +1,21 @@
--- `block::layout::is_laid_out` meets its contract. The loop's invariant: the bytes from i on decide.
+-- `block::layout::is_laid_out` meets its contract.
 -- Assumes nothing.
-use mathlib.Core.Path.{refl, sym, ◌∙◌}
-use native.Mathlib.Omega.{arith}
-use Rattle.block.proofs.Matching.{other_length, from_stop, from_next, from_done}
+use Rattle.std.proofs.Common.{◌≡◌, ◌↔◌, IsTrue, ℕ, ◌<◌, length, get_or, true, ◌∙◌, sym, rules}
+use borrow.Author.Tests.{ne_eqb}
+use Rattle.block.specs.Places.{fits}
+use Rattle.block.specs.Inner.Template.{place_of}
+use Rattle.block.proofs.Matching.{other_length, laid_out}
 use Rattle.block.proofs.layout.is_laid_out.Goals as goal
 
 pub returns-then-template-block : goal.returns-then-template-block
 returns-then-template-block c =
-    let a = c.args in
-    sym (other_length a.template.now a.block.now c.if-template-block.true)
+    let ms = c.args.template.now in
+    let bs = c.args.block.now in
+    let each : IsTrue c.all.result ↔ ((k : ℕ) → k < length bs → fits (place_of (get_or ms k 0)) (get_or bs k 0) ≡ true) = search rules in
+    laid_out ms bs c.if-template-block.true each
 
-pub loop-i-init : goal.loop-i-init
-loop-i-init c = (omega arith, refl)
-
-pub returns-then-not-may_stand : goal.returns-then-not-may_stand
-returns-then-not-may_stand c =
-    let a = c.args in
-    from_stop a.template.now a.block.now c.loop-i.i (omega arith) (omega arith)
-    (sym c.may_stand.ensures ∙ c.if-not-may_stand.true) c.loop-i.invariant.1
-
-pub loop-i-preserved : goal.loop-i-preserved
-loop-i-preserved c =
-    let a = c.args in (
-      omega arith,
-      from_next a.template.now a.block.now c.loop-i.i (omega arith) (omega arith)
-          (sym c.may_stand.ensures ∙ c.if-not-may_stand.false) c.loop-i.invariant.1,
-    )
-
-pub returns : goal.returns
-returns c =
-    let a = c.args in
-    from_done a.template.now a.block.now c.loop-i.i (omega arith) (omega arith) c.loop-i.invariant.1
+pub returns-else-template-block : goal.returns-else-template-block
+returns-else-template-block c =
+    let ms = c.args.template.now in
+    let bs = c.args.block.now in
+    ne_eqb (length ms) (length bs) c.if-template-block.false ∙ sym (other_length ms bs c.if-template-block.false)

@@ -10,4 +10,4 @@ unfolding printable
 returns-then-b-eq-CR c = sym (ap printable c.if-b-eq-CR.true)
 
 pub returns : goal.returns
-returns c = let b = c.args.b in rw c.wrapping_add_u8.ensures.value (printable_past b (search rules) c.if-b-eq-CR.false)
+returns c = printable_past c.args.b (search rules) c.if-b-eq-CR.false

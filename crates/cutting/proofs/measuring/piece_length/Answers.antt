@@ -1,6 +1,6 @@
 -- `cutting::measuring::piece_length` meets its contract: the bytes from n on decide, and there is one at n.
 -- Assumes nothing.
-use mathlib.Core.Path.{◌≡◌}
+use mathlib.Core.Path.{◌≡◌, ◌∙◌}
 use Prim.Native.Nat.{◌-◌}
 use native.Mathlib.Nat.{zero-add}
 use native.Mathlib.Omega.{arith}
@@ -32,4 +32,5 @@ pub returns : goal.returns
 returns c =
     let a = c.args in
     let l = c.loop-n in
-    through_all a.text.now (piece_size a.limit) l.n (omega arith) l.invariant.goes_on
+    let end : piece_size a.limit ≡ l.n = omega arith in
+    end ∙ through_all a.text.now (piece_size a.limit) l.n (omega arith) l.invariant.goes_on

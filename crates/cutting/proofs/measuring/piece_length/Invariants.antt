@@ -15,6 +15,3 @@ pub record Scanning (limit : ℕ) (text : List ℕ) (n : ℕ) : Type 0 where
 
 abbrev pub invariant-loop-n : goal.invariant-loop-n
 invariant-loop-n l = Scanning l.limit l.text l.n
-
-abbrev pub decreases-loop-n : goal.decreases-loop-n
-decreases-loop-n l = piece_size l.limit - l.n

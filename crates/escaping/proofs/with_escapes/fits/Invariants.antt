@@ -1,7 +1,6 @@
 -- `escaping::with_escapes::fits` meets its contract: what is left to put out fits into the room that is left just if all fits into all.
 -- Assumes nothing.
 use mathlib.Core.Path.{◌≡◌}
-use Prim.Native.Nat.{◌-◌, ◌≤◌}
 use lib.Dec.{leb}
 use lib.ListN.{length, drop}
 use Rattle.kinds.specs.declared.Delimiters.{Delimiters}
@@ -9,8 +8,5 @@ use Rattle.escaping.specs.Escape.{escaped}
 use Rattle.escaping.specs.Inner.Table.{Lettering}
 use Rattle.escaping.proofs.with_escapes.fits.Given as goal
 
-abbrev pub invariant-loop-i : goal.invariant-loop-i
-invariant-loop-i l = (l.i ≤ length l.text) × ((d : Delimiters) → Lettering d l.letters → leb (length (escaped d (drop l.i l.text))) l.left ≡ leb (length (escaped d l.text)) l.initial.left)
-
-abbrev pub decreases-loop-i : goal.decreases-loop-i
-decreases-loop-i l = length l.text - l.i
+abbrev pub invariant-loop-b : goal.invariant-loop-b
+invariant-loop-b l = (d : Delimiters) → Lettering d l.letters → leb (length (escaped d (drop l.b-index l.text))) l.left ≡ leb (length (escaped d l.text)) l.initial.left

@@ -1,8 +1,8 @@
 -- `escaping::without_escapes::meant` meets its contract: each answer under the tests that led to it; the letter left is E.
 -- Assumes nothing.
+use Rattle.std.specs.Prelude.{Some}
 use mathlib.Core.Path.{◌≡◌, refl, sym, ◌∙◌}
 use mathlib.Core.Bool.{true}
-use mathlib.Core.Option.{some}
 use Prim.Native.Nat.{ℕ}
 use native.Mathlib.Decide.{ℕ_discrete}
 use borrow.Author.Tests.{eq-eqb, ne_eqb}
@@ -14,7 +14,7 @@ use Rattle.memory.proofs.Tests.{never_both}
 use Rattle.memory.proofs.Branches.{branches}
 use Rattle.escaping.proofs.without_escapes.meant.Goals as goal
 
-last_letter : (d : Delimiters) (x : ℕ) → is_one_of letters x ≡ true → (x ≡ 0x46 → ⊥) → (x ≡ 0x53 → ⊥) → (x ≡ 0x52 → ⊥) → meant d x ≡ some d.escape
+last_letter : (d : Delimiters) (x : ℕ) → is_one_of letters x ≡ true → (x ≡ 0x46 → ⊥) → (x ≡ 0x53 → ⊥) → (x ≡ 0x52 → ⊥) → meant d x ≡ Some d.escape
 unfolding meant
 last_letter d x t f s r =
     let n₁ = ne_eqb x 0x46 f in

@@ -1,5 +1,6 @@
 -- `escaping::without_escapes::measure` meets its contract: what is counted, with what is left, is all.
 -- Assumes nothing.
+use Rattle.std.specs.Prelude.{None}
 use borrow.Author.Rules.{rules}
 use mathlib.Core.Path.{◌≡◌, sym, ◌∙◌}
 use Prim.Native.Nat.{◌+◌, ◌-◌, ◌<◌}
@@ -8,7 +9,6 @@ use lib.ListN.{length, get_or}
 use Rattle.memory.proofs.Tests.{never_both}
 use Rattle.escaping.specs.Unescape.{unescaped}
 use Rattle.escaping.specs.Inner.Passes.{measured}
-use Rattle.escaping.specs.declared.Measured.TheVariants.{Wrong}
 use Rattle.escaping.proofs.Unescapes.{EscapeAt, itself_gives, bare_refused, escape_one_byte, no_escape, size_start, size_wrong, size_next, size_end}
 use Rattle.escaping.proofs.without_escapes.measure.Goals as goal
 
@@ -19,7 +19,7 @@ loop-i-init c = record { i_within = search rules; less_within = search rules; co
 pub returns-then-text-i-lt3 : goal.returns-then-text-i-lt3
 returns-then-text-i-lt3 c =
     let no_escape_here : (let a = c.args in
-    (EscapeAt a.d a.text.now c.loop-i.i → ⊥) → Wrong ≡ measured a.d a.text.now) = λ none. let l = c.loop-i in
+    (EscapeAt a.d a.text.now c.loop-i.i → ⊥) → None ≡ measured a.d a.text.now) = λ none. let l = c.loop-i in
     let a = c.args in
     let lt : l.i < length a.text.now = omega arith in
     size_wrong a.d a.text.now l.i (l.i - l.less) l.invariant.counted (no_escape a.d a.text.now l.i lt c.if-b-d.true none) in
@@ -28,7 +28,7 @@ returns-then-text-i-lt3 c =
 pub returns-then-not-is_letter : goal.returns-then-not-is_letter
 returns-then-not-is_letter c =
     let no_escape_here : (let a = c.args in
-    (EscapeAt a.d a.text.now c.loop-i.i → ⊥) → Wrong ≡ measured a.d a.text.now) = λ none. let l = c.loop-i in
+    (EscapeAt a.d a.text.now c.loop-i.i → ⊥) → None ≡ measured a.d a.text.now) = λ none. let l = c.loop-i in
     let a = c.args in
     let lt : l.i < length a.text.now = omega arith in
     size_wrong a.d a.text.now l.i (l.i - l.less) l.invariant.counted (no_escape a.d a.text.now l.i lt c.if-b-d.true none) in
@@ -38,7 +38,7 @@ returns-then-not-is_letter c =
 pub returns-then-text-i : goal.returns-then-text-i
 returns-then-text-i c =
     let no_escape_here : (let a = c.args in
-    (EscapeAt a.d a.text.now c.loop-i.i → ⊥) → Wrong ≡ measured a.d a.text.now) = λ none. let l = c.loop-i in
+    (EscapeAt a.d a.text.now c.loop-i.i → ⊥) → None ≡ measured a.d a.text.now) = λ none. let l = c.loop-i in
     let a = c.args in
     let lt : l.i < length a.text.now = omega arith in
     size_wrong a.d a.text.now l.i (l.i - l.less) l.invariant.counted (no_escape a.d a.text.now l.i lt c.if-b-d.true none) in

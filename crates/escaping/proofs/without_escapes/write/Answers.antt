@@ -1,7 +1,7 @@
 -- `escaping::without_escapes::write` meets its contract: what is stored, with what is left to store, is all.
 -- Assumes nothing.
+use Rattle.std.specs.Prelude.{Some}
 use mathlib.Core.Path.{◌≡◌, refl, sym, ◌∙◌, ap}
-use mathlib.Core.Option.{some}
 use mathlib.Core.List.{List, [], ◌∷◌}
 use Prim.Native.Nat.{ℕ, ◌+◌, ◌≤◌, ◌<◌}
 use native.Mathlib.Omega.{arith}
@@ -20,7 +20,7 @@ use Rattle.escaping.proofs.without_escapes.write.Invariants.{Storing}
 use Rattle.escaping.proofs.without_escapes.write.Goals as goal
 
 -- where there is a byte to store, there is a byte to read
-more_left : (d : Delimiters) (s : List ℕ) (i : ℕ) (t : List ℕ) → unescaped d (drop i s) ≡ some t → 0 < length t → i < length s
+more_left : (d : Delimiters) (s : List ℕ) (i : ℕ) (t : List ℕ) → unescaped d (drop i s) ≡ Some t → 0 < length t → i < length s
 more_left d s i t e h =
     elim (dec_lt i (length s)) [
       | yes p ↦ p
@@ -36,7 +36,7 @@ stored_on : (out : List ℕ) (o : ℕ) {x : ℕ} {t left all : List ℕ} → t �
 stored_on out o k e = rw (add-one o) (sym (ap (sets out o) k) ∙ e)
 
 -- before the first turn nothing is stored
-begun : (d : Delimiters) (text out : List ℕ) (n : ℕ) → (t : List ℕ) × (unescaped d text ≡ some t) × (n ≡ length t) → Storing d text out out n 0 0
+begun : (d : Delimiters) (text out : List ℕ) (n : ℕ) → (t : List ℕ) × (unescaped d text ≡ Some t) × (n ≡ length t) → Storing d text out out n 0 0
 begun d text out n (left, u, long) = record { left = left; accepted = u; out_length = refl; counted = omega (arith, long); all_stored_law = rw u }
 
 pub loop-o-init : goal.loop-o-init
@@ -48,7 +48,7 @@ loop-o-init c =
 pub returns-then-n-text : goal.returns-then-n-text
 unfolding measured
 returns-then-n-text c =
-    let told : (t : List ℕ) × (unescaped c.args.d c.args.text.now ≡ some t) × (c.args.n ≡ length t) = size_told (unescaped c.args.d c.args.text.now) c.args.n c.requires.0 in
+    let told : (t : List ℕ) × (unescaped c.args.d c.args.text.now ≡ Some t) × (c.args.n ≡ length t) = size_told (unescaped c.args.d c.args.text.now) c.args.n c.requires.0 in
     let text = c.args.text.now in
     let out = c.args.out.now in
     let (left, u, long) = told in

@@ -25,8 +25,8 @@ pub slice_bounds-check_header-end : goal.slice_bounds-check_header-end
 slice_bounds-check_header-end c = cut_length cr c.args.text.now _ c.index_of-e.ensures
 
 -- the four that the text names are those of its first record, where this is long enough to name any
-pub check_header-step-requires : goal.check_header-step-requires
-check_header-step-requires c =
+pub check_header-requires : goal.check_header-requires
+check_header-requires c =
     let text = c.args.text.now in
     let own = ap (λ (d : Delimiters). is_header d (before cr text)) c.requires.0 ∙ own_first text in
     subst (λ (n : ℕ). is_header c.args.d (take n text) ≡ is_header (delimiters_of (take n text)) (take n text)) (sym c.index_of-e.ensures) own
@@ -41,8 +41,8 @@ rest_fault-requires c =
     let within : c.index_of-e.result ≤ length c.args.text.now = omega (arith, c.index_of-e.ensures, find_le (is cr) c.args.text.now) in
     (c.requires.2, omega arith, omega (arith, within))
 
-pub returns-in-Fine : goal.returns-in-Fine
-returns-in-Fine c = header_fine c.args.d c.args.text.now c.index_of-e.result c.requires.1 c.index_of-e.ensures _ c.check_header-step.ensures c.in-Fine.is c.rest_fault.ensures
+pub returns-in-Ok : goal.returns-in-Ok
+returns-in-Ok c = header_fine c.args.d c.args.text.now c.index_of-e.result c.requires.1 c.index_of-e.ensures _ c.check_header.ensures c.in-Ok.is c.rest_fault.ensures
 
-pub returns-in-Wrong : goal.returns-in-Wrong
-returns-in-Wrong c = header_wrong c.args.d c.args.text.now c.index_of-e.result c.requires.1 c.index_of-e.ensures _ c.check_header-step.ensures c.in-Wrong.is
+pub returns-in-Err : goal.returns-in-Err
+returns-in-Err c = header_wrong c.args.d c.args.text.now c.index_of-e.result c.requires.1 c.index_of-e.ensures _ c.check_header.ensures c.in-Err.is

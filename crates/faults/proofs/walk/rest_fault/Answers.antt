@@ -28,8 +28,8 @@ overflow_add-at c =
     let within : c.loop-at.at + c.index_of-e.result ≤ length c.args.text.now = tail_within cr c.args.text.now c.loop-at.at c.index_of-e.result (omega arith) c.index_of-e.ensures in
     omega (arith, within, c.well_formed)
 
-pub overflow_add-at-in-Fine : goal.overflow_add-at-in-Fine
-overflow_add-at-in-Fine c =
+pub overflow_add-at-in-Ok : goal.overflow_add-at-in-Ok
+overflow_add-at-in-Ok c =
     let within : c.loop-at.at + c.index_of-e.result ≤ length c.args.text.now = tail_within cr c.args.text.now c.loop-at.at c.index_of-e.result (omega arith) c.index_of-e.ensures in
     omega (arith, within, c.well_formed)
 
@@ -41,12 +41,12 @@ loop-at-smaller c =
 pub loop-at-preserved : goal.loop-at-preserved
 loop-at-preserved c =
     let a = c.args in
-    walk_on a.d a.counts a.text.now a.start c.loop-at.s c.loop-at.at c.loop-at.place c.loop-at.invariant c.index_of-e.result (omega arith) c.index_of-e.ensures _ c.check_record-step.ensures c.in-Fine.is
+    walk_on a.d a.counts a.text.now a.start c.loop-at.s c.loop-at.at c.loop-at.place c.loop-at.invariant c.index_of-e.result (omega arith) c.index_of-e.ensures _ c.check_record.ensures c.in-Ok.is
 
-pub returns-in-Wrong : goal.returns-in-Wrong
-returns-in-Wrong c =
+pub returns-in-Err : goal.returns-in-Err
+returns-in-Err c =
     let a = c.args in
-    walk_wrong a.d a.counts a.text.now a.start c.loop-at.s c.loop-at.at c.loop-at.place c.loop-at.invariant c.index_of-e.result (omega arith) c.index_of-e.ensures _ c.check_record-step.ensures c.in-Wrong.is
+    walk_wrong a.d a.counts a.text.now a.start c.loop-at.s c.loop-at.at c.loop-at.place c.loop-at.invariant c.index_of-e.result (omega arith) c.index_of-e.ensures _ c.check_record.ensures c.in-Err.is
 
 pub returns : goal.returns
 returns c =

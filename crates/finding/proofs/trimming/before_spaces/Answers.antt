@@ -1,26 +1,14 @@
--- `finding::trimming::before_spaces` meets its contract: what is behind the place reached is spaces.
+-- `finding::trimming::before_spaces` meets its contract.
 -- Assumes nothing.
-use native.Mathlib.Omega.{arith}
-use lib.Seq.{take-length}
-use Rattle.finding.proofs.Trims.{back_on, back_stop, back_done}
+use Rattle.std.proofs.Common.{◌≡◌, ℕ, ◌-◌, ◌≤◌, ◌<◌, length, get_or, rules}
+use Rattle.finding.proofs.Trims.{back_at}
 use Rattle.finding.proofs.trimming.before_spaces.Goals as goal
-
-pub loop-end-init : goal.loop-end-init
-loop-end-init c = record { within = omega arith; same = rw take-length }
-
-pub returns-then-text-end-ne32 : goal.returns-then-text-end-ne32
-returns-then-text-end-ne32 c =
-    let l = c.loop-end in
-    let s = c.args.text.now in
-    (l.invariant.within, back_stop s l.end (omega arith) (omega arith) c.if-text-end-ne32.true l.invariant.same)
-
-pub loop-end-preserved : goal.loop-end-preserved
-loop-end-preserved c =
-    let l = c.loop-end in
-    let s = c.args.text.now in
-    record { within = omega arith; same = back_on s l.end (omega arith) (omega arith) c.if-text-end-ne32.false l.invariant.same }
 
 pub returns : goal.returns
 returns c =
-    let l = c.loop-end in
-    (l.invariant.within, back_done c.args.text.now l.end (omega arith) l.invariant.same)
+    let s = c.args.text.now in
+    let n = c.map_or.result in
+    let within : n ≤ length s = search rules in
+    let spaces : (k : ℕ) → n ≤ k → k < length s → get_or s k 0 ≡ 0x20 = search rules in
+    let other : 0 < n → get_or s (n - 1) 0 ≡ 0x20 → ⊥ = search rules in
+    (within, back_at s n within spaces other)

@@ -1,26 +1,14 @@
--- `finding::trimming::spaces_in_front` meets its contract: what is in front of the place reached is spaces.
+-- `finding::trimming::spaces_in_front` meets its contract.
 -- Assumes nothing.
-use mathlib.Core.Path.{refl}
-use native.Mathlib.Omega.{arith}
-use Rattle.finding.proofs.Trims.{front_on, front_stop, front_done}
+use Rattle.std.proofs.Common.{◌≡◌, ℕ, ◌≤◌, ◌<◌, length, get_or, rules}
+use Rattle.finding.proofs.Trims.{front_at}
 use Rattle.finding.proofs.trimming.spaces_in_front.Goals as goal
-
-pub loop-i-init : goal.loop-i-init
-loop-i-init c = record { within = omega arith; same = refl }
-
-pub returns-then-text-i-ne32 : goal.returns-then-text-i-ne32
-returns-then-text-i-ne32 c =
-    let l = c.loop-i in
-    let s = c.args.text.now in
-    (l.invariant.within, front_stop s l.i (omega arith) c.if-text-i-ne32.true l.invariant.same)
-
-pub loop-i-preserved : goal.loop-i-preserved
-loop-i-preserved c =
-    let l = c.loop-i in
-    let s = c.args.text.now in
-    record { within = omega arith; same = front_on s l.i (omega arith) c.if-text-i-ne32.false l.invariant.same }
 
 pub returns : goal.returns
 returns c =
-    let l = c.loop-i in
-    (l.invariant.within, front_done c.args.text.now l.i (omega arith) l.invariant.same)
+    let s = c.args.text.now in
+    let i = c.unwrap_or.result in
+    let within : i ≤ length s = search rules in
+    let spaces : (k : ℕ) → k < i → get_or s k 0 ≡ 0x20 = search rules in
+    let other : i < length s → get_or s i 0 ≡ 0x20 → ⊥ = search rules in
+    (within, front_at s i within spaces other)

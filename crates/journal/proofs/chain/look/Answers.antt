@@ -1,25 +1,42 @@
 -- `journal::chain::look` meets its contract.
 -- Assumes nothing.
-use Rattle.std.proofs.Common.{sym, ◌∙◌, arith, length-take}
-use borrow.Author.Tests.{not-true, not-false}
-use Rattle.journal.proofs.Wholes.{beyond, unchained, chained}
+use Rattle.std.proofs.Common.{◌≡◌, length, not, sym, ap, ◌∙◌, arith, rules, length-take}
+use Rattle.memory.specs.Sizes.{lines}
+use Rattle.journal.proofs.Wholes.{beyond, unchained, compared, all_pairs}
 use Rattle.journal.proofs.chain.look.Goals as goal
 
 pub returns-then-journal-in_use : goal.returns-then-journal-in_use
-returns-then-journal-in_use c = let a = c.args in beyond a.ledger a.line a.journal.now 0 (omega arith)
+returns-then-journal-in_use c = let a = c.args in beyond a.ledger a.journal.now (omega arith)
 
-pub returns-then-not-walked : goal.returns-then-not-walked
-returns-then-not-walked c =
+pub returns-in_err-walked : goal.returns-in_err-walked
+returns-in_err-walked c =
     let a = c.args in
-    unchained a.ledger a.line a.journal.now 0 (omega arith) (sym (not-true _ c.if-not-walked.true) ∙ c.walk-walked.ensures.is_whole)
+    rw c.from_residual.ensures
+    (unchained a.ledger a.journal.now (omega arith) c.in_err-walked.ensures)
+
+-- the ledger's counts beside the sums, number by number
+pub returns-then-ne : goal.returns-then-ne
+returns-then-ne c =
+    let a = c.args in
+    let s = c.in_ok-walked.ensures in
+    let u : length a.ledger.used ≡ lines = search rules in
+    let v : length c.in_ok-walked.walked.sums ≡ lines = search rules in
+    compared a.ledger a.journal.now a.line _ (omega arith) s _ (sym (ap not c.if-ne.true) ∙ all_pairs _ _ _ u v c.ne.ensures)
 
 pub returns : goal.returns
 returns c =
     let a = c.args in
-    chained a.ledger a.line a.journal.now _ _ _ _ (omega arith) (not-false _ c.if-not-walked.false) c.walk-walked.ensures c.agrees.ensures
+    let s = c.in_ok-walked.ensures in
+    let u : length a.ledger.used ≡ lines = search rules in
+    let v : length c.in_ok-walked.walked.sums ≡ lines = search rules in
+    record {
+      es = s.es;
+      is = compared a.ledger a.journal.now a.line _ (omega arith) s _ (sym (ap not c.if-ne.false) ∙ all_pairs _ _ _ u v c.ne.ensures);
+      stands = s.stands;
+    }
 
 pub slice_bounds-walk-end : goal.slice_bounds-walk-end
 slice_bounds-walk-end c = rw length-take (omega arith)
 
-pub walk-walked-requires : goal.walk-walked-requires
-walk-walked-requires c = rw length-take (omega arith)
+pub walk-requires : goal.walk-requires
+walk-requires c = rw length-take (omega arith)

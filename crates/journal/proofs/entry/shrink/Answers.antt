@@ -3,5 +3,5 @@
 use Rattle.std.proofs.Common.{arith}
 use Rattle.journal.proofs.entry.shrink.Goals as goal
 
-pub overflow_cast-used : goal.overflow_cast-used
-overflow_cast-used c = omega (arith, c.requires.1)
+pub overflow_cast-shrunk : goal.overflow_cast-shrunk
+overflow_cast-shrunk c = omega (arith, c.requires.1)

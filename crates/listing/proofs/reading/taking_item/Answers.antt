@@ -1,17 +1,12 @@
 -- `listing::reading::taking_item` meets its contract.
 -- Assumes nothing.
-use Rattle.std.proofs.Common.{◌≡◌, drop, sym, ◌∙◌}
-use Rattle.memory.specs.Sizes.{message_limit}
-use Rattle.listing.specs.Items.{operand_at, taking_item, amount_of}
-use Rattle.listing.specs.declared.reading.Amount.TheVariants.{Is}
+use Rattle.listing.specs.Items.{taking_item}
 use Rattle.listing.proofs.reading.taking_item.Goals as goal
 
-pub returns-in-Is : goal.returns-in-Is
+pub returns : goal.returns
 unfolding taking_item
-returns-in-Is c =
-    let amount : amount_of message_limit (drop operand_at c.args.text.now) ≡ Is c.in-Is.n = sym c.amount_of-amount.ensures ∙ c.in-Is.is in
-    rw amount
+returns c = rw (← c.amount_of.ensures, c.in_ok-n.was)
 
-pub returns-in-NotANumber : goal.returns-in-NotANumber
+pub returns-in_err-n : goal.returns-in_err-n
 unfolding taking_item
-returns-in-NotANumber c = rw (← c.amount_of-amount.ensures, c.in-NotANumber.is)
+returns-in_err-n c = rw (c.from_residual.ensures, ← c.amount_of.ensures, c.in_err-n.was)

@@ -11,59 +11,63 @@ use Rattle.frame.proofs.Passed.{accepted_size}
 use Rattle.looking.specs.Views.{frame_start, frames_of, frame_bytes}
 use Rattle.looking.specs.Looks.{frame_look}
 use Rattle.looking.proofs.Views.{length_frame, own_parts, lent_collected}
+use Rattle.looking.specs.Inner.Ready.{Ready}
+use Rattle.line.specs.declared.Line.{Line}
+use Rattle.frame.specs.declared.End.{End}
+use Rattle.frame.specs.declared.Flaw.{Flaw}
+use Rattle.std.specs.Prelude.{Result, Ok, Err, ℕ, List, ◌+◌, ◌-◌, take, drop}
 use Rattle.looking.proofs.judging.look_frame.Goals as goal
+
+-- the frame as it was read from the line's own part
+shape_read : (line : Line) (i b : ℕ) (u f : List ℕ) → Ready line i u f → {r : Result (ℕ × End × ℕ) Flaw}
+    → r ≡ shape_of frame_limit (take (frame_start i + line.collected - frame_start i) (drop (frame_start i) f) ++ (b ∷ []))
+    → r ≡ shape_of frame_limit (frame_bytes line b (frames_of i f))
+shape_read line i b u f ready e =
+    e ∙ ap (λ (bs : List ℕ). shape_of frame_limit (bs ++ (b ∷ []))) (part_lent f (frame_start i) line.collected ∙ lent_collected line i u f ready)
 
 pub slice_bounds-shape_of-end : goal.slice_bounds-shape_of-end
 slice_bounds-shape_of-end c = omega (arith, within_facts c.args.line c.requires.within, c.requires)
 
 pub look_turn-requires : goal.look_turn-requires
 look_turn-requires c =
-    let shape : (let a = c.args in c.shape_of.result ≡ shape_of frame_limit (frame_bytes a.line a.b (frames_of a.i a.frames.now))) = let a = c.args in
-    c.shape_of.ensures ∙ ap (λ bs. shape_of frame_limit (bs ++ (a.b ∷ []))) (part_lent a.frames.now (frame_start a.i) a.line.collected ∙ lent_collected a.line a.i a.unfinished.now a.frames.now c.requires) in
     let a = c.args in
-    let is = sym shape ∙ c.in-Whole.is in
+    let is = sym (shape_read a.line a.i a.b a.unfinished.now a.frames.now c.requires c.shape_of.ensures) ∙ c.in-Ok.is in
     let size = accepted_size frame_limit (frame_bytes a.line a.b (frames_of a.i a.frames.now)) _ _ _ is in
     let long = length_frame a.line a.b _ _ (own_parts a.line a.i a.unfinished.now a.frames.now c.requires) in
     (c.requires, omega (arith, size, long))
 
-pub returns-in-Unended : goal.returns-in-Unended
+pub returns-in-Ok : goal.returns-in-Ok
 unfolding frame_look
-returns-in-Unended c =
-    let shape : (let a = c.args in c.shape_of.result ≡ shape_of frame_limit (frame_bytes a.line a.b (frames_of a.i a.frames.now))) = let a = c.args in
-    c.shape_of.ensures ∙ ap (λ bs. shape_of frame_limit (bs ++ (a.b ∷ []))) (part_lent a.frames.now (frame_start a.i) a.line.collected ∙ lent_collected a.line a.i a.unfinished.now a.frames.now c.requires) in
-    rw (sym shape ∙ c.in-Unended.is) c.done.ensures
+returns-in-Ok c =
+    let a = c.args in
+    rw (sym (shape_read a.line a.i a.b a.unfinished.now a.frames.now c.requires c.shape_of.ensures) ∙ c.in-Ok.is) c.look_turn.ensures
 
-pub returns-in-Torn : goal.returns-in-Torn
+pub returns-in-Err-Unended : goal.returns-in-Err-Unended
 unfolding frame_look
-returns-in-Torn c =
-    let shape : (let a = c.args in c.shape_of.result ≡ shape_of frame_limit (frame_bytes a.line a.b (frames_of a.i a.frames.now))) = let a = c.args in
-    c.shape_of.ensures ∙ ap (λ bs. shape_of frame_limit (bs ++ (a.b ∷ []))) (part_lent a.frames.now (frame_start a.i) a.line.collected ∙ lent_collected a.line a.i a.unfinished.now a.frames.now c.requires) in
-    rw (sym shape ∙ c.in-Torn.is) c.done-in-Torn.ensures
+returns-in-Err-Unended c =
+    let a = c.args in
+    rw (sym (shape_read a.line a.i a.b a.unfinished.now a.frames.now c.requires c.shape_of.ensures) ∙ c.in-Err-Unended.is, c.in-Err-Unended.field-0-is) c.done.ensures
 
-pub returns-in-WrongCheck : goal.returns-in-WrongCheck
+pub returns-in-Err-Torn : goal.returns-in-Err-Torn
 unfolding frame_look
-returns-in-WrongCheck c =
-    let shape : (let a = c.args in c.shape_of.result ≡ shape_of frame_limit (frame_bytes a.line a.b (frames_of a.i a.frames.now))) = let a = c.args in
-    c.shape_of.ensures ∙ ap (λ bs. shape_of frame_limit (bs ++ (a.b ∷ []))) (part_lent a.frames.now (frame_start a.i) a.line.collected ∙ lent_collected a.line a.i a.unfinished.now a.frames.now c.requires) in
-    rw (sym shape ∙ c.in-WrongCheck.is) c.done-in-WrongCheck.ensures
+returns-in-Err-Torn c =
+    let a = c.args in
+    rw (sym (shape_read a.line a.i a.b a.unfinished.now a.frames.now c.requires c.shape_of.ensures) ∙ c.in-Err-Torn.is, c.in-Err-Torn.field-0-is) c.done-in-Err-Torn.ensures
 
-pub returns-in-BadText : goal.returns-in-BadText
+pub returns-in-Err-WrongCheck : goal.returns-in-Err-WrongCheck
 unfolding frame_look
-returns-in-BadText c =
-    let shape : (let a = c.args in c.shape_of.result ≡ shape_of frame_limit (frame_bytes a.line a.b (frames_of a.i a.frames.now))) = let a = c.args in
-    c.shape_of.ensures ∙ ap (λ bs. shape_of frame_limit (bs ++ (a.b ∷ []))) (part_lent a.frames.now (frame_start a.i) a.line.collected ∙ lent_collected a.line a.i a.unfinished.now a.frames.now c.requires) in
-    rw (sym shape ∙ c.in-BadText.is) c.done-in-BadText.ensures
+returns-in-Err-WrongCheck c =
+    let a = c.args in
+    rw (sym (shape_read a.line a.i a.b a.unfinished.now a.frames.now c.requires c.shape_of.ensures) ∙ c.in-Err-WrongCheck.is, c.in-Err-WrongCheck.field-0-is) c.done-in-Err-WrongCheck.ensures
 
-pub returns-in-BadNumber : goal.returns-in-BadNumber
+pub returns-in-Err-BadText : goal.returns-in-Err-BadText
 unfolding frame_look
-returns-in-BadNumber c =
-    let shape : (let a = c.args in c.shape_of.result ≡ shape_of frame_limit (frame_bytes a.line a.b (frames_of a.i a.frames.now))) = let a = c.args in
-    c.shape_of.ensures ∙ ap (λ bs. shape_of frame_limit (bs ++ (a.b ∷ []))) (part_lent a.frames.now (frame_start a.i) a.line.collected ∙ lent_collected a.line a.i a.unfinished.now a.frames.now c.requires) in
-    rw (sym shape ∙ c.in-BadNumber.is) c.done-in-BadNumber.ensures
+returns-in-Err-BadText c =
+    let a = c.args in
+    rw (sym (shape_read a.line a.i a.b a.unfinished.now a.frames.now c.requires c.shape_of.ensures) ∙ c.in-Err-BadText.is, c.in-Err-BadText.field-0-is) c.done-in-Err-BadText.ensures
 
-pub returns-in-Whole : goal.returns-in-Whole
+pub returns-in-Err-BadNumber : goal.returns-in-Err-BadNumber
 unfolding frame_look
-returns-in-Whole c =
-    let shape : (let a = c.args in c.shape_of.result ≡ shape_of frame_limit (frame_bytes a.line a.b (frames_of a.i a.frames.now))) = let a = c.args in
-    c.shape_of.ensures ∙ ap (λ bs. shape_of frame_limit (bs ++ (a.b ∷ []))) (part_lent a.frames.now (frame_start a.i) a.line.collected ∙ lent_collected a.line a.i a.unfinished.now a.frames.now c.requires) in
-    rw (sym shape ∙ c.in-Whole.is) c.look_turn.ensures
+returns-in-Err-BadNumber c =
+    let a = c.args in
+    rw (sym (shape_read a.line a.i a.b a.unfinished.now a.frames.now c.requires c.shape_of.ensures) ∙ c.in-Err-BadNumber.is, c.in-Err-BadNumber.field-0-is) c.done-in-Err-BadNumber.ensures

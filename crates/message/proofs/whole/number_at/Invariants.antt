@@ -1,12 +1,8 @@
 -- `message::whole::number_at` meets its contract: what it has passed are digits of the field, which b or CR ends.
 -- Assumes nothing.
-use Rattle.std.proofs.Common.{◌-◌}
 use Rattle.sequence.proofs.Decimal.{Read}
 use Rattle.message.proofs.Starting.{field_at}
 use Rattle.message.proofs.whole.number_at.Given as goal
 
-abbrev pub invariant-loop-b : goal.invariant-loop-b
-invariant-loop-b l = Read (field_at l.b l.text) l.n l.i
-
-abbrev pub decreases-loop-b : goal.decreases-loop-b
-decreases-loop-b l = 7 - l.i
+abbrev pub invariant-loop-i : goal.invariant-loop-i
+invariant-loop-i l = Read (field_at l.b l.text) l.n l.i

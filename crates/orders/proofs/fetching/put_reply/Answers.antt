@@ -3,12 +3,12 @@
 use Rattle.orders.proofs.Ways.{reply_refused, reply_put}
 use Rattle.orders.proofs.fetching.put_reply.Goals as goal
 
-pub returns-then-n-eq0 : goal.returns-then-n-eq0
-returns-then-n-eq0 c =
+pub returns-in-None : goal.returns-in-None
+returns-in-None c =
     let a = c.args in
-    reply_refused a.code a.out.now c.put_control-n.ensures _ c.if-n-eq0.true c.refused_with.ensures
+    reply_refused a.code a.out.now c.put_control.ensures _ c.in-None.is c.refused_with.ensures
 
-pub returns : goal.returns
-returns c =
+pub returns-in-Some : goal.returns-in-Some
+returns-in-Some c =
     let a = c.args in
-    reply_put a.code a.out.now c.put_control-n.ensures _ c.if-n-eq0.false c.done.ensures
+    reply_put a.code a.out.now c.put_control.ensures _ c.in-Some.is c.done.ensures

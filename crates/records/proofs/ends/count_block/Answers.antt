@@ -7,19 +7,19 @@ use Rattle.memory.specs.Tests.{is}
 use Rattle.characters.specs.Control.{cr}
 use Rattle.records.proofs.RecordCount.{count_hit, count_miss, count_done}
 use Rattle.records.proofs.ends.count_block.Goals as goal
+use Rattle.records.proofs.ends.count_block.Goals.{then-b-eq-CR, else-b-eq-CR}
 
-pub loop-i-init : goal.loop-i-init
-loop-i-init c = record { within = omega arith; few = omega arith; counted = omega arith }
+pub loop-b-init : goal.loop-b-init
+loop-b-init c = record { few = omega arith; counted = omega arith }
 
-pub loop-i-preserved-then-b-eq-CR : goal.loop-i-preserved-then-b-eq-CR
-loop-i-preserved-then-b-eq-CR c =
+pub loop-b-preserved : goal.loop-b-preserved
+loop-b-preserved c =
     let s = c.args.text.now in
-    record { within = omega arith; few = omega arith; counted = count_hit (is cr) s c.loop-i.i c.loop-i.n (search rules) (eq-eqb _ _ c.if-b-eq-CR.true) c.loop-i.invariant.counted }
-
-pub loop-i-preserved : goal.loop-i-preserved
-loop-i-preserved c =
-    let s = c.args.text.now in
-    record { within = omega arith; few = omega arith; counted = count_miss (is cr) s c.loop-i.i c.loop-i.n (search rules) (ne_eqb _ _ c.if-b-eq-CR.false) c.loop-i.invariant.counted }
+    let l = c.loop-b in
+    elim c.if-b-eq-CR.branch [
+      | then-b-eq-CR w ↦ record { few = omega arith; counted = rw w.n-is (count_hit (is cr) s l.b-index l.n (search rules) (eq-eqb _ _ w.if-b-eq-CR.true) l.invariant.counted) }
+      | else-b-eq-CR w ↦ record { few = omega arith; counted = rw w.n-is (count_miss (is cr) s l.b-index l.n (search rules) (ne_eqb _ _ w.if-b-eq-CR.false) l.invariant.counted) }
+    ]
 
 pub returns : goal.returns
-returns c = count_done (is cr) c.args.text.now c.loop-i.i (search rules) c.loop-i.invariant.counted
+returns c = count_done (is cr) c.args.text.now c.loop-b.b-index (search rules) c.loop-b.invariant.counted

@@ -12,16 +12,16 @@ loop-init g c =
     }
 
 pub pass-requires : goal.pass-requires
-pass-requires g c = (after_turn _ c.turn-kept.ensures.0 c.loop.invariant.lies, c.turn-kept.ensures.1)
+pass-requires g c = (after_turn _ c.turn-kept.ensures.turn.0 c.loop.invariant.lies, c.turn-kept.ensures.turn.1)
 
 pub returns-then-is_over : goal.returns-then-is_over
-returns-then-is_over g c = onward_listed _ _ _ _ _ _ _ _ c.loop.invariant.onward _ _ _ _ _ _ _ _ c.turn-kept.ensures.0 c.in_ok-kept.ensures.passes (sym c.if-is_over.ensures)
+returns-then-is_over g c = onward_listed _ _ _ _ _ _ _ _ c.loop.invariant.onward _ _ _ _ _ _ _ _ c.turn-kept.ensures.turn.0 c.in_ok-kept.ensures.passes (sym c.if-is_over.ensures)
 
 pub loop-preserved : goal.loop-preserved
 loop-preserved g c =
     record {
       lies = c.in_ok-kept.ensures.lies;
-      onward = onward_on _ _ _ _ _ _ _ _ c.loop.invariant.onward _ _ _ _ _ _ _ _ c.turn-kept.ensures.0 c.in_ok-kept.ensures.passes (sym c.if-is_over.ensures);
+      onward = onward_on _ _ _ _ _ _ _ _ c.loop.invariant.onward _ _ _ _ _ _ _ _ c.turn-kept.ensures.turn.0 c.in_ok-kept.ensures.passes (sym c.if-is_over.ensures);
     }
 
 pub returns : goal.returns

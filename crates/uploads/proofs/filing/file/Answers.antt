@@ -8,12 +8,12 @@ use Rattle.uploads.proofs.filing.file.Goals as goal
 pub by_room-requires : goal.by_room-requires
 by_room-requires c =
     let a = c.args in (
-      reading_room a.numbers.now a.frames.now a.patient a.line a.i c.requires.0,
+      reading_room a.lent.now.numbers.now a.lent.now.frames.now a.patient a.line a.i c.requires.0,
       omega (arith, results_fit a.patient, c.requires.2),
-      stored_narrow _ a.i _ a.journal.now c.ledger_of-ledger.ensures.narrow c.store-stored.ensures,
+      stored_narrow _ a.i _ a.lent.now.journal.now c.ledger_of-ledger.ensures.narrow c.store-stored.ensures,
     )
 
-pub returns : goal.returns
-returns c =
+pub returns-clause-ruled : goal.returns-clause-ruled
+returns-clause-ruled c =
     let a = c.args in
-    filed_ruled a.numbers.now a.counts.now a.frames.now a.patient a.line a.i a.byte c.requires.0 a.journal.now c.requires.1 c.ledger_of-ledger.ensures.result c.store-stored.ensures c.by_room.ensures
+    filed_ruled a.lent.now.numbers.now a.lent.now.counts.now a.lent.now.frames.now a.patient a.line a.i a.byte c.requires.0 a.lent.now.journal.now c.requires.1 c.ledger_of-ledger.ensures.result c.store-stored.ensures c.by_room.ensures

@@ -9,12 +9,12 @@ use Rattle.uploads.proofs.whole.by_block.Goals as goal
 pub settle-requires : goal.settle-requires
 settle-requires c =
     let a = c.args in
-    reading_room a.numbers.now a.frames.now a.patient a.line a.i c.requires.0
+    reading_room a.lent.now.numbers.now a.lent.now.frames.now a.patient a.line a.i c.requires.0
 
-pub returns-then-not-heard : goal.returns-then-not-heard
-returns-then-not-heard c =
+pub returns-then-not-heard-clause-ruled : goal.returns-then-not-heard-clause-ruled
+returns-then-not-heard-clause-ruled c =
     let a = c.args in
-    heard a.numbers.now a.counts.now a.frames.now a.patient a.line a.i a.byte c.requires.0 a.journal.now c.requires.1 c.hear-heard.ensures (not-true _ c.if-not-heard.true)
+    heard a.lent.now.numbers.now a.lent.now.counts.now a.lent.now.frames.now a.patient a.line a.i a.byte c.requires.0 a.lent.now.journal.now c.requires.1 c.hear-heard.ensures (not-true _ c.if-not-heard.true)
     (record { result = c.in_numbers.ensures; numbers = c.settle.ensures.0; counts = refl; frames = c.settle.ensures.1 })
 
 pub file-requires : goal.file-requires
@@ -22,10 +22,10 @@ file-requires c =
     let a = c.args in (
       c.requires.0,
       c.requires.1,
-      heard_results a.numbers.now a.counts.now a.frames.now a.patient a.line a.i a.byte c.requires.0 a.journal.now c.requires.1 c.hear-heard.ensures (not-false _ c.if-not-heard.false),
+      heard_results a.lent.now.numbers.now a.lent.now.counts.now a.lent.now.frames.now a.patient a.line a.i a.byte c.requires.0 a.lent.now.journal.now c.requires.1 c.hear-heard.ensures (not-false _ c.if-not-heard.false),
     )
 
-pub returns : goal.returns
-returns c =
+pub returns-clause-ruled : goal.returns-clause-ruled
+returns-clause-ruled c =
     let a = c.args in
-    heard_filed a.numbers.now a.counts.now a.frames.now a.patient a.line a.i a.byte c.requires.0 a.journal.now c.requires.1 c.hear-heard.ensures (not-false _ c.if-not-heard.false) c.file.ensures
+    heard_filed a.lent.now.numbers.now a.lent.now.counts.now a.lent.now.frames.now a.patient a.line a.i a.byte c.requires.0 a.lent.now.journal.now c.requires.1 c.hear-heard.ensures (not-false _ c.if-not-heard.false) c.file.ensures.ruled

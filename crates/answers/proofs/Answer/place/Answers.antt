@@ -1,2 +1,0 @@
--- `answers::Answer::place` meets its contract: a fault has its place, and another variant none.
--- Assumes nothing.

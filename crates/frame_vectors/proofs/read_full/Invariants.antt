@@ -1,9 +1,0 @@
--- What was read lies within the memory.
-use Rattle.std.proofs.Common.{length, ◌-◌, ◌≤◌}
-use Rattle.frame_vectors.proofs.read_full.Given as goal
-
-abbrev pub invariant-loop-n : goal.invariant-loop-n
-invariant-loop-n g l = l.n ≤ length l.input
-
-abbrev pub decreases-loop-n : goal.decreases-loop-n
-decreases-loop-n g l = length l.initial.input - l.n
