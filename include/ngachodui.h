@@ -129,7 +129,7 @@ enum {
     NGACHODUI_SHARE = 2048,
 
     /* Bytes of stack that no call exceeds, what memcpy, memmove and memset need not counted. */
-    NGACHODUI_STACK_LIMIT = 6656
+    NGACHODUI_STACK_LIMIT = 6144
 };
 
 /* ---- Answers ---- */
