@@ -1,7 +1,7 @@
 // What a line asks, done, and its row written.
 ghost use Rattle.std.specs.Prelude.{◌≡◌, ◌+◌, ◌≤◌, min, length};
 ghost use Rattle.replaying.specs.Desk.{row_room};
-ghost use Rattle.replaying.specs.Lents.{desk, SameReferences};
+ghost use Rattle.replaying.specs.Lents.{desk, SameReferences, SameLengths};
 ghost use Rattle.replaying.specs.Inner.Asking.{ask_leaves, asked_by, line_of, RowPut};
 
 use crate::Lent;
@@ -12,6 +12,7 @@ use looking::Kind;
 // What a line asks: a byte has come, seconds have passed, or a reader takes into a buffer of so many bytes.
 pub fn ask(item: Item, lent: &mut Lent<'_>) -> Answered
     ensures same_references { SameReferences lent.old lent.new }
+    ensures same_lengths { SameLengths lent.old lent.new }
     ensures asked { ask_leaves result (desk lent.new) ≡ asked_by item (desk lent.old) }
 {
     let numbers = &mut *lent.numbers;

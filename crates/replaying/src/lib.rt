@@ -2,7 +2,7 @@
 #![tactic(auto)]
 
 ghost use Rattle.std.specs.Prelude.{◌≡◌, ◌≤◌, length};
-ghost use Rattle.replaying.specs.Lents.{desk, SameReferences};
+ghost use Rattle.replaying.specs.Lents.{desk, SameReferences, SameLengths};
 ghost use Rattle.replaying.specs.Runs.{run_leaves, piece_of};
 
 mod asking; // asking.rt: what a line asks, done, and its row written
@@ -42,6 +42,7 @@ pub struct Lent<'a> {
 // Replays the whole lines of a piece, behind so many events, and writes their rows over the start of out.
 pub fn run(events: u64, input: &[u8], out: &mut [u8], lent: &mut Lent<'_>) -> Progress
     ensures same_references { SameReferences lent.old lent.new }
+    ensures same_lengths { SameLengths lent.old lent.new }
     ensures run { (run_leaves result out.new (desk lent.new) ≡ piece_of events input.now out.old (desk lent.old))
         × (result.read ≤ length input.now) × (result.written ≤ length out.new) }
 {

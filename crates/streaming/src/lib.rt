@@ -3,7 +3,7 @@
 #![tactic(auto)]
 
 ghost use Rattle.std.specs.Prelude.{◌≡◌, ◌≤◌, length};
-ghost use Rattle.replaying.specs.Lents.{desk, SameReferences};
+ghost use Rattle.replaying.specs.Lents.{desk, SameReferences, SameLengths};
 ghost use Rattle.streaming.specs.Stages.{begun, wants, is_over, nothing, closes};
 ghost use Rattle.streaming.specs.Fed.{fed_of};
 ghost use Rattle.streaming.specs.Streams.{stream_of, turned};
@@ -110,6 +110,7 @@ pub fn feed(kept: Kept, n: usize, input: &mut [u8]) -> Kept
 // One turn: the next line or the next rows of the listing at the start of the output; where more is wanted, the unread rest is at the start of the input.
 pub fn turn(kept: Kept, input: &mut [u8], out: &mut [u8], lent: &mut Lent<'_>) -> Kept
     ensures same_references { SameReferences lent.old lent.new }
+    ensures same_lengths { SameLengths lent.old lent.new }
     ensures turn { (stream_of result input.new out.new (desk lent.new) ≡ turned (stream_of kept input.old out.old (desk lent.old)))
         × (result.written ≤ length out.new) }
 {

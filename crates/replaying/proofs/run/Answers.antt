@@ -1,7 +1,7 @@
 -- `replaying::run` meets its contract.
 -- Assumes nothing.
 use Rattle.std.proofs.Common.{◌≡◌, ℕ, ◌+◌, ◌-◌, ◌<◌, length, sym, refl, ap, ◌∙◌, arith}
-use Rattle.replaying.specs.Lents.{desk, SameReferences}
+use Rattle.replaying.specs.Lents.{desk, SameReferences, SameLengths}
 use Rattle.replaying.specs.declared.Lent.{Lent}
 use Rattle.replaying.specs.Runs.{following, run_of}
 use Rattle.replaying.proofs.Ways.{asks_within, asks_fits, went, stops}
@@ -19,6 +19,15 @@ same_on p q = record {
   buffer = q.buffer ∙ p.buffer;
 }
 
+-- and their lengths
+lengths_on : {a b c : Lent} → SameLengths a b → SameLengths b c → SameLengths a c
+lengths_on p q = record {
+  journal = q.journal ∙ p.journal;
+  unfinished = q.unfinished ∙ p.unfinished;
+  frames = q.frames ∙ p.frames;
+  buffer = q.buffer ∙ p.buffer;
+}
+
 pub loop-init : goal.loop-init
 loop-init c =
     let all : length c.args.input.now - 0 ≡ length c.args.input.now = omega arith in
@@ -26,6 +35,7 @@ loop-init c =
       comes_to = rw all;
       out_length = refl;
       same_references = record { numbers = refl; counts = refl; journal = refl; unfinished = refl; frames = refl; buffer = refl };
+      same_lengths = record { journal = refl; unfinished = refl; frames = refl; buffer = refl };
       read_within = omega arith;
       written_within = omega arith;
     }
@@ -59,6 +69,7 @@ loop-preserved c =
           some c.wrapping_add_u64-count.ensures.value goes);
       out_length = c.put_row-put.auto.out ∙ i.out_length;
       same_references = same_on i.same_references c.ask-answered.ensures.same_references;
+      same_lengths = lengths_on i.same_lengths c.ask-answered.ensures.same_lengths;
       read_within = asks_within input c.loop.at c.loop.out c.loop.put c.in-Ok.ensures;
       written_within = c.put_row-put.ensures.within;
     }
@@ -75,3 +86,9 @@ returns-in-Err-clause-same_references c = c.loop.invariant.same_references
 
 pub returns-clause-same_references : goal.returns-clause-same_references
 returns-clause-same_references c = c.loop.invariant.same_references
+
+pub returns-in-Err-clause-same_lengths : goal.returns-in-Err-clause-same_lengths
+returns-in-Err-clause-same_lengths c = c.loop.invariant.same_lengths
+
+pub returns-clause-same_lengths : goal.returns-clause-same_lengths
+returns-clause-same_lengths c = c.loop.invariant.same_lengths

@@ -2,15 +2,16 @@
 -- Assumes nothing.
 use Rattle.std.proofs.Common.{◌≡◌, ℕ, ◌-◌, ◌≤◌, List, length}
 use Rattle.replaying.specs.declared.Lent.{Lent}
-use Rattle.replaying.specs.Lents.{desk, SameReferences}
+use Rattle.replaying.specs.Lents.{desk, SameReferences, SameLengths}
 use Rattle.replaying.specs.Runs.{AfterRun, run_of, piece_of}
 use Rattle.replaying.proofs.run.Given as goal
 
--- before a turn: what is still to run comes to what the whole piece comes to, and what is lent is still the same memory
+-- before a turn: what is still to run comes to what the whole piece comes to, and what is lent is still the same memory, of the same length
 pub record Going (whole rest : AfterRun) (input : List ℕ) (at : ℕ) (out₀ out : List ℕ) (put : ℕ) (l₀ l : Lent) : Type 0 where
   pub comes_to : whole ≡ rest
   pub out_length : length out ≡ length out₀
   pub same_references : SameReferences l₀ l
+  pub same_lengths : SameLengths l₀ l
   pub read_within : at ≤ length input
   pub written_within : put ≤ length out
 
