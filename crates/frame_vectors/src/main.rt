@@ -2,6 +2,8 @@
 // A frame that is whole is written again and compared.
 #![tactic(auto)]
 
+ghost use Rattle.std.specs.Prelude.{◌<◌};
+
 use frame::{End, Flaw};
 use framing::Refusal;
 use std::io;
@@ -37,11 +39,13 @@ fn show_line(rt: &(impl Print + AllocGlobal), line: &[u8]) -> io::Result<()> {
 }
 
 // The last three digits of a number. Any byte is a digit here, so `parse`, which refuses some, does not serve.
-fn limit_of(digits: &[u8]) -> usize {
-    digits.iter().fold(
-        0,
-        |n, b| (n % 100 * 10 + usize::from(vectors::digit(*b))) % 1000,
-    )
+fn limit_of(digits: &[u8]) -> usize
+    ensures { result < 1000 }
+{
+    digits
+        .iter()
+        .fold(0, |n, b| n % 100 * 10 + usize::from(vectors::digit(*b)))
+        % 1000
 }
 
 fn show_frame(rt: &impl Print, limit: usize, bytes: &[u8]) -> io::Result<()> {
