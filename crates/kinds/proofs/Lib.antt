@@ -1,5 +1,6 @@
 pub mod Allowed
 pub mod Named
+pub mod Ranges
 pub mod Rows
 pub mod Naming
 pub mod Following

@@ -14,7 +14,7 @@ use Rattle.kinds.specs.declared.Kind.{Kind}
 use Rattle.kinds.specs.declared.Kind.TheVariants.{Header, Patient, Order, Result, Query, Terminator, Comment, Manufacturer}
 use Rattle.kinds.specs.contracts.Kind.{the_type}
 
-kind_at_law : (k : Kind) → kind_at (row_of k) ≡ k
+pub kind_at_law : (k : Kind) → kind_at (row_of k) ≡ k
 kind_at_law Header = refl
 kind_at_law Patient = refl
 kind_at_law Order = refl
@@ -24,7 +24,7 @@ kind_at_law Terminator = refl
 kind_at_law Comment = refl
 kind_at_law Manufacturer = refl
 
-row_lt : (k : Kind) → row_of k < 8
+pub row_lt : (k : Kind) → row_of k < 8
 row_lt Header = lit< tt
 row_lt Patient = lit< tt
 row_lt Order = lit< tt
