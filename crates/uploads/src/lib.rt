@@ -20,7 +20,6 @@ mod storing; // storing.rt: its finding stored
 mod whole; // whole.rt: a whole block
 
 // An event on a strip reader's line: 40, 41, 42, which is also for a line of frames, then its work. No unfinished byte is written.
-#[inline(never)] // a frame of its own: a message that `calls` decides needs none of this one's places
 pub fn event(
     e: Event,
     numbers: &mut [u16; NUMBERS],
@@ -101,7 +100,16 @@ impl Lent<'_> {
                 acting::add(line, i as usize, byte, numbers, frames);
                 answers::nothing()
             }
-            Sight::Judges => whole::end_block(patient, line, i, byte, self),
+            Sight::Judges => {
+                // Lent anew: if `self` itself went on, it would lie in memory for every byte, and be written and read there.
+                let mut lent = Lent {
+                    numbers: &mut *self.numbers,
+                    counts: &mut *self.counts,
+                    journal: &mut *self.journal,
+                    frames: &mut *self.frames,
+                };
+                whole::end_block(patient, line, i, byte, &mut lent)
+            }
         }
     }
 }

@@ -9,6 +9,7 @@ use answers::Answered;
 use line::Line;
 use settings::{BLOCK_LIMIT, Patient};
 
+#[inline(never)] // a frame of its own: neither a byte that is only added nor a message that `calls` decides needs its places
 pub fn end_block(patient: Patient, line: Line, i: u8, byte: u8, lent: &mut Lent<'_>) -> Answered
     requires { Reads lent.old patient line i }
     ensures same_references { SameReferences lent.old lent.new }

@@ -1,5 +1,6 @@
 -- `uploads::Lent::on_byte` meets its contract.
 -- Assumes nothing.
+use Rattle.std.proofs.Common.{rules}
 use mathlib.Core.Path.{refl, sym, ◌∙◌}
 use Rattle.answers.specs.declared.Answer.TheVariants.{Nothing}
 use Rattle.looking.specs.declared.Kind.TheVariants.{Byte}
@@ -33,4 +34,4 @@ returns-in-Adds-clause-ruled c =
 pub returns-in-Judges-clause-ruled : goal.returns-in-Judges-clause-ruled
 returns-in-Judges-clause-ruled c =
     let a = c.args in
-    seen a.self.now.numbers.now a.self.now.counts.now a.self.now.journal.now a.self.now.frames.now a.patient a.line a.i a.byte Judges (sym c.see-sight.ensures ∙ c.in-Judges.is) c.end_block.ensures.ruled
+    search (rules, seen a.self.now.numbers.now a.self.now.counts.now a.self.now.journal.now a.self.now.frames.now a.patient a.line a.i a.byte Judges (sym c.see-sight.ensures ∙ c.in-Judges.is) c.end_block.ensures.ruled)
