@@ -235,7 +235,7 @@ module _ (d : Delimiters) (text : List ℕ) (ends : ends_with_cr text ≡ true) 
         let lt : find (is d.field) text < find (is cr) text = omega (arith, at_one, cr_later) in
         ap type_of (first_field d.field text lt) ∙ h
 
-    number_is : number_in d (before cr text) ≡ number_of (field_at d.field (tail_at text 2))
+    pub number_is : number_in d (before cr text) ≡ number_of (field_at d.field (tail_at text 2))
     number_is =
         ap number_of (known_second d.field (before cr text) k type_is) ∙ ap (λ (f : List ℕ). number_of (before d.field f)) (two_behind (is cr) text cr_later)
         ∙ ap (λ (l : List ℕ). number_of (field_at d.field l)) (sym (rest_part text 2))
