@@ -1,6 +1,6 @@
 -- What a loop that copies or closes up has done after i turns, and what each way out of it says.
 -- Assumes nothing.
-use mathlib.Core.Path.{◌≡◌, sym, ap, ◌∙◌}
+use mathlib.Core.Path.{◌≡◌, refl, sym, ap, ◌∙◌}
 use mathlib.Core.Bool.{Bool, true, false}
 use mathlib.Core.List.{List, ◌++◌, append-nil}
 use Prim.Native.Nat.{ℕ, ◌+◌, ◌-◌, ◌≤◌, ◌<◌}
@@ -56,6 +56,22 @@ module _ (d : List ℕ) (at : ℕ) (s : List ℕ) where
   pub copied_fits : {r : Bool} {d' : List ℕ} → Copied d at s r d' → at + length s ≤ length d → (r ≡ true) × (d' ≡ splice d at s)
   unfolding copied
   copied_fits c h = (c.answer ∙ le-leb (at + length s) (length d) h, c.after ∙ rw (le-leb (at + length s) (length d) h))
+
+-- s was laid over the start of d
+pub laid_start : (d s : List ℕ) {x : List ℕ} → length s ≤ length d → x ≡ s → Copied d 0 s true (x ++ drop (length s) d)
+unfolding splice
+laid_start d s h e =
+    let fits : 0 + length s ≤ length d = omega arith in
+    copied_yes d 0 s fits refl (rw (e, zero-add))
+
+-- the bytes of s from k on were laid over those of d from k on: that copies s where k is 0, since the bytes of d before k stay
+pub laid_from : (d s : List ℕ) (k : ℕ) {x : List ℕ} → length s ≤ length d → k ≡ 0 → x ≡ take (length s - k) (drop k s) → Copied d 0 s true (put_mid k (length s - k) d x)
+laid_from d s k h z e =
+    let all : length s - 0 ≡ length s = omega arith in
+    rw (z, all) (laid_start d s h (rw (z, all) at e ∙ take_all (length s) s (omega arith)))
+
+-- the two ways to lay s over the start of d
+pub ruleset laid = (laid_start, laid_from)
 
 -- the part from `at` on was lent, s was laid over its start, and it is back in its place
 pub laid_back : (d : List ℕ) (at : ℕ) (s m b : List ℕ) → at + length s ≤ length d → m ≡ take (length d - at) (drop at d) → b ≡ splice m 0 s
