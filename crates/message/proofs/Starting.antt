@@ -1,7 +1,7 @@
 -- What the bytes at the start of a text that ends with CR tell of its first record, before the end of that is known.
 -- Assumes nothing.
 use Rattle.std.specs.Prelude.{None, Option, Some}
-use Rattle.std.proofs.Common.{◌≡◌, ℕ, suc, ◌+◌, ◌<◌, ◌≤◌, min, Bool, true, false, cond, not, eqb, List, [], ◌∷◌, length, get_or, take, drop, sym, refl, ap, ◌∙◌, arith, drop_of_length-le, get_or-take, take-take, ne_eqb, eqb-true}
+use Rattle.std.proofs.Common.{◌≡◌, ℕ, suc, ◌+◌, ◌<◌, ◌≤◌, min, Bool, true, false, cond, not, eqb, List, [], ◌∷◌, length, get_or, take, drop, sym, refl, ap, ◌∙◌, arith, drop_of_length-le, get_or-take, take-take, ne_eqb, eq-eqb, eqb-true}
 use native.Mathlib.Decide.{dec_lt}
 use Rattle.memory.specs.Tests.{is, find}
 use Rattle.memory.proofs.Tests.{and_not_right, find_le, find_next, never_both}
@@ -96,6 +96,12 @@ module _ (b : ℕ) (s : List ℕ) where
             let lt : find (is b) s < length s = omega arith in
             never_both (is b (get_or s 0 0)) (rw z at (find_hit (is b) s lt)) h
       ]
+
+  -- and that is what a text says that ends with CR
+  pub type_here : ends_with_cr s ≡ true → {k : Kind} → kind_of (get_or s 0 0) ≡ Some k → (get_or s 0 0 ≡ b → ⊥) → get_or s 1 0 ≡ b → type_of (before b s) ≡ Some k
+  type_here ends {k} named first second =
+      let one = b_second (second_byte s ends k named) (ne_eqb (get_or s 0 0) b first) (eq-eqb (get_or s 1 0) b second) in
+      type_named one ∙ named
 
 -- the first field of the first record
 abbrev pub field_at : ℕ → List ℕ → List ℕ

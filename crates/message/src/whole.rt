@@ -28,6 +28,7 @@ pub fn end_of(classes: &[u8; 256], text: &[u8]) -> usize
 }
 
 // The type that the bytes before the first b name, if they name one.
+#[tactic(auto, using(crate::proofs::Starting::type_here))]
 fn type_at(b: u8, text: &[u8]) -> Option<Kind>
     requires { ends_with_cr text.now ≡ true }
     ensures { result ≡ type_of (before b text.now) }

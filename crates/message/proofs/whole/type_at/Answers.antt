@@ -2,7 +2,7 @@
 -- Assumes nothing.
 use Rattle.std.proofs.Common.{sym, ◌∙◌, eq-eqb, ne_eqb}
 use Rattle.message.proofs.Breaks.{cr_some}
-use Rattle.message.proofs.Starting.{second_byte, type_unknown, type_long, type_named, b_first, b_later, b_second}
+use Rattle.message.proofs.Starting.{second_byte, type_unknown, type_long, b_first, b_later}
 use Rattle.message.proofs.whole.type_at.Goals as goal
 
 pub bounds-text-0 : goal.bounds-text-0
@@ -26,11 +26,3 @@ returns-then-text-b c =
     let a = c.args in
     let second = second_byte a.text.now c.requires c.in_ok-k.k (sym c.kind_of.ensures ∙ c.in_ok-k.was) in
     sym (type_long a.b a.text.now (b_later a.b a.text.now second (ne_eqb _ _ c.if-text-b.true)))
-
-pub returns : goal.returns
-returns c =
-    let a = c.args in
-    let named = sym c.kind_of.ensures ∙ c.in_ok-k.was in
-    let second = second_byte a.text.now c.requires c.in_ok-k.k named in
-    let one = b_second a.b a.text.now second (ne_eqb _ _ c.if-first-b.false) (eq-eqb _ _ c.if-text-b.false) in
-    sym (type_named a.b a.text.now one ∙ named)
