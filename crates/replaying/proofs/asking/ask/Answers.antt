@@ -1,6 +1,6 @@
 -- `replaying::asking::ask` meets its contract.
 -- Assumes nothing.
-use Rattle.std.proofs.Common.{refl}
+use Rattle.std.proofs.Common.{refl, arith}
 use Rattle.replaying.specs.Lents.{desk}
 use Rattle.replaying.proofs.Ways.{asks_event, asks_taking}
 use Rattle.replaying.proofs.asking.ask.Goals as goal
@@ -18,4 +18,4 @@ returns-in-Seconds-clause-asked c =
 pub returns-in-Taking-clause-asked : goal.returns-in-Taking-clause-asked
 returns-in-Taking-clause-asked c =
     let a = c.args in
-    rw c.in-Taking.is (asks_taking (desk a.lent.now) c.in-Taking.line c.in-Taking.size c.min-size.ensures c.take.ensures refl)
+    rw c.in-Taking.is (asks_taking (desk a.lent.now) c.in-Taking.line c.in-Taking.size (omega arith) c.take.ensures refl)
