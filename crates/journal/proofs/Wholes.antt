@@ -3,7 +3,7 @@
 use Rattle.std.proofs.lemmas.Option.{same_Some}
 use Rattle.std.specs.Prelude.{None, Option, Some}
 use Rattle.std.specs.Option.{is_some}
-use Rattle.std.proofs.Common.{◌≡◌, ℕ, zero, suc, ◌-◌, ◌<◌, ◌≤◌, Bool, true, false, not, cond, ◌&&◌, eqb, leb, List, [], ◌∷◌, length, get_or, take, sym, refl, ap, ◌∙◌, true≢false, arith, length-take-le, eq-eqb, eqb-true, le-leb, leb-true}
+use Rattle.std.proofs.Common.{◌≡◌, ℕ, zero, suc, ◌-◌, ◌<◌, ◌≤◌, Bool, true, false, not, cond, ◌&&◌, eqb, leb, List, [], ◌∷◌, length, get_or, take, sym, refl, ap, ◌∙◌, true≢false, arith, length-take-le, eq-eqb, ne_eqb, eqb-true, le-leb, leb-true}
 use native.Mathlib.Decide.{ℕ_discrete}
 use borrow.Author.Tests.{lt-leb}
 use lib.Pointwise.{pointwise}
@@ -53,6 +53,22 @@ every_pair [] (y ∷ v) h = absurd (omega arith)
 every_pair (x ∷ u) [] h = absurd (omega arith)
 every_pair (x ∷ u) (y ∷ v) h =
     ap (λ (b : Bool). eqb x y && b) (every_pair u v (omega arith)) ∙ sym (every_front (length u) (λ k. eqb (get_or (x ∷ u) k 0) (get_or (y ∷ v) k 0)))
+
+-- the same either way round
+swapped_eqb : (a b : ℕ) → eqb a b ≡ eqb b a
+swapped_eqb a b = elim (ℕ_discrete a b) [
+  | yes q ↦ rw q
+  | no n ↦ ne_eqb a b n ∙ sym (ne_eqb b a (λ q. n (sym q)))
+]
+
+swapped_pairs : (u v : List ℕ) → pointwise eqb u v ≡ pointwise eqb v u
+swapped_pairs [] [] = refl
+swapped_pairs [] (y ∷ v) = refl
+swapped_pairs (x ∷ u) [] = refl
+swapped_pairs (x ∷ u) (y ∷ v) = rw (swapped_eqb x y, swapped_pairs u v)
+
+pub either_way : (u v : List ℕ) {b : Bool} → b ≡ not (pointwise eqb v u) → b ≡ not (pointwise eqb u v)
+either_way u v e = e ∙ ap not (swapped_pairs v u)
 
 -- what the code's test of two arrays of all lines says
 not_twice : (b p : Bool) → b ≡ not p → not b ≡ p

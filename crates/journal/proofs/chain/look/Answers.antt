@@ -2,7 +2,7 @@
 -- Assumes nothing.
 use Rattle.std.proofs.Common.{◌≡◌, length, not, sym, ap, ◌∙◌, arith, rules, length-take}
 use Rattle.memory.specs.Sizes.{lines}
-use Rattle.journal.proofs.Wholes.{beyond, unchained, compared, all_pairs}
+use Rattle.journal.proofs.Wholes.{beyond, unchained, compared, all_pairs, either_way}
 use Rattle.journal.proofs.chain.look.Goals as goal
 
 pub returns-then-journal-in_use : goal.returns-then-journal-in_use
@@ -15,14 +15,6 @@ returns-in_err-walked c =
     (unchained a.ledger a.journal.now (omega arith) c.in_err-walked.ensures)
 
 -- the ledger's counts beside the sums, number by number
-pub returns-then-ne : goal.returns-then-ne
-returns-then-ne c =
-    let a = c.args in
-    let s = c.in_ok-walked.ensures in
-    let u : length a.ledger.used ≡ lines = search rules in
-    let v : length c.in_ok-walked.walked.sums ≡ lines = search rules in
-    compared a.ledger a.journal.now a.line _ (omega arith) s _ (sym (ap not c.if-ne.true) ∙ all_pairs _ _ _ u v c.ne.ensures)
-
 pub returns : goal.returns
 returns c =
     let a = c.args in
@@ -31,9 +23,17 @@ returns c =
     let v : length c.in_ok-walked.walked.sums ≡ lines = search rules in
     record {
       es = s.es;
-      is = compared a.ledger a.journal.now a.line _ (omega arith) s _ (sym (ap not c.if-ne.false) ∙ all_pairs _ _ _ u v c.ne.ensures);
+      is = compared a.ledger a.journal.now a.line _ (omega arith) s _ (sym (ap not c.if-ne.false) ∙ all_pairs _ _ c.ne.result u v (search either_way));
       stands = s.stands;
     }
+
+pub returns-then-ne : goal.returns-then-ne
+returns-then-ne c =
+    let a = c.args in
+    let s = c.in_ok-walked.ensures in
+    let u : length a.ledger.used ≡ lines = search rules in
+    let v : length c.in_ok-walked.walked.sums ≡ lines = search rules in
+    compared a.ledger a.journal.now a.line _ (omega arith) s _ (sym (ap not c.if-ne.true) ∙ all_pairs _ _ c.ne.result u v (search either_way))
 
 pub slice_bounds-walk-end : goal.slice_bounds-walk-end
 slice_bounds-walk-end c = rw length-take (omega arith)
